@@ -1,0 +1,50 @@
+-- Document 01, "Numbers that come back", as a table: for each refusal its number, who is given it, and what becomes of the connection.
+use Prim.Native.Nat.{ℕ}
+use mathlib.Core.Bool.{Bool, true, false}
+use Rattle.refusal.specs.declared.Refusal.{Refusal}
+use Rattle.refusal.specs.declared.Refusal.the-variants.{ShortOutput, BadTable, BadSetting, ConnectionOver, BadValue, UnexpectedMessage, HandshakeFailure, IllegalParameter, DecodeError, DecryptError, ProtocolVersion, UnknownPskIdentity}
+
+-- "R numbers go to the host, the others to the client as fatal alerts."
+pub data Receiver : Type 0 where
+  host client : Receiver
+
+-- the column "Connection"
+pub data Effect : Type 0 where
+  unchanged closed noneMade noneInvolved : Effect
+
+pub record Row : Type 0 where
+  pub no : ℕ
+  pub receiver : Receiver
+  pub connection : Effect
+
+-- R n
+abbrev R : ℕ → Effect → Row
+R n e = record { no = n; receiver = host; connection = e }
+
+-- a fatal alert
+abbrev alert : ℕ → Row
+alert n = record { no = n; receiver = client; connection = closed }
+
+abbrev pub row : Refusal → Row
+row ShortOutput = R 1 unchanged
+row BadTable = R 2 unchanged
+row BadSetting = R 3 noneMade
+row ConnectionOver = R 4 unchanged
+row BadValue = R 5 noneInvolved
+row UnexpectedMessage = alert 10
+row HandshakeFailure = alert 40
+row IllegalParameter = alert 47
+row DecodeError = alert 50
+row DecryptError = alert 51
+row ProtocolVersion = alert 70
+row UnknownPskIdentity = alert 115
+
+abbrev pub numberOf : Refusal → ℕ
+numberOf r = row r .no
+
+abbrev pub isClient : Receiver → Bool
+isClient host = false
+isClient client = true
+
+abbrev pub toClient : Refusal → Bool
+toClient r = isClient (row r .receiver)
