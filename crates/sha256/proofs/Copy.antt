@@ -1,0 +1,20 @@
+-- Parts of a list: the part from a place to the end, and what `bytes::copy` into a part of an array leaves in the whole array.
+-- Assumes nothing.
+use mathlib.Core.Path.{_≡_}
+use Prim.Native.Nat.{ℕ, _+_, _-_, _≤_}
+use native.Mathlib.Omega.{arith}
+use mathlib.Core.List.{List, _++_, append-nil}
+use lib.ListN.{length, take, drop, length-drop, drop-of-length-le}
+use lib.Seq.{take-all, take-length}
+use native.Mathlib.Nat.{le-of-eq}
+use borrow.Rule.Slice.PartMut.{midOf, putMid, mid-len, post-is}
+
+pub copied-in : (whole src last : List ℕ) (at end : ℕ) → at + length src ≡ end → end ≤ length whole
+    → last ≡ take (length src) src ++ drop (length src) (midOf at (end - at) whole)
+    → putMid at (end - at) whole last ≡ take at whole ++ (src ++ drop end whole)
+copied-in whole src last at end e h copied =
+    let size : length (midOf at (end - at) whole) ≡ end - at = mid-len at end whole h in
+    rw (copied, post-is at end whole (omega arith), drop-of-length-le (midOf at (end - at) whole) {i = length src} (omega arith), take-length src, append-nil src)
+
+pub part-to-end : (xs : List ℕ) (n : ℕ) → take (length xs - n) (drop n xs) ≡ drop n xs
+part-to-end xs n = take-all (length xs - n) (drop n xs) (le-of-eq (length-drop n xs))

@@ -1,0 +1,6 @@
+pub mod Absorb
+pub mod Copy
+pub mod Finish
+pub mod Padding
+pub mod Parse
+pub mod Schedule

@@ -1,0 +1,41 @@
+-- `sha256::Sha256::filled` meets its contract: the copy into the part of the block behind what it holds.
+-- Assumes nothing.
+use mathlib.Core.Path.{_≡_, refl}
+use Prim.Native.Nat.{_+_, _%_}
+use native.Mathlib.Omega.{arith}
+use lib.ListN.{length}
+use Rattle.sha256.proofs.Copy.{copied-in}
+use borrow.Author.Needs.{needs}
+use Rattle.sha256.proofs.Sha256.filled.Statement.{statement}
+use Rattle.sha256.proofs.Sha256.filled.Tie as tie
+
+add-end : tie.Need-add-end
+add-end c = search needs
+
+sub-copy : tie.Need-sub-copy
+sub-copy c = search needs
+
+part-block-start : tie.Need-part-block-start
+part-block-start c = search needs
+
+part-block-end : tie.Need-part-block-end
+part-block-end c =
+    let start = c .before .before .before in
+    let size : length (start .args .self .block) ≡ 64 = search (needs, start .good) in
+    omega arith
+
+copy-requires : tie.Need-copy-requires
+copy-requires c κs = search needs
+
+returns : tie.Need-returns
+returns c =
+    let start = c .before .before .before .before .before .before in
+    let s = start .args .self in
+    let xs = start .args .«data» .now in
+    let at = s .count % 64 in
+    let size : length (s .block) ≡ 64 = search (needs, start .good) in
+    copied-in (s .block) xs (c .before .copy .last .1 .0) at (at + length xs) refl (omega arith) (c .before .copy .ensures .1)
+
+pub filled-spec : {M : Type 1} → statement M
+filled-spec =
+    tie.close (tie.spec add-end sub-copy part-block-start part-block-end copy-requires returns)

@@ -1,0 +1,54 @@
+-- `sha256::Sha256::finish` meets its contract: past the limit it refuses; else the bytes are the padded value's.
+-- Assumes nothing.
+use mathlib.Core.Path.{_≡_}
+use Prim.Native.Nat.{_≤_}
+use Rattle.refusal.specs.Lent.{gives}
+use Rattle.sha256.specs.Hash.{limit}
+use borrow.Author.Tests.{lt-leb, le-leb}
+use Rattle.refusal.proofs.Laws.{refused}
+use Rattle.refusal.specs.declared.Refusal.the-variants.{BadValue}
+use Rattle.sha256.specs.State.{finished}
+use borrow.Author.Needs.{needs}
+use Rattle.sha256.proofs.Sha256.finish.Statement.{statement}
+use Rattle.sha256.proofs.Sha256.finish.Tie as tie
+
+returns : tie.Need-returns
+unfolding finished
+returns c = rw (lt-leb _ _ (c .if1 .taken)) (refused BadValue _)
+
+padded-requires : tie.Need-padded-requires
+padded-requires c κs = search needs
+
+concatenation-requires : tie.Need-concatenation-requires
+concatenation-requires c κs = search needs
+
+slice-aggregate-put : tie.Need-slice-aggregate-put
+slice-aggregate-put c = search needs
+
+put-requires : tie.Need-put-requires
+put-requires c κs = search needs
+
+same-length : tie.Need-same-length
+same-length c = search needs
+
+returns-2 : tie.Need-returns-2
+unfolding finished
+returns-2 c =
+    let at-concatenation = c .before .before .before .before .before in
+    let at-padded = at-concatenation .before in
+    let within : at-padded .before .before .before .before .args .self .count ≤ limit = at-padded .before .if1 .left in
+    let given : gives (at-concatenation .concatenation .result) ≡ finished (at-padded .before .before .before .before .args .self) =
+    rw (le-leb _ _ within, at-concatenation .concatenation .ensures, at-padded .padded .ensures) in
+    rw given at (c .before .before .put .ensures)
+
+pub finish-spec : {M : Type 1} → statement M
+finish-spec =
+    tie.close
+    (tie.spec
+    returns
+    padded-requires
+    concatenation-requires
+    slice-aggregate-put
+    put-requires
+    same-length
+    returns-2)

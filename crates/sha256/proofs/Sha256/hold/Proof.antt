@@ -1,0 +1,24 @@
+-- `sha256::Sha256::hold` meets its contract: the filled block is that of `absorb-held`.
+-- Assumes nothing.
+use mathlib.Core.Path.{_≡_}
+use lib.ListN.{length}
+use Rattle.sha256.proofs.Absorb.{absorb-held, filled}
+use borrow.Author.Needs.{needs}
+use Rattle.sha256.proofs.Sha256.hold.Statement.{statement}
+use Rattle.sha256.proofs.Sha256.hold.Tie as tie
+
+add-count : tie.Need-add-count
+add-count c = search needs
+
+filled-requires : tie.Need-filled-requires
+filled-requires c κs = search needs
+
+returns : tie.Need-returns
+unfolding filled
+returns c =
+    let start = c .before .before .before .before in
+    let size : length (start .args .self .block) ≡ 64 = search (needs, start .good) in
+    rw (c .filled .ensures, absorb-held (start .args .self) (start .args .«data» .now) (start .pre .0) (start .pre .1) size)
+
+pub hold-spec : {M : Type 1} → statement M
+hold-spec = tie.close (tie.spec add-count filled-requires returns)

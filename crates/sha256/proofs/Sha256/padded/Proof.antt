@@ -1,0 +1,75 @@
+-- `sha256::Sha256::padded` meets its contract: one block or two, by whether the length has room.
+-- Assumes nothing.
+use mathlib.Core.Path.{_≡_}
+use Prim.Native.Nat.{_%_}
+use native.Mathlib.Omega.{arith}
+use lib.ListN.{length, take}
+use lib.Seq.{length-take-le}
+use Rattle.sha256.proofs.Padding.{padded-one, padded-two}
+use borrow.Author.Needs.{needs}
+use Rattle.sha256.proofs.Sha256.padded.Statement.{statement}
+use Rattle.sha256.proofs.Sha256.padded.Tie as tie
+
+held : (c : tie.Start) → length (take (c .args .self .count % 64) (c .args .self .block)) ≡ c .args .self .count % 64
+held c =
+    let size : length (c .args .self .block) ≡ 64 = search needs in
+    length-take-le (c .args .self .count % 64) (c .args .self .block) (omega arith)
+
+marked-requires : tie.Need-marked-requires
+marked-requires c κs = search needs
+
+with-length-requires : tie.Need-with-length-requires
+with-length-requires c κs = search needs
+
+slice-aggregate-next-value : tie.Need-slice-aggregate-next-value
+slice-aggregate-next-value c = search needs
+
+next-value-requires : tie.Need-next-value-requires
+next-value-requires c κs = search needs
+
+returns : tie.Need-returns
+returns c =
+    let at-marked = c .before .before .before .before in
+    let start = at-marked .before .before .before .before in
+    let s = start .args .self in
+    rw (c .next-value .ensures, c .before .before .with-length .ensures, at-marked .marked .ensures, padded-one (s .words) (take (s .count % 64) (s .block)) (s .count) (held start) (omega arith))
+
+slice-aggregate-next-value-2 : tie.Need-slice-aggregate-next-value-2
+slice-aggregate-next-value-2 c = search needs
+
+next-value-requires-2 : tie.Need-next-value-requires-2
+next-value-requires-2 c κs = search needs
+
+with-length-requires-2 : tie.Need-with-length-requires-2
+with-length-requires-2 c κs = search needs
+
+slice-aggregate-next-value-3 : tie.Need-slice-aggregate-next-value-3
+slice-aggregate-next-value-3 c = search needs
+
+next-value-requires-3 : tie.Need-next-value-requires-3
+next-value-requires-3 c κs = search needs
+
+returns-2 : tie.Need-returns-2
+returns-2 c =
+    let at-second = c .before .before in
+    let at-first = at-second .before in
+    let at-marked = at-first .before .before .before in
+    let start = at-marked .before .before .before .before in
+    let s = start .args .self in
+    rw (c .next-value3 .ensures, at-second .with-length2 .ensures, at-first .next-value2 .ensures, at-marked .marked .ensures, padded-two (s .words) (take (s .count % 64) (s .block)) (s .count) (held start) (omega arith))
+
+pub padded-spec : {M : Type 1} → statement M
+padded-spec =
+    tie.close
+    (tie.spec
+    marked-requires
+    with-length-requires
+    slice-aggregate-next-value
+    next-value-requires
+    returns
+    slice-aggregate-next-value-2
+    next-value-requires-2
+    with-length-requires-2
+    slice-aggregate-next-value-3
+    next-value-requires-3
+    returns-2)

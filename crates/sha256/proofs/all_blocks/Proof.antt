@@ -1,0 +1,79 @@
+-- `sha256::all_blocks` meets its contract: the invariant: hashing what is left from the value so far is hashing all from the start.
+-- Assumes nothing.
+use mathlib.Core.Path.{_≡_, refl}
+use Prim.Native.Nat.{_+_, _-_, _≤_, _<_}
+use native.Mathlib.Omega.{arith}
+use lib.ListN.{length, drop, length-drop}
+use Rattle.sha256.specs.Message.{parse}
+use Rattle.sha256.specs.Hash.{hashBlocks}
+use Rattle.sha256.proofs.Parse.{hash-block, parse-none}
+use borrow.Author.Needs.{needs}
+use Rattle.sha256.proofs.all_blocks.Statement.{statement}
+use Rattle.sha256.proofs.all_blocks.Tie as tie
+
+abbrev Inv-loop : tie.InvT-loop
+Inv-loop «data» h₀ at₀ h at = (at ≤ length «data») × (hashBlocks h (parse (drop at «data»)) ≡ hashBlocks h₀ (parse «data»))
+
+abbrev μ-loop : tie.MeasureT-loop
+μ-loop «data» h₀ at₀ h at = length «data» - at
+
+loop-holds : tie.Need-loop-holds Inv-loop μ-loop
+loop-holds c = (search needs, refl)
+
+sub-loop : tie.Need-sub-loop Inv-loop μ-loop
+sub-loop c = search needs
+
+add-next-value : tie.Need-add-next-value Inv-loop μ-loop
+add-next-value c = search needs
+
+sub-next-value : tie.Need-sub-next-value Inv-loop μ-loop
+sub-next-value c = search needs
+
+part-next-value-start : tie.Need-part-next-value-start Inv-loop μ-loop
+part-next-value-start c = search needs
+
+part-next-value-end : tie.Need-part-next-value-end Inv-loop μ-loop
+part-next-value-end c = search needs
+
+next-value-requires : tie.Need-next-value-requires Inv-loop μ-loop
+next-value-requires c κs = search needs
+
+add-at : tie.Need-add-at Inv-loop μ-loop
+add-at c = search needs
+
+loop-less : tie.Need-loop-less Inv-loop μ-loop
+loop-less c = search needs
+
+loop-again : tie.Need-loop-again Inv-loop μ-loop
+loop-again c =
+    let at-loop = c .before .before .before in
+    let m = at-loop .before .before .args .«data» .now in
+    let at = at-loop .loop .at in
+    let size : at + 64 - at ≡ 64 = omega arith in
+    (search needs, rw (c .next-value .ensures, size, hash-block (at-loop .loop .h) m at (omega arith)) (at-loop .loop .inv .1))
+
+returns : tie.Need-returns Inv-loop μ-loop
+unfolding hashBlocks
+returns c =
+    let at-loop = c .before in
+    let m = at-loop .before .before .args .«data» .now in
+    let few : length (drop (at-loop .loop .at) m) < 64 = rw (length-drop (at-loop .loop .at) m) (omega arith) in
+    rw (parse-none (drop (at-loop .loop .at) m) few) at (at-loop .loop .inv .1)
+
+pub all-blocks-spec : {M : Type 1} → statement M
+all-blocks-spec =
+    tie.close
+    (tie.spec
+    Inv-loop
+    μ-loop
+    loop-holds
+    sub-loop
+    add-next-value
+    sub-next-value
+    part-next-value-start
+    part-next-value-end
+    next-value-requires
+    add-at
+    loop-less
+    loop-again
+    returns)

@@ -1,0 +1,5 @@
+pub mod Functions
+pub mod Constants
+pub mod Message
+pub mod Hash
+pub mod State
