@@ -1,16 +1,17 @@
 -- The laws of lent memory: how a writer shows its `Answers`, and what a caller may conclude from an answer.
 -- Assumes nothing.
-use mathlib.Core.Path.{_≡_, refl}
+use mathlib.Core.Path.{_≡_, refl, _∙_}
 use Prim.Native.Nat.{ℕ, _≤_, _<_}
 use native.Mathlib.Omega.{arith}
 use native.Mathlib.Decide.{decLe}
 use mathlib.Core.Logic.{_↔_}
-use mathlib.Core.List.{List, _++_}
-use lib.ListN.{length, drop, length-append, length-drop}
+use mathlib.Core.List.{List, _++_, append-nil}
+use lib.ListN.{length, drop, length-append, length-drop, drop-of-length-le}
 use lib.Seq.{drop-append-seam}
 use borrow.Author.Tests.{le-leb, lt-leb}
 use Rattle.refusal.specs.declared.Refusal.{Refusal}
 use Rattle.refusal.specs.declared.Refusal.the-variants.{ShortOutput}
+use Rattle.refusal.specs.declared.Written.{Written}
 use Rattle.refusal.specs.declared.Written.the-variants.{Wrote, Refused}
 use Rattle.refusal.specs.Lent.{Outcome, gives, refuses, within, answer, after, Answers}
 
@@ -26,6 +27,14 @@ pub refused : (r : Refusal) (out : List ℕ) → Answers (refuses r) out (Refuse
 refused r out = record { told = refl; left = refl }
 
 -- ---- for a caller
+
+-- an answer that has room stands at the front, and the rest is as it was
+pub front : {bytes out out' : List ℕ} {said : Written} → Answers (gives bytes) out said out' → length bytes ≤ length out → out' ≡ bytes ++ drop (length bytes) out
+front a h = a .left ∙ simp (le-leb _ _ h)
+
+-- an answer as long as the memory is all of it
+pub whole : {bytes out out' : List ℕ} {said : Written} → Answers (gives bytes) out said out' → length bytes ≡ length out → out' ≡ bytes
+whole {bytes} {out} a e = front a (omega arith) ∙ rw (drop-of-length-le out {i = length bytes} (omega arith), append-nil bytes)
 
 -- a refusal leaves the memory as it was
 pub refusal-keeps : (o : Outcome) (out : List ℕ) (r : Refusal) → answer o ≡ Refused r → after o out ≡ out

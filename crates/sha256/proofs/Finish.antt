@@ -81,3 +81,16 @@ past-limit m h = rw (absorb-past fresh m (omega arith) (omega arith), lt-leb (le
 
 pub finish-absorbed : (m : List ℕ) → finished (absorb fresh m) ≡ sha256 m
 finish-absorbed m = elim (decLe (length m) limit) [ yes h ↦ within-limit m h | no h ↦ past-limit m (omega arith) ]
+
+-- ---- for the layers above
+
+pub length-digest : (m : List ℕ) → length (digest m) ≡ 32
+unfolding digest concatenated
+length-digest m = refl
+
+pub sha256-within : (m : List ℕ) → length m ≤ limit → sha256 m ≡ gives (digest m)
+unfolding sha256
+sha256-within m h = rw (le-leb (length m) limit h)
+
+pub finished-within : (s : Sha256) (m : List ℕ) → s ≡ absorb fresh m → length m ≤ limit → finished s ≡ gives (digest m)
+finished-within s m e h = rw e (finish-absorbed m ∙ sha256-within m h)

@@ -1,5 +1,4 @@
 pub mod Absorb
-pub mod Copy
 pub mod Finish
 pub mod Padding
 pub mod Parse

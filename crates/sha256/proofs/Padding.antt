@@ -21,7 +21,7 @@ zeros-least n z h = omega arith
 
 -- ---- the block with its byte 80
 
-drop-replicate : (n k a : ℕ) → drop k (replicate n a) ≡ replicate (n - k) a
+pub drop-replicate : (n k a : ℕ) → drop k (replicate n a) ≡ replicate (n - k) a
 drop-replicate n zero a = let same : n - 0 ≡ n = omega arith in rw same
 drop-replicate zero (suc k) a = let same : 0 - suc k ≡ 0 = omega arith in rw same
 drop-replicate (suc n) (suc k) a = let same : suc n - suc k ≡ n - k = omega arith in rw same (drop-replicate n k a)

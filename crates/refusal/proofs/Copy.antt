@@ -1,11 +1,11 @@
 -- Parts of a list: the part from a place to the end, and what `bytes::copy` into a part of an array leaves in the whole array.
 -- Assumes nothing.
-use mathlib.Core.Path.{_≡_}
+use mathlib.Core.Path.{_≡_, refl}
 use Prim.Native.Nat.{ℕ, _+_, _-_, _≤_}
 use native.Mathlib.Omega.{arith}
-use mathlib.Core.List.{List, _++_, append-nil}
-use lib.ListN.{length, take, drop, length-drop, drop-of-length-le}
-use lib.Seq.{take-all, take-length}
+use mathlib.Core.List.{List, _++_, append-nil, append-assoc}
+use lib.ListN.{length, take, drop, length-append, length-drop, drop-of-length-le}
+use lib.Seq.{take-all, take-at, take-length, length-take-le}
 use native.Mathlib.Nat.{le-of-eq}
 use borrow.Rule.Slice.PartMut.{midOf, putMid, mid-len, post-is}
 
@@ -18,3 +18,12 @@ copied-in whole src last at end e h copied =
 
 pub part-to-end : (xs : List ℕ) (n : ℕ) → take (length xs - n) (drop n xs) ≡ drop n xs
 part-to-end xs n = take-all (length xs - n) (drop n xs) (le-of-eq (length-drop n xs))
+
+-- a copy behind a known front makes the front longer by what was copied
+pub copied-behind : (whole src last : List ℕ) (at : ℕ) → at + length src ≤ length whole
+    → last ≡ take (length src) src ++ drop (length src) (midOf at (at + length src - at) whole)
+    → take (at + length src) (putMid at (at + length src - at) whole last) ≡ take at whole ++ src
+copied-behind whole src last at h copied =
+    let size : length (take at whole ++ src) ≡ at + length src = rw (length-append (take at whole) src, length-take-le at whole (omega arith)) in
+    rw (copied-in whole src last at (at + length src) refl h copied, ← append-assoc (take at whole) src (drop (at + length src) whole))
+    (take-at (take at whole ++ src) (drop (at + length src) whole) (at + length src) size)

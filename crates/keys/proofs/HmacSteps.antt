@@ -1,0 +1,82 @@
+-- HMAC in its steps: the key's block, the padded block byte by byte, and the two digests.
+-- Assumes nothing.
+use mathlib.Core.Path.{_≡_, sym, _∙_}
+use Prim.Native.Nat.{ℕ, _+_, _-_, _≤_, _<_}
+use native.Mathlib.Numerals.{add-one}
+use native.Mathlib.Omega.{arith}
+use mathlib.Core.List.{List, [], _∷_, _++_, map-append}
+use lib.ListN.{length, take, drop, getD, set, replicate, length-append, length-map}
+use lib.Seq.{take-length, take-suc, take-suc-set}
+use lib.Bits.{bitXor}
+use borrow.Author.Tests.{le-leb, lt-leb}
+use lib.Dec.{leb}
+use mathlib.Core.Bool.{and-false}
+use Rattle.refusal.specs.Lent.{Answers, gives, refuses}
+use Rattle.refusal.specs.declared.Refusal.the-variants.{BadValue}
+use Rattle.refusal.specs.declared.Written.{Written}
+use Rattle.refusal.proofs.Laws.{whole}
+use Rattle.sha256.specs.declared.Sha256.{Sha256}
+use Rattle.sha256.specs.Hash.{digest, limit}
+use Rattle.sha256.specs.State.{absorb, fresh, finished}
+use Rattle.sha256.proofs.Absorb.{absorb-append}
+use Rattle.sha256.proofs.Finish.{length-digest, finished-within}
+use Rattle.sha256.proofs.Padding.{drop-replicate}
+use Rattle.keys.specs.Hmac.{zeroPadded, keyBlock, ipad, opad, xored, keyed, mac, hmac}
+
+-- a key that fits a block, copied over zeros
+pub short-key : (key block : List ℕ) → length key ≤ 64 → block ≡ take (length key) key ++ drop (length key) (replicate 64 0) → block ≡ keyBlock key
+unfolding keyBlock zeroPadded
+short-key key block h e = rw (e, take-length key, drop-replicate 64 (length key) 0, le-leb (length key) 64 h)
+
+-- a longer one, its digest written over zeros
+pub long-key : (key block : List ℕ) → 64 < length key → block ≡ digest key ++ drop (length (digest key)) (replicate 64 0) → block ≡ keyBlock key
+unfolding keyBlock zeroPadded
+long-key key block h e = rw (e, drop-replicate 64 (length (digest key)) 0, lt-leb (length key) 64 h)
+
+-- one byte more of a padded block
+pub next-xored : (block padded : List ℕ) (i pad : ℕ) → i < length block → i < length padded → take i padded ≡ xored (take i block) pad
+    → take (i + 1) (set padded i (bitXor (getD block i 0) pad)) ≡ xored (take (i + 1) block) pad
+next-xored block padded i pad h k e =
+    rw (add-one i, take-suc-set padded i (bitXor (getD block i 0) pad) k, e, take-suc block i 0 h, map-append (λ (byte : ℕ). bitXor byte pad) (take i block) (getD block i 0 ∷ []))
+
+-- a finished hash wrote the digest of what it absorbed
+pub digest-of : (s : Sha256) (m : List ℕ) {out out' : List ℕ} {said : Written} → s ≡ absorb fresh m → length m ≤ limit → length out ≡ 32
+    → Answers (finished s) out said out' → out' ≡ digest m
+digest-of s m e h l answered = whole (rw (finished-within s m e h) at answered) (length-digest m ∙ rw l)
+
+length-xored : (block : List ℕ) (pad : ℕ) → length (xored block pad) ≡ length block
+length-xored block pad = length-map block (λ (byte : ℕ). bitXor byte pad)
+
+-- the two digests of HMAC, one after the other
+pub two-digests : (block text inner value : List ℕ) (s outer : Sha256) → length block ≡ 64 → length text ≤ limit - 64
+    → s ≡ absorb fresh (xored block ipad ++ text)
+    → ((m : List ℕ) → s ≡ absorb fresh m → length m ≤ limit → inner ≡ digest m)
+    → outer ≡ absorb (absorb fresh (xored block opad)) inner
+    → ((m : List ℕ) → outer ≡ absorb fresh m → length m ≤ limit → value ≡ digest m)
+    → value ≡ keyed block text
+unfolding keyed
+two-digests block text inner value s outer l h es first eo second =
+    let size : length (xored block ipad ++ text) ≤ limit = rw (length-append (xored block ipad) text, length-xored block ipad) (omega arith) in
+    let made : inner ≡ digest (xored block ipad ++ text) = first (xored block ipad ++ text) es size in
+    let all : outer ≡ absorb fresh (xored block opad ++ inner) = eo ∙ sym (absorb-append fresh (xored block opad) inner) in
+    let few : length (xored block opad ++ inner) ≤ limit =
+    rw (length-append (xored block opad) inner, length-xored block opad, made, length-digest (xored block ipad ++ text)) (omega arith) in
+    second (xored block opad ++ inner) all few ∙ rw made
+
+-- the block and then a message in three parts
+pub four-parts : (block a b c : List ℕ) → absorb (absorb (absorb (absorb fresh block) a) b) c ≡ absorb fresh (block ++ (a ++ (b ++ c)))
+four-parts block a b c = simp absorb-append
+
+-- ---- the tests
+
+pub hmac-within : (key text : List ℕ) → length text ≤ limit - 64 → length key ≤ limit → hmac key text ≡ gives (mac key text)
+unfolding hmac
+hmac-within key text h k = rw (le-leb (length text) (limit - 64) h, le-leb (length key) limit k)
+
+pub long-message-refused : (key text : List ℕ) → limit - 64 < length text → hmac key text ≡ refuses BadValue
+unfolding hmac
+long-message-refused key text h = rw (lt-leb (length text) (limit - 64) h)
+
+pub long-key-refused : (key text : List ℕ) → limit < length key → hmac key text ≡ refuses BadValue
+unfolding hmac
+long-key-refused key text h = rw (lt-leb (length key) limit h, and-false (leb (length text) (limit - 64)))

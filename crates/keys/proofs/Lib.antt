@@ -1,0 +1,4 @@
+pub mod HmacSteps
+pub mod PremasterParts
+pub mod PrfSteps
+pub mod Worked

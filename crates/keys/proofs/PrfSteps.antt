@@ -1,0 +1,68 @@
+-- The PRF in its steps: the label's size, A(i) one by one, and the output part by part.
+-- Assumes nothing.
+use mathlib.Core.Path.{_≡_}
+use Prim.Native.Nat.{ℕ, _+_, _-_, _*_, _/_, _≤_, _<_}
+use native.Mathlib.Numerals.{add-one}
+use native.Mathlib.Omega.{arith}
+use mathlib.Core.List.{List, _++_}
+use lib.ListN.{length, take, length-append}
+use lib.Seq.{take-take}
+use mathlib.Core.Bool.{_&&_, and-false}
+use lib.Dec.{leb}
+use borrow.Author.Tests.{le-leb, lt-leb}
+use Rattle.refusal.specs.Lent.{gives, refuses}
+use Rattle.refusal.specs.declared.Refusal.the-variants.{BadValue}
+use Rattle.sha256.specs.Hash.{limit}
+use Rattle.keys.specs.declared.Label.{Label}
+use Rattle.keys.specs.declared.Label.the-variants.{MasterSecret, KeyExpansion, ClientFinished, ServerFinished}
+use Rattle.keys.specs.Hmac.{mac}
+use Rattle.keys.specs.Prf.{A, P, expanded, prf, text}
+
+label-size : (label : Label) → length (text label) ≤ 15
+label-size MasterSecret = omega arith
+label-size KeyExpansion = omega arith
+label-size ClientFinished = omega arith
+label-size ServerFinished = omega arith
+
+-- what is hashed for the PRF is within HMAC's limit
+pub labelled-size : (front : List ℕ) (label : Label) (seed : List ℕ) → length front ≤ 32 → length seed ≤ 65536
+    → length (front ++ (text label ++ seed)) ≤ limit - 64
+labelled-size front label seed h k =
+    let few : length (text label) ≤ 15 = label-size label in
+    rw (length-append front (text label ++ seed), length-append (text label) seed) (omega arith)
+
+-- one part more of the output
+pub next-part : (secret seed buffer next part : List ℕ) (i : ℕ) → take (32 * i) buffer ≡ P secret seed i
+    → part ≡ mac secret (A secret seed (i + 1) ++ seed) → take (32 * i + 32) next ≡ take (32 * i) buffer ++ part
+    → take (32 * (i + 1)) next ≡ P secret seed (i + 1)
+unfolding P
+next-part secret seed buffer next part i e made put =
+    let same : 32 * (i + 1) ≡ 32 * i + 32 = omega arith in
+    rw (same, put, e, made, add-one i)
+
+-- when there is enough, what is too much is left out
+pub enough : (secret seed buffer : List ℕ) (i n : ℕ) → n ≤ 32 * i → 32 * i < n + 32 → take (32 * i) buffer ≡ P secret seed i
+    → take n buffer ≡ expanded secret seed n
+unfolding expanded
+enough secret seed buffer i n h k e =
+    let parts : (n + 31) / 32 ≡ i = omega arith in
+    rw (parts, ← e, take-take n (32 * i) buffer h)
+
+-- ---- the tests
+
+pub prf-within : (secret : List ℕ) (label : Label) (seed : List ℕ) (n : ℕ) → length secret ≤ 65536 → length seed ≤ 65536 → n ≤ 256
+    → prf secret label seed n ≡ gives (expanded secret (text label ++ seed) n)
+unfolding prf
+prf-within secret label seed n h k l = rw (le-leb (length secret) 65536 h, le-leb (length seed) 65536 k, le-leb n 256 l)
+
+pub long-secret-refused : (secret : List ℕ) (label : Label) (seed : List ℕ) (n : ℕ) → 65536 < length secret → prf secret label seed n ≡ refuses BadValue
+unfolding prf
+long-secret-refused secret label seed n h = rw (lt-leb (length secret) 65536 h)
+
+pub long-seed-refused : (secret : List ℕ) (label : Label) (seed : List ℕ) (n : ℕ) → 65536 < length seed → prf secret label seed n ≡ refuses BadValue
+unfolding prf
+long-seed-refused secret label seed n h = rw (lt-leb (length seed) 65536 h, and-false (leb (length secret) 65536))
+
+pub long-output-refused : (secret : List ℕ) (label : Label) (seed : List ℕ) (n : ℕ) → 256 < n → prf secret label seed n ≡ refuses BadValue
+unfolding prf
+long-output-refused secret label seed n h = rw (lt-leb n 256 h, and-false (leb (length secret) 65536 && leb (length seed) 65536))

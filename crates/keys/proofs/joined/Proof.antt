@@ -1,0 +1,24 @@
+-- `keys::joined` meets its contract: two copies, the second behind the first.
+-- Assumes nothing.
+use mathlib.Core.Path.{_≡_, _∙_}
+use lib.ListN.{length}
+use borrow.Author.Needs.{needs}
+use Rattle.keys.proofs.joined.Statement.{statement}
+use Rattle.keys.proofs.joined.Tie as tie
+
+append-requires : tie.Need-append-requires
+append-requires c κs = search needs
+
+append-requires-2 : tie.Need-append-requires-2
+append-requires-2 c κs = search needs
+
+returns : tie.Need-returns
+returns c =
+    let args = c .before .before .before .before .args in
+    let first = c .before .append .ensures in
+    let one : length (args .first .now) ≡ 32 = c .before .before .before .before .pre .0 in
+    let two : length (args .second .now) ≡ 32 = c .before .before .before .before .pre .1 in
+    (rw two at (c .append2 .ensures)) ∙ rw (rw one at first)
+
+pub joined-spec : {M : Type 1} → statement M
+joined-spec = tie.close (tie.spec append-requires append-requires-2 returns)

@@ -1,0 +1,75 @@
+-- `keys::mac::begin` meets its contract: the invariant: the first i bytes are XORed.
+-- Assumes nothing.
+use mathlib.Core.Path.{_≡_, sym, _∙_}
+use Prim.Native.Nat.{_≤_, _-_}
+use native.Mathlib.Omega.{arith}
+use lib.ListN.{length, take}
+use lib.Seq.{take-all}
+use Rattle.keys.specs.Hmac.{xored}
+use Rattle.keys.proofs.HmacSteps.{next-xored}
+use borrow.Author.Needs.{needs}
+use Rattle.keys.proofs.mac.begin.Statement.{statement}
+use Rattle.keys.proofs.mac.begin.Tie as tie
+
+abbrev Inv-loop : tie.InvT-loop
+Inv-loop pad block padded₀ i₀ padded i = (i ≤ 64) × (length padded ≡ 64) × (length block ≡ 64) × (take i padded ≡ xored (take i block) pad)
+
+abbrev μ-loop : tie.MeasureT-loop
+μ-loop pad block padded₀ i₀ padded i = 64 - i
+
+loop-holds : tie.Need-loop-holds Inv-loop μ-loop
+loop-holds c = search needs
+
+array-read-padded : tie.Need-array-read-padded Inv-loop μ-loop
+array-read-padded c = search needs
+
+array-write-padded : tie.Need-array-write-padded Inv-loop μ-loop
+array-write-padded c = search needs
+
+add-i : tie.Need-add-i Inv-loop μ-loop
+add-i c = search needs
+
+loop-less : tie.Need-loop-less Inv-loop μ-loop
+loop-less c = search needs
+
+loop-again : tie.Need-loop-again Inv-loop μ-loop
+loop-again c =
+    let at-loop = c .before in
+    let args = at-loop .before .args in
+    (search needs, search needs, search needs, next-xored (args .t1) (at-loop .loop .padded) (at-loop .loop .i) (args .pad) (omega arith) (omega arith) (at-loop .loop .inv .3))
+
+new-requires : tie.Need-new-requires Inv-loop μ-loop
+new-requires c κs = search needs
+
+slice-aggregate-update : tie.Need-slice-aggregate-update Inv-loop μ-loop
+slice-aggregate-update c = search needs
+
+update-requires : tie.Need-update-requires Inv-loop μ-loop
+update-requires c κs = search needs
+
+returns : tie.Need-returns Inv-loop μ-loop
+returns c =
+    let at-loop = c .before .before .before .before in
+    let block = at-loop .before .args .t1 in
+    let padded = at-loop .loop .padded in
+    let done : at-loop .loop .i ≡ 64 = omega arith in
+    let whole : padded ≡ xored block (at-loop .before .args .pad) =
+    sym (take-all 64 padded (omega arith)) ∙ (rw (done, take-all 64 block (omega arith)) at (at-loop .loop .inv .3)) in
+    rw (c .update .ensures, c .before .before .new .ensures, whole)
+
+pub begin-spec : {M : Type 1} → statement M
+begin-spec =
+    tie.close
+    (tie.spec
+    Inv-loop
+    μ-loop
+    loop-holds
+    array-read-padded
+    array-write-padded
+    add-i
+    loop-less
+    loop-again
+    new-requires
+    slice-aggregate-update
+    update-requires
+    returns)

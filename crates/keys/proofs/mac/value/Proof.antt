@@ -1,0 +1,34 @@
+-- `keys::mac::value` meets its contract: the three steps of HMAC.
+-- Assumes nothing.
+use mathlib.Core.Path.{sym, _∙_}
+use Rattle.sha256.specs.State.{fresh}
+use Rattle.sha256.proofs.Absorb.{absorb-append}
+use Rattle.keys.specs.Hmac.{xored, mac, ipad}
+use borrow.Author.Needs.{needs}
+use Rattle.keys.proofs.mac.value.Statement.{statement}
+use Rattle.keys.proofs.mac.value.Tie as tie
+
+block-of-requires : tie.Need-block-of-requires
+block-of-requires c κs = search needs
+
+begin-requires : tie.Need-begin-requires
+begin-requires c κs = search needs
+
+update-requires : tie.Need-update-requires
+update-requires c κs = search needs
+
+end-requires : tie.Need-end-requires
+end-requires c κs = search needs
+
+returns : tie.Need-returns
+unfolding mac
+returns c =
+    let at-begin = c .before .before in
+    let at-block = at-begin .before in
+    let message = at-block .before .before .before .args .message .now in
+    c .end .ensures message (c .before .update .ensures ∙ rw (at-begin .begin .ensures) (sym (absorb-append fresh (xored (at-block .block-of .result) ipad) message))) (at-block .before .before .before .pre .1)
+    ∙ rw (at-block .block-of .ensures)
+
+pub value-spec : {M : Type 1} → statement M
+value-spec =
+    tie.close (tie.spec block-of-requires begin-requires update-requires end-requires returns)

@@ -1,0 +1,58 @@
+-- `keys::p_sha256::labelled` meets its contract: HMAC with the message absorbed in three parts.
+-- Assumes nothing.
+use mathlib.Core.Path.{_≡_, _∙_}
+use mathlib.Core.List.{_++_}
+use Rattle.sha256.specs.State.{absorb, fresh}
+use Rattle.keys.specs.Hmac.{xored, mac, ipad}
+use Rattle.keys.specs.Prf.{text}
+use Rattle.keys.proofs.HmacSteps.{four-parts}
+use Rattle.keys.proofs.PrfSteps.{labelled-size}
+use borrow.Author.Needs.{needs}
+use Rattle.keys.proofs.p_sha256.labelled.Statement.{statement}
+use Rattle.keys.proofs.p_sha256.labelled.Tie as tie
+
+block-of-requires : tie.Need-block-of-requires
+block-of-requires c κs = search needs
+
+begin-requires : tie.Need-begin-requires
+begin-requires c κs = search needs
+
+update-requires : tie.Need-update-requires
+update-requires c κs = search needs
+
+with-label-requires : tie.Need-with-label-requires
+with-label-requires c κs = search needs
+
+update-requires-2 : tie.Need-update-requires-2
+update-requires-2 c κs = search needs
+
+end-requires : tie.Need-end-requires
+end-requires c κs = search needs
+
+returns : tie.Need-returns
+unfolding mac
+returns c =
+    let at-label = c .before .before in
+    let at-update = at-label .before in
+    let at-begin = at-update .before in
+    let at-block = at-begin .before in
+    let start = at-block .before .before .before .before in
+    let front = start .args .front .now in
+    let rest = text (start .args .label) ++ start .args .seed .now in
+    let absorbed : c .before .update2 .result ≡ absorb fresh (xored (at-block .block-of .result) ipad ++ (front ++ rest)) =
+    c .before .update2 .ensures
+    ∙ rw (at-label .with-label .ensures, at-update .update .ensures, at-begin .begin .ensures)
+    (four-parts (xored (at-block .block-of .result) ipad) front (text (start .args .label)) (start .args .seed .now)) in
+    c .end .ensures (front ++ rest) absorbed (labelled-size front (start .args .label) (start .args .seed .now) (start .pre .1 .0) (start .pre .1 .1)) ∙ rw (at-block .block-of .ensures)
+
+pub labelled-spec : {M : Type 1} → statement M
+labelled-spec =
+    tie.close
+    (tie.spec
+    block-of-requires
+    begin-requires
+    update-requires
+    with-label-requires
+    update-requires-2
+    end-requires
+    returns)

@@ -1,0 +1,72 @@
+-- `keys::premaster` meets its contract: the two tests, and then the bytes.
+-- Assumes nothing.
+use mathlib.Core.Path.{_≡_, sym}
+use native.Mathlib.Omega.{arith}
+use mathlib.Core.Bool.{and-false}
+use lib.ListN.{length}
+use lib.Seq.{length-take-le}
+use borrow.Author.Tests.{le-leb, lt-leb}
+use Rattle.refusal.specs.declared.Refusal.the-variants.{BadValue}
+use Rattle.refusal.proofs.Laws.{refused}
+use Rattle.keys.specs.Secrets.{premaster}
+use borrow.Author.Needs.{needs}
+use Rattle.keys.proofs.premaster.Statement.{statement}
+use Rattle.keys.proofs.premaster.Tie as tie
+
+returns : tie.Need-returns
+unfolding premaster
+returns c =
+    let args = c .before .before .before .args in
+    rw (lt-leb 1 (length (args .psk .now)) (c .if1 .taken)) (refused BadValue (args .out .now))
+
+returns-2 : tie.Need-returns-2
+unfolding premaster
+returns-2 c =
+    let args = c .before .before .before .before .args in
+    rw (lt-leb (length (args .psk .now)) 64 (c .if2 .taken), and-false) (refused BadValue (args .out .now))
+
+premaster-bytes-requires : tie.Need-premaster-bytes-requires
+premaster-bytes-requires c κs = search needs
+
+mul-bytes : tie.Need-mul-bytes
+mul-bytes c = search needs
+
+add-bytes : tie.Need-add-bytes
+add-bytes c = search needs
+
+array-share-prefix-bytes : tie.Need-array-share-prefix-bytes
+array-share-prefix-bytes c = search needs
+
+slice-aggregate-put : tie.Need-slice-aggregate-put
+slice-aggregate-put c =
+    let size : length (c .before .premaster-bytes .result) ≡ 256 = search (needs, c .before .premaster-bytes .ok) in
+    sym (length-take-le _ _ (omega arith))
+
+put-requires : tie.Need-put-requires
+put-requires c κs = search needs
+
+same-length : tie.Need-same-length
+same-length c = search needs
+
+returns-3 : tie.Need-returns-3
+unfolding premaster
+returns-3 c =
+    let at-bytes = c .before .before .before .before .before in
+    let tests = at-bytes .before in
+    let args = tests .before .before .before .before .args in
+    rw (le-leb 1 (length (args .psk .now)) (tests .before .if1 .left), le-leb (length (args .psk .now)) 64 (tests .if2 .left)) (rw (at-bytes .premaster-bytes .ensures) at (c .before .before .put .ensures))
+
+pub premaster-spec : {M : Type 1} → statement M
+premaster-spec =
+    tie.close
+    (tie.spec
+    returns
+    returns-2
+    premaster-bytes-requires
+    mul-bytes
+    add-bytes
+    array-share-prefix-bytes
+    slice-aggregate-put
+    put-requires
+    same-length
+    returns-3)

@@ -1,0 +1,3 @@
+pub mod Hmac
+pub mod Prf
+pub mod Secrets
