@@ -4,10 +4,9 @@ use super::Words;
 ghost use mathlib.Core.Path.{_≡_};
 ghost use Prim.Native.Nat.{_+_, _<_};
 ghost use Rattle.sha256.specs.declared.Words.{Words};
-ghost use lib.ListN.{length, take, getD};
+ghost use lib.ListN.{length, take};
 ghost use Rattle.sha256.specs.Functions.{_⊞_, Ch, Maj, Σ₀, Σ₁, σ₀, σ₁};
 ghost use Rattle.sha256.specs.Message.{words};
-ghost use Rattle.sha256.specs.Constants.{K};
 ghost use Rattle.sha256.specs.Hash.{schedule, round, rounds, added, compress};
 
 // Section 4.2.2.
@@ -173,36 +172,29 @@ fn one_round(v: Words, k: u32, w: u32) -> Words
     }
 }
 
-// The round for one t.
-fn step(v: Words, w: &[u32], t: usize) -> Words
-    requires { ⌜ t < 64 ⌝ }
-    requires { ⌜ length (now w) ≡ 64 ⌝ }
-    ensures { λ r. ⌜ r ≡ round (getD K t 0) (getD (now (w .entry)) t 0) v ⌝ }
+// Eight rounds in a row, after which each working variable is in its own place again, so that the loop
+// below moves none. The calls stand here one by one so that the compiler takes each round in.
+fn eight_rounds(v: Words, w: &[u32; 64], t: usize) -> Words
+    requires { ⌜ t < 57 ⌝ }
+    ensures { λ r. ⌜ ((s : Words) → v ≡ rounds t (now (w .entry)) s → r ≡ rounds (t + 8) (now (w .entry)) s) ⌝ }
 {
-    one_round(v, K[t], w[t])
+    let v1 = one_round(v, K[t], w[t]);
+    let v2 = one_round(v1, K[t + 1], w[t + 1]);
+    let v3 = one_round(v2, K[t + 2], w[t + 2]);
+    let v4 = one_round(v3, K[t + 3], w[t + 3]);
+    let v5 = one_round(v4, K[t + 4], w[t + 4]);
+    let v6 = one_round(v5, K[t + 5], w[t + 5]);
+    let v7 = one_round(v6, K[t + 6], w[t + 6]);
+    one_round(v7, K[t + 7], w[t + 7])
 }
 
-// Four rounds in a row, so that a turn of the loop below moves no variable from place to place.
-fn four_rounds(v: Words, w: &[u32], t: usize) -> Words
-    requires { ⌜ t < 61 ⌝ }
-    requires { ⌜ length (now w) ≡ 64 ⌝ }
-    ensures { λ r. ⌜ ((s : Words) → v ≡ rounds t (now (w .entry)) s → r ≡ rounds (t + 4) (now (w .entry)) s) ⌝ }
-{
-    let v1 = step(v, w, t);
-    let v2 = step(v1, w, t + 1);
-    let v3 = step(v2, w, t + 2);
-    step(v3, w, t + 3)
-}
-
-fn all_rounds(start: Words, w: &[u32]) -> Words
-    requires { ⌜ length (now w) ≡ 64 ⌝ }
+fn all_rounds(start: Words, w: &[u32; 64]) -> Words
     ensures { λ r. ⌜ r ≡ rounds 64 (now (w .entry)) start ⌝ }
 {
     let mut v = start;
     let mut t: usize = 0;
     while t < 57 {
-        let half = four_rounds(v, w, t);
-        v = four_rounds(half, w, t + 4);
+        v = eight_rounds(v, w, t);
         t += 8;
     }
     v

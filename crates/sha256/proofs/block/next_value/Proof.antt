@@ -17,9 +17,6 @@ slice-aggregate-extend c = search needs
 extend-requires : tie.Need-extend-requires
 extend-requires c κs = search needs
 
-slice-aggregate-all-rounds : tie.Need-slice-aggregate-all-rounds
-slice-aggregate-all-rounds c = search needs
-
 all-rounds-requires : tie.Need-all-rounds-requires
 all-rounds-requires c κs = search needs
 
@@ -40,7 +37,6 @@ next-value-spec =
     load-requires
     slice-aggregate-extend
     extend-requires
-    slice-aggregate-all-rounds
     all-rounds-requires
     sum-requires
     returns)
