@@ -1,0 +1,141 @@
+-- The text of a list of lines, and the lines of a text.
+-- Assumes nothing.
+use mathlib.Core.Path.{_≡_, refl, sym, ap, ap₂, _∙_}
+use mathlib.Core.Logic.{inl, inr}
+use Prim.Native.Nat.{ℕ, _<_}
+use native.Mathlib.Omega.{arith}
+use mathlib.Core.Bool.{Bool, true, false}
+use mathlib.Core.List.{List, [], _∷_, _++_, map, append-assoc}
+use lib.ListN.{length}
+use lib.Dec.{eqb}
+use borrow.Author.Tests.{eq-eqb, ne-eqb, eqb-true}
+use Rattle.keytable.specs.Table.{lineEnd, colon, lines, each, upto, past, identityOf, validIdentity, validKey, validLine, ended}
+use Rattle.keytable.specs.WellFormed.{Each, Plain, HexDigit, Line, ValidLine, text}
+use Rattle.keytable.proofs.Flags.{and-left, and-right}
+use Rattle.keytable.proofs.Tests.{key-sound}
+
+-- ---- every element
+
+module _ {A : Type 0} (P : A → Type 0) where
+  pub every-append : (s t : List A) → Each P s → Each P t → Each P (s ++ t)
+  every-append [] t hs ht = ht
+  every-append (x ∷ s) t hs ht = (hs .0, every-append s t (hs .1) ht)
+
+  pub every-map : (Q : A → Type 0) → ((x : A) → P x → Q x) → (s : List A) → Each P s → Each Q s
+  every-map Q f [] h = tt
+  every-map Q f (x ∷ s) h = (f x (h .0), every-map Q f s (h .1))
+
+-- no byte of the list is x
+abbrev pub Without : ℕ → List ℕ → Type 0
+Without x s = Each (λ b. ¬ (b ≡ x)) s
+
+-- ---- up to a byte that comes for the first time
+
+pub upto-append : (x : ℕ) (s r : List ℕ) → Without x s → upto x (s ++ (x ∷ r)) ≡ s
+upto-append x [] r h = rw (eq-eqb x x refl)
+upto-append x (b ∷ s) r h = rw (ne-eqb b x (h .0)) (ap (λ (l : List ℕ). b ∷ l) (upto-append x s r (h .1)))
+
+pub past-append : (x : ℕ) (s r : List ℕ) → Without x s → past x (s ++ (x ∷ r)) ≡ r
+past-append x [] r h = rw (eq-eqb x x refl)
+past-append x (b ∷ s) r h = rw (ne-eqb b x (h .0)) (past-append x s r (h .1))
+
+-- a list with something after an x is what stands before it, x, and what stands after it
+pub rejoined : (x : ℕ) (l : List ℕ) → 0 < length (past x l) → upto x l ++ (x ∷ past x l) ≡ l
+rejoined x [] h = absurd (omega arith)
+rejoined x (b ∷ l) h = go (eqb b x) refl (λ k. rejoined x l k)
+  where
+    go : (t : Bool) → eqb b x ≡ t → (0 < length (past x l) → upto x l ++ (x ∷ past x l) ≡ l) → upto x (b ∷ l) ++ (x ∷ past x (b ∷ l)) ≡ b ∷ l
+    go true e ih = rw e (ap (λ (y : ℕ). y ∷ l) (sym (eqb-true b x e)))
+    go false e ih = rw e (ap (λ (r : List ℕ). b ∷ r) (ih (rw e at h)))
+
+-- ---- lines
+
+pub lines-end : (s r : List ℕ) → Without lineEnd s → lines (s ++ (lineEnd ∷ r)) ≡ s ∷ lines r
+lines-end [] r h = refl
+lines-end (b ∷ s) r h = rw (lines-end s r (h .1)) (rw (ne-eqb b lineEnd (h .0)))
+
+pub ended-end : (s r : List ℕ) → ended (s ++ (lineEnd ∷ r)) ≡ ended r
+ended-end [] [] = refl
+ended-end [] (c ∷ r) = refl
+ended-end (b ∷ []) r = ended-end [] r
+ended-end (b ∷ c ∷ s) r = ended-end (c ∷ s) r
+
+-- the lines, each with its 0A
+abbrev joined : List (List ℕ) → List ℕ
+joined [] = []
+joined (l ∷ ls) = l ++ (lineEnd ∷ joined ls)
+
+joined-lines : (t : List ℕ) → ended t ≡ true → joined (lines t) ≡ t
+joined-lines [] h = refl
+joined-lines (b ∷ []) h = rw h (ap (λ (x : ℕ). x ∷ []) (sym (eqb-true b lineEnd h)))
+joined-lines (b ∷ c ∷ s) h = go (eqb b lineEnd) refl (lines (c ∷ s)) refl (joined-lines (c ∷ s) h)
+  where
+    go : (t : Bool) → eqb b lineEnd ≡ t → (ls : List (List ℕ)) → lines (c ∷ s) ≡ ls → joined (lines (c ∷ s)) ≡ c ∷ s → joined (lines (b ∷ c ∷ s)) ≡ b ∷ c ∷ s
+    go true e ls le ih = rw e (ap₂ (λ (x : ℕ) (r : List ℕ). x ∷ r) (sym (eqb-true b lineEnd e)) ih)
+    go false e [] le ih = let z : _≡_ {A = ℕ} 0 1 = cc in absurd (omega arith)
+    go false e (l ∷ ls) le ih = rw e (rw le (ap (λ (r : List ℕ). b ∷ r) (rw le at ih)))
+
+-- ---- the parts of a line
+
+abbrev pub parted : List ℕ → Line
+parted l = record { identity = upto colon l; hex = past colon l }
+
+abbrev pub lineOf : Line → List ℕ
+lineOf l = l .identity ++ (colon ∷ l .hex)
+
+pub text-cons : (l : Line) (ls : List Line) → text (l ∷ ls) ≡ lineOf l ++ (lineEnd ∷ text ls)
+text-cons l ls = sym (append-assoc (l .identity) (colon ∷ l .hex) (lineEnd ∷ text ls))
+
+pub valid-parted : (l : List ℕ) → validLine l ≡ true → lineOf (parted l) ≡ l
+valid-parted l h =
+    let k = key-sound (past colon l) (and-right (validIdentity (identityOf l)) (validKey (past colon l)) h) in
+    rejoined colon l (omega arith)
+
+text-parted : (ls : List (List ℕ)) → each validLine ls ≡ true → text (map parted ls) ≡ joined ls
+text-parted [] h = refl
+text-parted (l ∷ ls) h =
+    text-cons (parted l) (map parted ls)
+    ∙ ap₂ (λ (a : List ℕ) (b : List ℕ). a ++ (lineEnd ∷ b))
+    (valid-parted l (and-left (validLine l) (each validLine ls) h))
+    (text-parted ls (and-right (validLine l) (each validLine ls) h))
+
+-- a table whose lines are valid and ended is the text of its lines
+pub text-lines : (t : List ℕ) → ended t ≡ true → each validLine (lines t) ≡ true → text (map parted (lines t)) ≡ t
+text-lines t e h = text-parted (lines t) h ∙ joined-lines t e
+
+-- ---- valid lines
+
+pub plain-no-end : (b : ℕ) → Plain b → ¬ (b ≡ lineEnd)
+plain-no-end b h e = omega arith
+
+pub digit-no-end : (b : ℕ) → HexDigit b → ¬ (b ≡ lineEnd)
+digit-no-end b (inl h) e = omega arith
+digit-no-end b (inr (inl h)) e = omega arith
+digit-no-end b (inr (inr h)) e = omega arith
+
+pub digit-no-colon : (b : ℕ) → HexDigit b → ¬ (b ≡ colon)
+digit-no-colon b (inl h) e = omega arith
+digit-no-colon b (inr (inl h)) e = omega arith
+digit-no-colon b (inr (inr h)) e = omega arith
+
+module _ (l : Line) (v : ValidLine l) where
+  pub identity-no-colon : Without colon (l .identity)
+  identity-no-colon = every-map Plain _ (λ b h. h .no-colon) (l .identity) (v .identity .plain)
+
+  pub hex-no-colon : Without colon (l .hex)
+  hex-no-colon = every-map HexDigit _ digit-no-colon (l .hex) (v .key .digits)
+
+  pub line-no-end : Without lineEnd (lineOf l)
+  line-no-end =
+      every-append _ (l .identity) (colon ∷ l .hex) (every-map Plain _ plain-no-end (l .identity) (v .identity .plain))
+      ((λ e. omega arith), every-map HexDigit _ digit-no-end (l .hex) (v .key .digits))
+
+-- the lines of a text are those that it was made of
+pub lines-text : (ls : List Line) → Each ValidLine ls → lines (text ls) ≡ map lineOf ls
+lines-text [] h = refl
+lines-text (l ∷ ls) h =
+    ap lines (text-cons l ls) ∙ lines-end (lineOf l) (text ls) (line-no-end l (h .0)) ∙ ap (λ (r : List (List ℕ)). lineOf l ∷ r) (lines-text ls (h .1))
+
+pub ended-text : (ls : List Line) → ended (text ls) ≡ true
+ended-text [] = refl
+ended-text (l ∷ ls) = ap ended (text-cons l ls) ∙ ended-end (lineOf l) (text ls) ∙ ended-text ls

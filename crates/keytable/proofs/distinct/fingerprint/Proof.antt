@@ -1,0 +1,61 @@
+-- `keytable::distinct::fingerprint`: the number so far goes on to that of the whole.
+-- Assumes nothing.
+use borrow.Author.Needs.{needs}
+use mathlib.Core.Path.{_≡_}
+use Prim.Native.Nat.{_-_, _≤_}
+use native.Mathlib.Omega.{arith}
+use lib.ListN.{length, drop}
+use Rattle.keytable.specs.Inner.{fingerprint}
+use Rattle.keytable.proofs.Apart.{fingerprint-more, fingerprint-end}
+use Rattle.keytable.proofs.distinct.fingerprint.Statement.{statement}
+use Rattle.keytable.proofs.distinct.fingerprint.Tie as tie
+
+abbrev Inv-loop : tie.InvT-loop
+Inv-loop s p₀ i₀ p i = (i ≤ length s) × (fingerprint 0 s ≡ fingerprint p (drop i s))
+
+abbrev μ-loop : tie.MeasureT-loop
+μ-loop s p₀ i₀ p i = length s - i
+
+loop-holds : tie.Need-loop-holds Inv-loop μ-loop
+loop-holds c = search needs
+
+mul-p : tie.Need-mul-p Inv-loop μ-loop
+mul-p c = search needs
+
+shared-slice-read-wide : tie.Need-shared-slice-read-wide Inv-loop μ-loop
+shared-slice-read-wide c = search needs
+
+wide-requires : tie.Need-wide-requires Inv-loop μ-loop
+wide-requires c κs = search needs
+
+add-p : tie.Need-add-p Inv-loop μ-loop
+add-p c = omega (arith, c .before .shared-slice-known2 .given (c .before .before .before .loop .i))
+
+add-i : tie.Need-add-i Inv-loop μ-loop
+add-i c = search needs
+
+loop-less : tie.Need-loop-less Inv-loop μ-loop
+loop-less c = search needs
+
+loop-again : tie.Need-loop-again Inv-loop μ-loop
+loop-again c =
+    (search needs, rw (c .wide .ensures) (fingerprint-more _ _ _ (c .before .before .loop-test .taken) (c .before .before .before .loop .inv .1)))
+
+returns : tie.Need-returns Inv-loop μ-loop
+returns c = fingerprint-end _ _ _ (c .loop-test .left) (c .before .loop .inv .1)
+
+pub fingerprint-spec : {M : Type 1} → statement M
+fingerprint-spec =
+    tie.close
+    (tie.spec
+    Inv-loop
+    μ-loop
+    loop-holds
+    mul-p
+    shared-slice-read-wide
+    wide-requires
+    add-p
+    add-i
+    loop-less
+    loop-again
+    returns)

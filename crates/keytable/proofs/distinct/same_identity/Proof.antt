@@ -1,0 +1,44 @@
+-- `keytable::distinct::same_identity`: the part that is compared is the line's identity.
+-- Assumes nothing.
+use borrow.Author.Needs.{needs}
+use mathlib.Core.Path.{_∙_, ap}
+use denote.Ref.{now}
+use Rattle.keytable.specs.Table.{same}
+use Rattle.keytable.proofs.Apart.{identity-within, identity-part}
+use Rattle.keytable.proofs.distinct.same_identity.Statement.{statement}
+use Rattle.keytable.proofs.distinct.same_identity.Tie as tie
+
+identity-end-requires : tie.Need-identity-end-requires
+identity-end-requires c κs = search needs
+
+sub-equal : tie.Need-sub-equal
+sub-equal c = search needs
+
+part-equal-start : tie.Need-part-equal-start
+part-equal-start c = search needs
+
+part-equal-end : tie.Need-part-equal-end
+part-equal-end c =
+    let s = c .before .before .before in
+    let w = identity-within (now (s .args .table)) _ (s .pre) in
+    search needs
+
+equal-requires : tie.Need-equal-requires
+equal-requires c κs = search needs
+
+returns : tie.Need-returns
+returns c =
+    let e = c .before .before in
+    let s = e .before .before .before in
+    c .equal .ensures ∙ ap (same (now (s .args .identity))) (identity-part (now (s .args .table)) _ _ (s .pre) (e .identity-end .ensures))
+
+pub same-identity-spec : {M : Type 1} → statement M
+same-identity-spec =
+    tie.close
+    (tie.spec
+    identity-end-requires
+    sub-equal
+    part-equal-start
+    part-equal-end
+    equal-requires
+    returns)

@@ -1,0 +1,51 @@
+-- `keytable::entries::find`: the place is how far the walk is, with what it would still go over.
+-- Assumes nothing.
+use borrow.Author.Needs.{needs}
+use mathlib.Core.Path.{_≡_}
+use Prim.Native.Nat.{_+_, _-_, _≤_}
+use lib.ListN.{length, drop}
+use Rattle.keytable.specs.Table.{upto}
+use Rattle.keytable.proofs.Walks.{upto-more, upto-stop, upto-end}
+use Rattle.keytable.proofs.entries.find.Statement.{statement}
+use Rattle.keytable.proofs.entries.find.Tie as tie
+
+abbrev Inv-loop : tie.InvT-loop
+Inv-loop s x i₀ i = (i ≤ length s) × (length (upto x s) ≡ i + length (upto x (drop i s)))
+
+abbrev μ-loop : tie.MeasureT-loop
+μ-loop s x i₀ i = length s - i
+
+loop-holds : tie.Need-loop-holds Inv-loop μ-loop
+loop-holds c = search needs
+
+shared-slice-read-if1 : tie.Need-shared-slice-read-if1 Inv-loop μ-loop
+shared-slice-read-if1 c = search needs
+
+returns : tie.Need-returns Inv-loop μ-loop
+returns c = upto-stop _ _ _ (c .before .before .loop-test .taken) (c .if1 .taken) (c .before .before .before .loop .inv .1)
+
+add-i : tie.Need-add-i Inv-loop μ-loop
+add-i c = search needs
+
+loop-less : tie.Need-loop-less Inv-loop μ-loop
+loop-less c = search needs
+
+loop-again : tie.Need-loop-again Inv-loop μ-loop
+loop-again c = (search needs, upto-more _ _ _ (c .before .before .loop-test .taken) (c .if1 .left) (c .before .before .before .loop .inv .1))
+
+returns-2 : tie.Need-returns-2 Inv-loop μ-loop
+returns-2 c = upto-end _ _ _ (c .loop-test .left) (c .before .loop .inv .1)
+
+pub find-spec : {M : Type 1} → statement M
+find-spec =
+    tie.close
+    (tie.spec
+    Inv-loop
+    μ-loop
+    loop-holds
+    shared-slice-read-if1
+    returns
+    add-i
+    loop-less
+    loop-again
+    returns-2)

@@ -1,0 +1,46 @@
+-- `keytable::entries::line_end`: the search in the rest of the table.
+-- Assumes nothing.
+use borrow.Author.Needs.{needs}
+use mathlib.Core.Path.{_≡_, _∙_, ap}
+use Prim.Native.Nat.{ℕ, _+_}
+use mathlib.Core.List.{List}
+use denote.Ref.{now}
+use lib.ListN.{length, drop, length-drop}
+use Rattle.keytable.specs.Table.{lineEnd, upto}
+use Rattle.keytable.proofs.Lines.{length-upto}
+use Rattle.keytable.proofs.Parts.{rest-drop}
+use Rattle.keytable.proofs.entries.line_end.Statement.{statement}
+use Rattle.keytable.proofs.entries.line_end.Tie as tie
+
+sub-find : tie.Need-sub-find
+sub-find c = search needs
+
+part-find-start : tie.Need-part-find-start
+part-find-start c = search needs
+
+part-find-end : tie.Need-part-find-end
+part-find-end c = search needs
+
+find-requires : tie.Need-find-requires
+find-requires c κs = search needs
+
+line-length : (c : tie.After-find)
+    → c .find .result ≡ length (upto lineEnd (drop (c .before .before .before .args .at) (now (c .before .before .before .args .table))))
+line-length c =
+    c .find .ensures
+    ∙ ap (λ (l : List ℕ). length (upto lineEnd l)) (rest-drop (now (c .before .before .before .args .table)) (c .before .before .before .args .at))
+
+add-result : tie.Need-add-result
+add-result c =
+    let a = c .before .before .before .args in
+    let l = line-length c in
+    let n = length-upto lineEnd (drop (a .at) (now (a .table))) in
+    let d = length-drop (a .at) (now (a .table)) in
+    search needs
+
+returns : tie.Need-returns
+returns c = ap (λ (n : ℕ). c .before .before .before .args .at + n) (line-length c)
+
+pub line-end-spec : {M : Type 1} → statement M
+line-end-spec =
+    tie.close (tie.spec sub-find part-find-start part-find-end find-requires add-result returns)

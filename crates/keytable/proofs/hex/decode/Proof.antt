@@ -1,0 +1,117 @@
+-- `keytable::hex::decode`: after i turns the first i bytes are those of the first i pairs, and the rest is as it was.
+-- Assumes nothing.
+use borrow.Author.Needs.{needs}
+use mathlib.Core.Path.{_≡_, sym, ap₂, _∙_}
+use Prim.Native.Nat.{ℕ, _+_, _-_, _*_, _/_, _≤_, _<_}
+use native.Mathlib.Omega.{arith}
+use mathlib.Core.List.{List}
+use denote.Ref.{now}
+use lib.ListN.{length, getD, length-set}
+use Rattle.keytable.specs.Table.{decoded, digit}
+use Rattle.keytable.proofs.Pairs.{digit-small, length-decoded, decoded-at, filled, fill-turn, filled-all}
+use Rattle.keytable.proofs.hex.decode.Statement.{statement}
+use Rattle.keytable.proofs.hex.decode.Tie as tie
+
+abbrev Inv-loop : tie.InvT-loop
+Inv-loop text out₀ n i₀ out i = (i ≤ n) × (length out ≡ length out₀) × (out ≡ filled (decoded text) out₀ i)
+
+abbrev μ-loop : tie.MeasureT-loop
+μ-loop text out₀ n i₀ out i = n - i
+
+loop-holds : tie.Need-loop-holds Inv-loop μ-loop
+loop-holds c = search needs
+
+mul-digit : tie.Need-mul-digit Inv-loop μ-loop
+mul-digit c = search needs
+
+shared-slice-read-digit : tie.Need-shared-slice-read-digit Inv-loop μ-loop
+shared-slice-read-digit c = search needs
+
+digit-requires : tie.Need-digit-requires Inv-loop μ-loop
+digit-requires c κs = search needs
+
+mul-digit-2 : tie.Need-mul-digit-2 Inv-loop μ-loop
+mul-digit-2 c = search needs
+
+add-digit : tie.Need-add-digit Inv-loop μ-loop
+add-digit c = search needs
+
+shared-slice-read-digit-2 : tie.Need-shared-slice-read-digit-2 Inv-loop μ-loop
+shared-slice-read-digit-2 c = search needs
+
+digit-requires-2 : tie.Need-digit-requires-2 Inv-loop μ-loop
+digit-requires-2 c κs = search needs
+
+-- the two digits, where both have been read, and the byte that they stand for
+module _ (c : tie.After-digit2 Inv-loop μ-loop) where
+  abbrev digits : List ℕ
+  digits = now (c .before .before .before .before .before .before .before .before .args .text)
+
+  abbrev place : ℕ
+  place = c .before .before .before .before .before .loop .i
+
+  high : c .before .before .digit .result < 16
+  high = rw (c .before .before .digit .ensures) (digit-small digits (2 * place) (search needs) (c .before .before .before .before .before .before .before .before .pre .0))
+
+  low : c .digit2 .result < 16
+  low = rw (c .digit2 .ensures) (digit-small digits (2 * place + 1) (search needs) (c .before .before .before .before .before .before .before .before .pre .0))
+
+  value : c .before .before .digit .result * 16 + c .digit2 .result ≡ getD (decoded digits) place 0
+  value =
+      ap₂ (λ (h : ℕ) (l : ℕ). h * 16 + l) (c .before .before .digit .ensures) (c .digit2 .ensures)
+      ∙ sym (decoded-at digits place (search needs))
+
+mul-out : tie.Need-mul-out Inv-loop μ-loop
+mul-out c = let h = high c in search needs
+
+add-out : tie.Need-add-out Inv-loop μ-loop
+add-out c = let h = high c in let l = low c in search needs
+
+slice-write-out : tie.Need-slice-write-out Inv-loop μ-loop
+slice-write-out c = omega arith
+
+add-i : tie.Need-add-i Inv-loop μ-loop
+add-i c = search needs
+
+loop-less : tie.Need-loop-less Inv-loop μ-loop
+loop-less c = search needs
+
+loop-again : tie.Need-loop-again Inv-loop μ-loop
+loop-again c =
+    let t = c .before .before .before .before .before in (
+      search needs,
+      simp length-set (t .loop .inv .1),
+      rw (t .loop .inv .2) (rw (value c) (fill-turn (decoded (digits c)) (now (t .before .before .before .args .out)) (place c) (rw length-decoded (search needs)) (search needs))),
+    )
+
+same-length : tie.Need-same-length Inv-loop μ-loop
+same-length c = c .before .loop .inv .1
+
+returns : tie.Need-returns Inv-loop μ-loop
+returns c =
+    let text = now (c .before .before .before .before .args .text) in
+    let end : c .before .loop .i ≡ length text / 2 = omega arith in
+    c .before .loop .inv .2 ∙ filled-all (decoded text) _ _ _ (length-decoded text) end
+
+pub decode-spec : {M : Type 1} → statement M
+decode-spec =
+    tie.close
+    (tie.spec
+    Inv-loop
+    μ-loop
+    loop-holds
+    mul-digit
+    shared-slice-read-digit
+    digit-requires
+    mul-digit-2
+    add-digit
+    shared-slice-read-digit-2
+    digit-requires-2
+    mul-out
+    add-out
+    slice-write-out
+    add-i
+    loop-less
+    loop-again
+    same-length
+    returns)

@@ -1,0 +1,38 @@
+-- `keytable::hex::key_into`: no key, no room, or the decoded key: the three laws of lent memory.
+-- Assumes nothing.
+use borrow.Author.Needs.{needs}
+use denote.Ref.{now}
+use Rattle.refusal.proofs.Laws.{gave, short, refused}
+use Rattle.keytable.specs.Table.{decoded}
+use Rattle.keytable.proofs.Pairs.{length-decoded, digits-of-key}
+use Rattle.keytable.proofs.Flags.{failed, passed}
+use Rattle.keytable.proofs.hex.key_into.Statement.{statement}
+use Rattle.keytable.proofs.hex.key_into.Tie as tie
+
+valid-key-requires : tie.Need-valid-key-requires
+valid-key-requires c κs = search needs
+
+returns : tie.Need-returns
+returns c = rw (failed _ _ (c .before .valid-key .ensures) (c .if1 .taken)) (refused _ _)
+
+returns-2 : tie.Need-returns-2
+returns-2 c = rw (passed _ _ (c .before .before .valid-key .ensures) (c .before .if1 .left)) (short _ _ (rw length-decoded (c .if2 .taken)))
+
+decode-requires : tie.Need-decode-requires
+decode-requires c κs =
+    let v = c .before .before .before in
+    (digits-of-key (now (v .before .before .before .args .text)) (passed _ _ (v .valid-key .ensures) (c .before .before .if1 .left)), search needs)
+
+same-length : tie.Need-same-length
+same-length c = search needs
+
+returns-3 : tie.Need-returns-3
+returns-3 c =
+    let e = c .before .before .before .before in
+    let text = now (e .before .before .before .before .before .args .text) in
+    rw (passed _ _ (e .before .before .valid-key .ensures) (e .before .if1 .left), c .before .before .decode .ensures)
+    (rw (length-decoded text) at (gave (decoded text) (now (e .before .before .before .before .before .args .out)) (rw (length-decoded text) (e .if2 .left))))
+
+pub key-into-spec : {M : Type 1} → statement M
+key-into-spec =
+    tie.close (tie.spec valid-key-requires returns returns-2 decode-requires same-length returns-3)

@@ -1,0 +1,110 @@
+-- `keytable::utf8::four`: the row of four bytes, test by test.
+-- Assumes nothing.
+use borrow.Author.Needs.{needs}
+use Rattle.keytable.proofs.Flags.{failed, passed}
+use Rattle.keytable.proofs.utf8.four.Statement.{statement}
+use Rattle.keytable.proofs.utf8.four.Tie as tie
+
+tail-requires : tie.Need-tail-requires
+tail-requires c κs = search needs
+
+returns : tie.Need-returns
+returns c = simp (c .before .before .pre, failed _ _ (c .before .tail .ensures) (c .if1 .taken))
+
+tail-requires-2 : tie.Need-tail-requires-2
+tail-requires-2 c κs = search needs
+
+returns-2 : tie.Need-returns-2
+returns-2 c =
+    let s = c .before .before .before in
+    simp (
+      s .before .pre,
+      passed _ _ (s .tail .ensures) (c .before .before .if1 .left),
+      failed _ _ (c .before .tail2 .ensures) (c .if2 .taken),
+    )
+
+tail-requires-3 : tie.Need-tail-requires-3
+tail-requires-3 c κs = search needs
+
+returns-3 : tie.Need-returns-3
+returns-3 c =
+    let s = c .before .before .before .before .before in
+    simp (
+      s .before .pre,
+      passed _ _ (s .tail .ensures) (c .before .before .before .before .if1 .left),
+      passed _ _ (c .before .before .before .tail2 .ensures) (c .before .before .if2 .left),
+      failed _ _ (c .before .tail3 .ensures) (c .if3 .taken),
+    )
+
+wide-requires : tie.Need-wide-requires
+wide-requires c κs = search needs
+
+mul-allowed : tie.Need-mul-allowed
+mul-allowed c = search needs
+
+wide-requires-2 : tie.Need-wide-requires-2
+wide-requires-2 c κs = search needs
+
+mul-allowed-2 : tie.Need-mul-allowed-2
+mul-allowed-2 c = search needs
+
+add-allowed : tie.Need-add-allowed
+add-allowed c = search needs
+
+wide-requires-3 : tie.Need-wide-requires-3
+wide-requires-3 c κs = search needs
+
+mul-allowed-3 : tie.Need-mul-allowed-3
+mul-allowed-3 c = search needs
+
+add-allowed-2 : tie.Need-add-allowed-2
+add-allowed-2 c = search needs
+
+wide-requires-4 : tie.Need-wide-requires-4
+wide-requires-4 c κs = search needs
+
+add-allowed-3 : tie.Need-add-allowed-3
+add-allowed-3 c = search needs
+
+allowed-requires : tie.Need-allowed-requires
+allowed-requires c κs = search needs
+
+returns-4 : tie.Need-returns-4
+returns-4 c =
+    let w = c .before .before .before .before in
+    let t = w .before .before .before in
+    let s = t .before .before .before in
+    simp (
+      s .before .pre,
+      passed _ _ (s .tail .ensures) (t .before .before .if1 .left),
+      passed _ _ (t .before .tail2 .ensures) (t .if2 .left),
+      passed _ _ (w .before .before .tail3 .ensures) (w .before .if3 .left),
+      c .allowed .ensures,
+      c .before .wide4 .ensures,
+      c .before .before .wide3 .ensures,
+      c .before .before .before .wide2 .ensures,
+      w .wide .ensures,
+    )
+
+pub four-spec : {M : Type 1} → statement M
+four-spec =
+    tie.close
+    (tie.spec
+    tail-requires
+    returns
+    tail-requires-2
+    returns-2
+    tail-requires-3
+    returns-3
+    wide-requires
+    mul-allowed
+    wide-requires-2
+    mul-allowed-2
+    add-allowed
+    wide-requires-3
+    mul-allowed-3
+    add-allowed-2
+    wide-requires-4
+    add-allowed-3
+    allowed-requires
+    returns-4)

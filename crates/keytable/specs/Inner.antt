@@ -1,0 +1,40 @@
+-- What the contracts of this crate's private functions cite, and no public contract does.
+use mathlib.Core.Path.{_≡_}
+use Prim.Native.Nat.{ℕ, _+_, _-_, _*_, _%_, _≤_, _<_}
+use mathlib.Core.List.{List, [], _∷_, map}
+use mathlib.Core.Option.{Option, none, some}
+use lib.ListN.{length, take, drop, getD}
+use Rattle.keytable.specs.Table.{lineEnd, colon, upto}
+use Rattle.keytable.specs.declared.entries.Hit.{Hit}
+use Rattle.keytable.specs.declared.entries.Hit.the-variants.{Text, Nothing}
+
+-- the elements at `from` and after it, up to and not including `to`
+abbrev pub part : ℕ → ℕ → List ℕ → List ℕ
+part from to s = take (to - from) (drop from s)
+
+-- the part of the table that a hit names
+abbrev pub hitText : List ℕ → Hit → Option (List ℕ)
+hitText table (Text from to) = some (part from to table)
+hitText table Nothing = none
+
+abbrev pub Within : List ℕ → Hit → Type 0
+Within table (Text from to) = (from ≤ to) × (to ≤ length table)
+Within table Nothing = Unit
+
+-- the identity of the line at `at`
+abbrev pub identityAt : List ℕ → ℕ → List ℕ
+identityAt table at = upto colon (upto lineEnd (drop at table))
+
+-- the identities of the lines at the first n starts
+abbrev pub earlier : List ℕ → List ℕ → ℕ → List (List ℕ)
+earlier table starts n = map (identityAt table) (take n starts)
+
+-- A number that equal identities have alike, so that most of the others need not be compared: any function of the bytes would do.
+abbrev pub fingerprint : ℕ → List ℕ → ℕ
+fingerprint p [] = p
+fingerprint p (b ∷ s) = fingerprint (p % 8388608 * 257 + b) s
+
+-- the first n starts are places of the table, and the first n fingerprints those of the identities there
+abbrev pub Kept : List ℕ → List ℕ → List ℕ → ℕ → Type 0
+Kept table starts fingerprints n =
+    (k : ℕ) → k < n → (getD starts k 0 ≤ length table) × (getD fingerprints k 0 ≡ fingerprint 0 (identityAt table (getD starts k 0)))

@@ -1,0 +1,157 @@
+-- The key table (document 01, "The key table"): "lines `identity:hex`, each ended by one byte 0A". The test that a table is well formed, and the
+-- key that stands in it for an identity.
+use Prim.Native.Nat.{ℕ, _+_, _-_, _*_, _%_}
+use mathlib.Core.Bool.{Bool, true, false, cond, not, _&&_, _||_}
+use mathlib.Core.List.{List, [], _∷_, _++_, map}
+use mathlib.Core.Option.{Option, none, some}
+use lib.ListN.{length}
+use lib.Dec.{leb, ltb, eqb}
+use Rattle.refusal.specs.Lent.{Outcome, gives, refuses}
+use Rattle.refusal.specs.declared.Refusal.the-variants.{UnknownPskIdentity}
+use Rattle.keytable.specs.Utf8.{validUtf8}
+
+abbrev pub lineEnd : ℕ
+lineEnd = 0x0A
+
+abbrev pub colon : ℕ
+colon = 0x3A
+
+-- ---- lines
+
+-- a byte in front of the lines that follow it
+abbrev pub before : ℕ → List (List ℕ) → List (List ℕ)
+before b [] = (b ∷ []) ∷ []
+before b (l ∷ ls) = (b ∷ l) ∷ ls
+
+-- a byte 0A ends an empty line there
+abbrev pub line : ℕ → List (List ℕ) → List (List ℕ)
+line b ls = cond (eqb b lineEnd) ([] ∷ ls) (before b ls)
+
+-- What stands between the bytes 0A. Bytes after the last 0A are a line too: such a table isn't well formed, and lookup is defined on it.
+abbrev pub lines : List ℕ → List (List ℕ)
+lines [] = []
+lines (b ∷ s) = line b (lines s)
+
+-- ---- keys
+
+abbrev pub between : ℕ → ℕ → ℕ → Bool
+between low high n = leb low n && leb n high
+
+-- the number of a hex digit of either case (0 to 9, A to F, a to f), 16 for any other byte
+abbrev pub digit : ℕ → ℕ
+digit b =
+    cond (between 0x30 0x39 b) (b - 0x30)
+    (cond (between 0x41 0x46 b) (b - 0x41 + 10)
+    (cond (between 0x61 0x66 b) (b - 0x61 + 10)
+    16))
+
+module _ {A : Type 0} where
+  -- every element passes the test
+  abbrev pub each : (A → Bool) → List A → Bool
+  each p [] = true
+  each p (b ∷ s) = p b && each p s
+
+abbrev pub hexDigit : ℕ → Bool
+hexDigit b = ltb (digit b) 16
+
+-- "Key 1 to 64 bytes as pairs of hex digits, either case."
+abbrev pub validKey : List ℕ → Bool
+validKey s = between 2 128 (length s) && eqb (length s % 2) 0 && each hexDigit s
+
+-- the bytes that pairs of hex digits stand for
+abbrev pub decoded : List ℕ → List ℕ
+decoded [] = []
+decoded (a ∷ []) = []
+decoded (a ∷ b ∷ s) = (digit a * 16 + digit b) ∷ decoded s
+
+-- ---- identities
+
+-- the bytes before the first x, all where there is none
+abbrev pub upto : ℕ → List ℕ → List ℕ
+upto x [] = []
+upto x (b ∷ s) = cond (eqb b x) [] (b ∷ upto x s)
+
+-- the bytes after the first x, none where there is none
+abbrev pub past : ℕ → List ℕ → List ℕ
+past x [] = []
+past x (b ∷ s) = cond (eqb b x) s (past x s)
+
+-- "no byte below 20 hex, no 7F, no colon"
+abbrev pub plain : ℕ → Bool
+plain b = leb 0x20 b && not (eqb b 0x7F) && not (eqb b colon)
+
+-- "Identity 1 to 128 bytes, valid UTF-8 (RFC 3629)"
+abbrev pub validIdentity : List ℕ → Bool
+validIdentity s = between 1 128 (length s) && each plain s && validUtf8 s
+
+-- ---- well-formedness, as a test
+
+-- The identity is what stands before a line's first colon, and the key what stands after it: without a colon there is no key.
+abbrev pub identityOf : List ℕ → List ℕ
+identityOf l = upto colon l
+
+abbrev pub validLine : List ℕ → Bool
+validLine l = validIdentity (identityOf l) && validKey (past colon l)
+
+-- the last byte, if there is one, is 0A
+abbrev pub ended : List ℕ → Bool
+ended [] = true
+ended (b ∷ []) = eqb b lineEnd
+ended (b ∷ c ∷ s) = ended (c ∷ s)
+
+-- "Lookup compares bytes", and so does the test for an identity that stands twice
+abbrev pub same : List ℕ → List ℕ → Bool
+same [] [] = true
+same [] (b ∷ t) = false
+same (a ∷ s) [] = false
+same (a ∷ s) (b ∷ t) = eqb a b && same s t
+
+-- x is one of those
+abbrev pub among : List ℕ → List (List ℕ) → Bool
+among x [] = false
+among x (y ∷ ys) = same x y || among x ys
+
+-- "no identity twice": none stands among those before it
+abbrev pub apart : List (List ℕ) → List (List ℕ) → Bool
+apart earlier [] = true
+apart earlier (x ∷ xs) = not (among x earlier) && apart (earlier ++ (x ∷ [])) xs
+
+-- "At most 256 lines and 65,536 bytes; no identity twice .. No bytes at all is well formed." R2 is given where this fails.
+unfoldable pub wellFormed : List ℕ → Bool
+wellFormed t =
+    leb (length t) 65536 && ended t && leb (length (lines t)) 256 && each validLine (lines t) && apart [] (map identityOf (lines t))
+
+-- ---- lookup
+
+-- what follows the identity and a colon in a line that begins with them
+abbrev pub keyText : List ℕ → List ℕ → Option (List ℕ)
+keyText [] [] = none
+keyText [] (b ∷ l) = cond (eqb b colon) (some l) none
+keyText (i ∷ is) [] = none
+keyText (i ∷ is) (b ∷ l) = cond (eqb b i) (keyText is l) none
+
+abbrev pub orElse : Option (List ℕ) → Option (List ℕ) → Option (List ℕ)
+orElse (some s) o = some s
+orElse none o = o
+
+-- of the first line that matches
+abbrev pub firstText : List ℕ → List (List ℕ) → Option (List ℕ)
+firstText identity [] = none
+firstText identity (l ∷ ls) = orElse (keyText identity l) (firstText identity ls)
+
+abbrev pub keyIn : List ℕ → Option (List ℕ)
+keyIn s = cond (validKey s) (some (decoded s)) none
+
+abbrev pub keyOfText : Option (List ℕ) → Option (List ℕ)
+keyOfText none = none
+keyOfText (some s) = keyIn s
+
+-- The key that the table, any bytes, has for an identity, any bytes: "the search ends at the first line that matches". None where no line
+-- matches, or where what follows the colon is no key.
+unfoldable pub keyOf : List ℕ → List ℕ → Option (List ℕ)
+keyOf table identity = keyOfText (firstText identity (lines table))
+
+-- what a lookup answers: an identity that isn't listed is alert 115
+abbrev pub found : Option (List ℕ) → Outcome
+found none = refuses UnknownPskIdentity
+found (some key) = gives key

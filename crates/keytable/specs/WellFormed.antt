@@ -1,0 +1,88 @@
+-- What a well-formed table is (document 01, "The key table"), with no word of how that is tested. proofs/Agreement.antt shows that it is what
+-- `wellFormed` of specs/Table.antt tests.
+use mathlib.Core.Path.{_≡_}
+use mathlib.Core.Logic.{_⊎_}
+use Prim.Native.Nat.{ℕ, _*_, _≤_}
+use mathlib.Core.Bool.{true}
+use mathlib.Core.List.{List, [], _∷_, _++_, map}
+use lib.ListN.{length}
+use Rattle.keytable.specs.Utf8.{validUtf8}
+use Rattle.keytable.specs.Table.{lineEnd, colon, decoded, ended}
+
+module _ {A : Type 0} where
+  -- every element has the property
+  abbrev pub Each : (A → Type 0) → List A → Type 0
+  Each P [] = Unit
+  Each P (x ∷ xs) = P x × Each P xs
+
+  -- no element stands twice
+  abbrev pub Distinct : List A → Type 0
+  Distinct [] = Unit
+  Distinct (x ∷ xs) = Each (λ y. ¬ (x ≡ y)) xs × Distinct xs
+
+-- "no byte below 20 hex, no 7F, no colon"
+pub record Plain (b : ℕ) : Type 0 where
+  pub high : 0x20 ≤ b
+  pub no-delete : ¬ (b ≡ 0x7F)
+  pub no-colon : ¬ (b ≡ colon)
+
+-- "Identity 1 to 128 bytes, valid UTF-8 (RFC 3629)"
+pub record Identity (s : List ℕ) : Type 0 where
+  pub some : 1 ≤ length s
+  pub few : length s ≤ 128
+  pub plain : Each Plain s
+  pub utf8 : validUtf8 s ≡ true
+
+-- 0 to 9, A to F, a to f
+abbrev pub HexDigit : ℕ → Type 0
+HexDigit b = ((0x30 ≤ b) × (b ≤ 0x39)) ⊎ (((0x41 ≤ b) × (b ≤ 0x46)) ⊎ ((0x61 ≤ b) × (b ≤ 0x66)))
+
+-- "Key 1 to 64 bytes as pairs of hex digits, either case."
+pub record Key (s : List ℕ) : Type 0 where
+  pub bytes : ℕ
+  pub pairs : length s ≡ 2 * bytes
+  pub some : 1 ≤ bytes
+  pub few : bytes ≤ 64
+  pub digits : Each HexDigit s
+
+pub record Line : Type 0 where
+  pub identity : List ℕ
+  pub hex : List ℕ
+
+pub record ValidLine (l : Line) : Type 0 where
+  pub identity : Identity (l .identity)
+  pub key : Key (l .hex)
+
+-- "lines `identity:hex`, each ended by one byte 0A"
+abbrev pub text : List Line → List ℕ
+text [] = []
+text (l ∷ ls) = l .identity ++ (colon ∷ (l .hex ++ (lineEnd ∷ text ls)))
+
+abbrev pub identityIn : Line → List ℕ
+identityIn l = l .identity
+
+-- "At most 256 lines and 65,536 bytes; no identity twice; two identities may share a key. No bytes at all is well formed."
+pub record WellFormed (t : List ℕ) : Type 0 where
+  pub lines : List Line
+  pub is : t ≡ text lines
+  pub valid : Each ValidLine lines
+  pub distinct : Distinct (map identityIn lines)
+  pub few-lines : length lines ≤ 256
+  pub few-bytes : length t ≤ 65536
+
+-- One of the lines has that identity and that key.
+abbrev pub Listed : List ℕ → List ℕ → List Line → Type 0
+Listed identity key [] = ⊥
+Listed identity key (l ∷ ls) = ((identity ≡ l .identity) × (key ≡ decoded (l .hex))) ⊎ Listed identity key ls
+
+-- Demand 3: "the second's being the first's without one identity's line and otherwise the same". The line is a whole one: it starts the table or
+-- follows a 0A, and has none but its last; and the identity is what stands before its colon.
+pub record LineRemoved (identity t t' : List ℕ) : Type 0 where
+  pub front : List ℕ
+  pub hex : List ℕ
+  pub back : List ℕ
+  pub starts : ended front ≡ true
+  pub one-line : Each (λ b. ¬ (b ≡ lineEnd)) (identity ++ (colon ∷ hex))
+  pub one-colon : Each (λ b. ¬ (b ≡ colon)) identity
+  pub first : t ≡ front ++ (identity ++ (colon ∷ (hex ++ (lineEnd ∷ back))))
+  pub second : t' ≡ front ++ back

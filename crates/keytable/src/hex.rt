@@ -1,0 +1,99 @@
+// Keys as hex digits.
+ghost use mathlib.Core.Path.{_≡_};
+ghost use mathlib.Core.List.{_++_};
+ghost use Prim.Native.Nat.{_≤_, _/_};
+ghost use mathlib.Core.Bool.{true};
+ghost use lib.ListN.{length, drop};
+ghost use Rattle.keytable.specs.Table.{between, digit, each, hexDigit, validKey, decoded, keyIn, found};
+ghost use Rattle.refusal.specs.Lent.{Answers};
+use refusal::Refusal;
+use refusal::Written;
+
+fn between(low: u8, high: u8, b: u8) -> bool
+    ensures { λ r. ⌜ r ≡ between low high b ⌝ }
+{
+    if b < low {
+        return false;
+    }
+    if b > high {
+        return false;
+    }
+    true
+}
+
+// The number of a hex digit, 16 for any other byte.
+fn digit(b: u8) -> u8
+    ensures { λ r. ⌜ r ≡ digit b ⌝ }
+{
+    if between(48, 57, b) {
+        return b - 48;
+    }
+    if between(65, 70, b) {
+        return b - 65 + 10;
+    }
+    if between(97, 102, b) {
+        return b - 97 + 10;
+    }
+    16
+}
+
+// Whether all bytes are hex digits.
+fn all_digits(s: &[u8]) -> bool
+    ensures { λ r. ⌜ r ≡ each hexDigit (now (s .entry)) ⌝ }
+{
+    let mut i = 0;
+    while i < s.len() {
+        if digit(s[i]) >= 16 {
+            return false;
+        }
+        i += 1;
+    }
+    true
+}
+
+// Whether s is 1 to 64 pairs of hex digits.
+pub(crate) fn valid_key(s: &[u8]) -> bool
+    ensures { λ r. ⌜ r ≡ validKey (now (s .entry)) ⌝ }
+{
+    if s.len() < 2 {
+        return false;
+    }
+    if s.len() > 128 {
+        return false;
+    }
+    if s.len() % 2 != 0 {
+        return false;
+    }
+    all_digits(s)
+}
+
+// The bytes that pairs of hex digits stand for, at the front of out.
+fn decode(text: &[u8], out: &mut [u8])
+    requires { ⌜ each hexDigit (now text) ≡ true ⌝ }
+    requires { ⌜ length (now text) / 2 ≤ length (now out) ⌝ }
+    ensures { λ _. ⌜ now (out .exit) ≡ decoded (now (text .entry)) ++ drop (length (now (text .entry)) / 2) (now (out .entry)) ⌝ }
+{
+    let n = text.len() / 2;
+    let mut i = 0;
+    while i < n {
+        let high = digit(text[2 * i]);
+        let low = digit(text[2 * i + 1]);
+        out[i] = high * 16 + low;
+        i += 1;
+    }
+}
+
+// The key that the text stands for, or 115 where it stands for none.
+pub(crate) fn key_into(text: &[u8], out: &mut [u8]) -> Written
+    ensures { λ r. ⌜ Answers (found (keyIn (now (text .entry)))) (now (out .entry)) r (now (out .exit)) ⌝ }
+{
+    if !valid_key(text) {
+        return Written::Refused(Refusal::UnknownPskIdentity);
+    }
+    let n = text.len() / 2;
+    if out.len() < n {
+        return Written::Refused(Refusal::ShortOutput);
+    }
+    decode(text, out);
+    Written::Wrote(n)
+}
