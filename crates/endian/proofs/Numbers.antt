@@ -4,7 +4,7 @@ use mathlib.Core.Path.{_≡_, refl, sym, ap, _∙_}
 use Prim.Native.Nat.{ℕ, zero, suc, _+_, _*_, _/_, _%_, _^_, _<_}
 use native.Mathlib.Nat.{one-le-pow, pow-succ', mod-eq-of-lt, mod-lt, mod-one}
 use native.Mathlib.Omega.{arith}
-use mathlib.Core.List.{List, [], _∷_, _++_}
+use mathlib.Core.List.{List, [], _∷_}
 use lib.ListN.{length, take, drop}
 use lib.Arith.{digits-lt, digits-div, digits-mod, mod-mul}
 use Rattle.endian.specs.Number.{be, number, Bytes}
@@ -22,10 +22,6 @@ power-suc w = pow-succ' 256 w
 pub bytes-cons : (b : ℕ) (bs : List ℕ) → b < 256 → Bytes bs → Bytes (b ∷ bs)
 bytes-cons b bs h t zero = h
 bytes-cons b bs h t (suc i) = t i
-
-pub bytes-append : (xs bs : List ℕ) → Bytes xs → Bytes bs → Bytes (xs ++ bs)
-bytes-append [] bs h t = t
-bytes-append (x ∷ xs) bs h t = bytes-cons x (xs ++ bs) (h zero) (bytes-append xs bs (λ i. h (suc i)) t)
 
 pub bytes-take : (n : ℕ) (bs : List ℕ) → Bytes bs → Bytes (take n bs)
 bytes-take zero bs h = λ i. omega arith

@@ -1,0 +1,151 @@
+-- The reader and the writer of ClientHello are each other's inverse.
+-- Assumes nothing.
+use mathlib.Core.Path.{_≡_, refl, ap, _∙_}
+use Prim.Native.Nat.{ℕ, _+_, _%_, _≤_}
+use native.Mathlib.Omega.{arith}
+use mathlib.Core.Bool.{Bool, true, _&&_}
+use mathlib.Core.List.{List, _++_}
+use mathlib.Core.Option.{Option, none, some}
+use lib.ListN.{length, take, drop, length-append, length-drop}
+use lib.Seq.{length-take-le}
+use lib.Dec.{leb, eqb}
+use borrow.Author.Tests.{le-leb, leb-true}
+use Rattle.endian.specs.Number.{Bytes, number}
+use Rattle.endian.specs.Vector.{vector, writable}
+use Rattle.messages.specs.declared.Verdict.{Verdict}
+use Rattle.messages.specs.declared.Part.{Part}
+use Rattle.messages.specs.declared.Part.the-variants.{At}
+use Rattle.messages.specs.declared.hello.BlockFound.{BlockFound}
+use Rattle.messages.specs.declared.hello.BlockFound.the-variants.{Found}
+use Rattle.messages.specs.declared.client_hello.Client.the-variants.{Read}
+use Rattle.messages.specs.Layout.{bytes, valid, Inverse}
+use Rattle.messages.specs.Header.{header}
+use Rattle.messages.specs.Place.{endAt, partAt, ruled}
+use Rattle.messages.specs.Hello.{frontRules, frontBytes, sessionAt, blockRules, tailBytes, blockAt, blockContents}
+use Rattle.messages.specs.ClientHello.{ClientHello, clientHello, suitesLength, methodsLength, clientBlock, clientMethods, clientSuites, clientSession, clientHeader, clientPlace, clientFields, readClientHello}
+use Rattle.messages.proofs.Layouts.{valid-within, valid-parts, and-parts}
+use Rattle.messages.proofs.Headers.{header-message, header-read}
+use Rattle.messages.proofs.Places.{part-there, ruled-there, vector-at, part-written}
+use Rattle.messages.proofs.Hellos.{front-written, front-read, front-rules, length-body, block-written, block-read}
+
+-- what the rules say of valid fields
+module _ (f : ClientHello) (h : valid clientHello f ≡ true) where
+  rules-of : (frontRules (f .version) (f .random) (f .sessionId) ≡ true)
+      × ((writable 2 (f .suites) ≡ true) × (suitesLength (length (f .suites)) ≡ true))
+      × ((writable 1 (f .methods) ≡ true) × (methodsLength (length (f .methods)) ≡ true))
+      × (blockRules true (f .extensions) ≡ true)
+  rules-of =
+      let suites : Bool = writable 2 (f .suites) && suitesLength (length (f .suites)) in
+      let methods : Bool = writable 1 (f .methods) && methodsLength (length (f .methods)) in
+      let two = and-parts (frontRules (f .version) (f .random) (f .sessionId)) (suites && (methods && blockRules true (f .extensions))) (valid-parts clientHello f h .0) in
+      let three = and-parts suites (methods && blockRules true (f .extensions)) (two .1) in
+      let four = and-parts methods (blockRules true (f .extensions)) (three .1) in (
+        two .0,
+        and-parts (writable 2 (f .suites)) (suitesLength (length (f .suites))) (three .0),
+        and-parts (writable 1 (f .methods)) (methodsLength (length (f .methods))) (four .0),
+        four .1,
+      )
+
+-- none is shorter than one with nothing in it that can be left out
+pub at-least-45 : (f : ClientHello) → valid clientHello f ≡ true → 45 ≤ length (bytes clientHello f)
+at-least-45 f h =
+    let ok = rules-of f h in
+    let rest : List ℕ = vector 2 (f .suites) ++ (vector 1 (f .methods) ++ tailBytes (f .extensions)) in
+    let front = front-rules (f .version) (f .random) (f .sessionId) (ok .0) in
+    let two = and-parts (leb 2 (length (f .suites))) (eqb (length (f .suites) % 2) 0) (ok .1 .1) .0 in
+    let total : length rest ≡ 3 + length (f .suites) + length (f .methods) + length (tailBytes (f .extensions)) = simp length-append (omega arith) in
+    omega (arith, leb-true 2 (length (f .suites)) two, leb-true 1 (length (f .methods)) (ok .2 .1), total, length-body (f .version) (f .random) (f .sessionId) rest (front .1))
+
+-- ---- reading what was written
+
+reads : (f : ClientHello) → valid clientHello f ≡ true → readClientHello (bytes clientHello f) ≡ some f
+reads f h =
+    let m : List ℕ = bytes clientHello f in
+    let n : ℕ = length (f .sessionId) in
+    let k : ℕ = length (f .suites) in
+    let j : ℕ = length (f .methods) in
+    let tail : List ℕ = tailBytes (f .extensions) in
+    let ok = valid-parts clientHello f h in
+    let rules = rules-of f h in
+    let front = front-written 1 (f .version) (f .random) (f .sessionId) (vector 2 (f .suites) ++ (vector 1 (f .methods) ++ tail)) (rules .0) in
+    let suites = part-written 2 m (39 + n) (f .suites) (vector 1 (f .methods) ++ tail) (omega arith) (rules .1 .0) (front .4) in
+    let methods = part-written 1 m (39 + n + 2 + k) (f .methods) tail (omega arith) (rules .2 .0) (suites .3) in
+    let block = block-written true m (39 + n + 2 + k + 1 + j) (f .extensions) (omega arith) (rules .3) (methods .3) in
+    let suites-at : ruled suitesLength (partAt 2 m (39 + n)) ≡ At (39 + n + 2) k =
+    rw (le-leb (endAt 2 m (39 + n)) (length m) (omega arith), suites .1, rules .1 .1) in
+    let methods-at : ruled methodsLength (partAt 1 m (39 + n + 2 + k)) ≡ At (39 + n + 2 + k + 1) j =
+    rw (le-leb (endAt 1 m (39 + n + 2 + k)) (length m) (omega arith), methods .1, rules .2 .1) in
+    let place : clientPlace m ≡ Read (number (take 2 (drop 4 m))) n (39 + n + 2) k (39 + n + 2 + k + 1) j (block .0) =
+    rw (header-message 1 (clientHello .body f) (ok .1), front .0, suites-at, methods-at, block .1) in
+    ap (clientFields m) place ∙ (λ i. some (record {
+      version = front .1 i;
+      random = front .2 i;
+      sessionId = front .3 i;
+      suites = suites .2 i;
+      methods = methods .2 i;
+      extensions = block .2 i;
+    }))
+
+-- ---- writing what was read
+
+-- what the fields say of the message
+abbrev Wrote : List ℕ → ClientHello → Type 0
+Wrote m f = (valid clientHello f ≡ true) × (m ≡ bytes clientHello f)
+
+none-there : (f : ClientHello) → _≡_ {A = Option ClientHello} none (some f) → ⊥
+none-there f e = let z : _≡_ {A = ℕ} 0 1 = cc in omega arith
+
+-- a vector with a rule on its length, as the message has it
+vector-read : (rule : ℕ → Bool) (w : ℕ) (m : List ℕ) (at s n : ℕ) → Bytes m → ruled rule (partAt w m at) ≡ At s n
+    → (drop at m ≡ vector w (take n (drop s m)) ++ drop (s + n) m) × (writable w (take n (drop s m)) ≡ true) × (rule (length (take n (drop s m))) ≡ true)
+vector-read rule w m at s n b e =
+    let r = ruled-there rule (partAt w m at) s n e in
+    let there = part-there w m at s n (r .0) in
+    let read = vector-at w m at b (there .0) in
+    let long : length (take n (drop s m)) ≡ n = length-take-le n (drop s m) (simp length-drop (omega arith)) in
+    (rw (there .1, there .2) (read .0), rw (there .1, there .2) (read .1), rw long (r .1))
+
+module _ (m : List ℕ) (f : ClientHello) (b : Bytes m) (accepted : header 1 m ≡ Verdict.Accepted) where
+  from-block : (x n s k t j : ℕ) (o : BlockFound) → sessionAt m ≡ At x n → ruled suitesLength (partAt 2 m (x + n)) ≡ At s k
+      → ruled methodsLength (partAt 1 m (s + k)) ≡ At t j → blockAt true m (t + j) ≡ o → clientFields m (clientBlock m n s k t j o) ≡ some f → Wrote m f
+  from-block x n s k t j (Found p) session suites methods found e =
+      let read : ClientHello = record {
+        version = number (take 2 (drop 4 m));
+        random = take 32 (drop 6 m);
+        sessionId = take n (drop 39 m);
+        suites = take k (drop s m);
+        methods = take j (drop t m);
+        extensions = blockContents m p;
+      } in
+      let same : f ≡ read = cc e in
+      let head = header-read 1 m b accepted in
+      let front = front-read m x n b session in
+      let second = vector-read suitesLength 2 m (x + n) s k b suites in
+      let third = vector-read methodsLength 1 m (s + k) t j b methods in
+      let block = block-read true m (t + j) p b found in
+      let rest : drop (39 + n) m ≡ vector 2 (read .suites) ++ (vector 1 (read .methods) ++ tailBytes (read .extensions)) =
+      rw (front .0) at (second .0) ∙ ap (λ (l : List ℕ). vector 2 (read .suites) ++ l) (third .0 ∙ ap (λ (l : List ℕ). vector 1 (read .methods) ++ l) (block .0)) in
+      let body : drop 4 m ≡ clientHello .body read = front .2 ∙ ap (frontBytes (read .version) (read .random) (read .sessionId)) rest in
+      let rules : clientHello .rules read ≡ true = rw (front .3, second .1, second .2, third .1, third .2) (block .1) in
+      rw same (valid-within clientHello read rules (rw body at (head .1)), rw body at (head .0))
+  from-block x n s k t j (BlockFound.Refused r) session suites methods found e = absurd (none-there f e)
+
+  from-methods : (x n s k : ℕ) (p : Part) → sessionAt m ≡ At x n → ruled suitesLength (partAt 2 m (x + n)) ≡ At s k
+      → ruled methodsLength (partAt 1 m (s + k)) ≡ p → clientFields m (clientMethods m n s k p) ≡ some f → Wrote m f
+  from-methods x n s k (At t j) session suites methods e = from-block x n s k t j (blockAt true m (t + j)) session suites methods refl e
+  from-methods x n s k (Part.Refused r) session suites methods e = absurd (none-there f e)
+
+  from-suites : (x n : ℕ) (p : Part) → sessionAt m ≡ At x n → ruled suitesLength (partAt 2 m (x + n)) ≡ p → clientFields m (clientSuites m n p) ≡ some f → Wrote m f
+  from-suites x n (At s k) session suites e = from-methods x n s k (ruled methodsLength (partAt 1 m (s + k))) session suites refl e
+  from-suites x n (Part.Refused r) session suites e = absurd (none-there f e)
+
+  from-session : (p : Part) → sessionAt m ≡ p → clientFields m (clientSession m p) ≡ some f → Wrote m f
+  from-session (At x n) session e = from-suites x n (ruled suitesLength (partAt 2 m (x + n))) session refl e
+  from-session (Part.Refused r) session e = absurd (none-there f e)
+
+from-header : (m : List ℕ) (f : ClientHello) (v : Verdict) → Bytes m → header 1 m ≡ v → clientFields m (clientHeader m v) ≡ some f → Wrote m f
+from-header m f Verdict.Accepted b a e = from-session m f b a (sessionAt m) refl e
+from-header m f (Verdict.Refused r) b a e = absurd (none-there f e)
+
+pub client-inverse : Inverse clientHello readClientHello
+client-inverse = record { reads-written = reads; writes-read = λ m f b e. from-header m f (header 1 m) b refl e }

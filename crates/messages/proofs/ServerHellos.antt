@@ -1,0 +1,131 @@
+-- The reader and the writer of ServerHello are each other's inverse.
+-- Assumes nothing.
+use mathlib.Core.Path.{_≡_, refl, sym, ap, ap₂, _∙_}
+use Prim.Native.Nat.{ℕ, suc, _+_, _≤_, _<_}
+use native.Mathlib.Omega.{arith}
+use native.Mathlib.Decide.{decLe}
+use mathlib.Core.Bool.{true, false, _&&_}
+use mathlib.Core.List.{List, _∷_, _++_}
+use mathlib.Core.Option.{Option, none, some}
+use lib.ListN.{length, getD, take, drop, length-drop, take-append-drop}
+use lib.Seq.{drop-drop, getD-drop, drop-cons, length-take-le}
+use lib.Dec.{ltb}
+use borrow.Author.Tests.{ltb-true, lt-ltb, le-leb, lt-leb}
+use Rattle.endian.specs.Number.{Bytes, be, number}
+use Rattle.endian.proofs.Numbers.{number-be-lt, number-lt, be-number-at, bytes-take, bytes-drop}
+use Rattle.messages.specs.declared.Verdict.{Verdict}
+use Rattle.messages.specs.declared.Part.{Part}
+use Rattle.messages.specs.declared.Part.the-variants.{At}
+use Rattle.messages.specs.declared.hello.BlockFound.{BlockFound}
+use Rattle.messages.specs.declared.hello.BlockFound.the-variants.{Found}
+use Rattle.messages.specs.declared.server_hello.Server.the-variants.{Read, Refused}
+use Rattle.messages.specs.Layout.{bytes, valid, Inverse}
+use Rattle.messages.specs.Header.{header}
+use Rattle.messages.specs.Hello.{frontRules, frontBytes, sessionAt, blockRules, tailBytes, blockAt, blockContents}
+use Rattle.messages.specs.ServerHello.{ServerHello, serverHello, serverBlock, serverSession, serverHeader, serverPlace, serverFields, readServerHello}
+use Rattle.messages.proofs.Layouts.{valid-within, valid-parts, and-parts}
+use Rattle.messages.proofs.Headers.{header-message, header-read}
+use Rattle.messages.proofs.Hellos.{front-written, front-read, block-written, block-read, length-body, front-rules}
+
+-- ---- reading what was written
+
+reads : (f : ServerHello) → valid serverHello f ≡ true → readServerHello (bytes serverHello f) ≡ some f
+reads f h =
+    let m : List ℕ = bytes serverHello f in
+    let ok = valid-parts serverHello f h in
+    let two = and-parts (frontRules (f .version) (f .random) (f .sessionId)) (ltb (f .suite) 65536 && (ltb (f .compression) 256 && blockRules false (f .extensions))) (ok .0) in
+    let three = and-parts (ltb (f .suite) 65536) (ltb (f .compression) 256 && blockRules false (f .extensions)) (two .1) in
+    let four = and-parts (ltb (f .compression) 256) (blockRules false (f .extensions)) (three .1) in
+    let tail : List ℕ = tailBytes (f .extensions) in
+    let rest : List ℕ = be 2 (f .suite) ++ (f .compression ∷ tail) in
+    let n : ℕ = length (f .sessionId) in
+    let front = front-written 2 (f .version) (f .random) (f .sessionId) rest (two .0) in
+    let size : length m ≡ 42 + n + length tail = omega (arith, length-body (f .version) (f .random) (f .sessionId) rest (front-rules (f .version) (f .random) (f .sessionId) (two .0) .1)) in
+    let suite : number (take 2 (drop (39 + n) m)) ≡ f .suite = ap (λ (l : List ℕ). number (take 2 l)) (front .4) ∙ number-be-lt 2 (f .suite) (ltb-true _ _ (three .0)) in
+    let compressed : getD m (41 + n) 0 ≡ f .compression =
+    ap (λ (k : ℕ). getD m k 0) plus-two ∙ sym (getD-drop (39 + n) m 2 0) ∙ ap (λ (l : List ℕ). getD l 2 0) (front .4) in
+    let behind : drop (42 + n) m ≡ tail = ap (λ (k : ℕ). drop k m) plus-three ∙ sym (drop-drop 3 (39 + n) m) ∙ ap (drop 3) (front .4) in
+    let block = block-written false m (42 + n) (f .extensions) (omega arith) (four .1) behind in
+    let place : serverPlace m ≡ Read (number (take 2 (drop 4 m))) n (number (take 2 (drop (39 + n) m))) (getD m (41 + n) 0) (block .0) =
+    rw (header-message 2 (serverHello .body f) (ok .1), front .0, le-leb (42 + n) (length m) (omega arith), block .1) in
+    ap (serverFields m) place ∙ (λ i. some (record {
+      version = front .1 i;
+      random = front .2 i;
+      sessionId = front .3 i;
+      suite = suite i;
+      compression = compressed i;
+      extensions = block .2 i;
+    }))
+  where
+    plus-two : 41 + length (f .sessionId) ≡ 39 + length (f .sessionId) + 2
+    plus-two = omega arith
+
+    plus-three : 42 + length (f .sessionId) ≡ 39 + length (f .sessionId) + 3
+    plus-three = omega arith
+
+-- ---- writing what was read
+
+-- suite, compression and what stands behind them
+chosen-read : (m : List ℕ) (n : ℕ) → Bytes m → 42 + n ≤ length m
+    → (drop (39 + n) m ≡ be 2 (number (take 2 (drop (39 + n) m))) ++ (getD m (41 + n) 0 ∷ drop (42 + n) m))
+    × (number (take 2 (drop (39 + n) m)) < 65536)
+chosen-read m n b fits =
+    let d : List ℕ = drop (39 + n) m in
+    let two : length (take 2 d) ≡ 2 = length-take-le 2 d (simp length-drop (omega arith)) in
+    let front : Bytes (take 2 d) = bytes-take 2 d (bytes-drop (39 + n) m b) in
+    let third : drop 2 d ≡ getD m (41 + n) 0 ∷ drop (42 + n) m =
+    drop-drop 2 (39 + n) m ∙ ap (λ (k : ℕ). drop k m) plus-two ∙ drop-cons m (41 + n) 0 (omega arith) ∙ ap (λ (k : ℕ). getD m (41 + n) 0 ∷ drop k m) plus-one in
+    (sym (take-append-drop 2 d) ∙ ap₂ _++_ (sym (be-number-at 2 (take 2 d) front two)) third, rw two at (number-lt (take 2 d) front))
+  where
+    plus-two : 39 + n + 2 ≡ 41 + n
+    plus-two = omega arith
+
+    plus-one : suc (41 + n) ≡ 42 + n
+    plus-one = omega arith
+
+-- what the fields say of the message
+abbrev Wrote : List ℕ → ServerHello → Type 0
+Wrote m f = (valid serverHello f ≡ true) × (m ≡ bytes serverHello f)
+
+none-there : (f : ServerHello) → _≡_ {A = Option ServerHello} none (some f) → ⊥
+none-there f e = let z : _≡_ {A = ℕ} 0 1 = cc in omega arith
+
+module _ (m : List ℕ) (f : ServerHello) (b : Bytes m) (accepted : header 2 m ≡ Verdict.Accepted) where
+  from-block : (s n : ℕ) (o : BlockFound) → sessionAt m ≡ At s n → 42 + n ≤ length m → blockAt false m (42 + n) ≡ o
+      → serverFields m (serverBlock m n o) ≡ some f → Wrote m f
+  from-block s n (Found k) session fits found e =
+      let read : ServerHello = record {
+        version = number (take 2 (drop 4 m));
+        random = take 32 (drop 6 m);
+        sessionId = take n (drop 39 m);
+        suite = number (take 2 (drop (39 + n) m));
+        compression = getD m (41 + n) 0;
+        extensions = blockContents m k;
+      } in
+      let same : f ≡ read = cc e in
+      let head = header-read 2 m b accepted in
+      let front = front-read m s n b session in
+      let chosen = chosen-read m n b fits in
+      let block = block-read false m (42 + n) k b found in
+      let body : drop 4 m ≡ serverHello .body read =
+      front .2 ∙ ap (frontBytes (read .version) (read .random) (read .sessionId)) (chosen .0 ∙ ap (λ (l : List ℕ). be 2 (read .suite) ++ (read .compression ∷ l)) (block .0)) in
+      let rules : serverHello .rules read ≡ true =
+      rw (front .3, lt-ltb (read .suite) 65536 (chosen .1), lt-ltb (read .compression) 256 (b (41 + n))) (block .1) in
+      rw same (valid-within serverHello read rules (rw body at (head .1)), rw body at (head .0))
+  from-block s n (BlockFound.Refused r) session fits found e = absurd (none-there f e)
+
+  from-session : (p : Part) → sessionAt m ≡ p → serverFields m (serverSession m p) ≡ some f → Wrote m f
+  from-session (At s n) session e = elim (decLe (42 + n) (length m)) [
+    | yes fits ↦ from-block s n (blockAt false m (42 + n)) session fits refl (rw (le-leb (42 + n) (length m) fits) at e)
+    | no cut ↦
+        let over : length m < 42 + n = omega arith in
+        absurd (none-there f (rw (lt-leb (42 + n) (length m) over) at e))
+  ]
+  from-session (Part.Refused r) session e = absurd (none-there f e)
+
+from-header : (m : List ℕ) (f : ServerHello) (v : Verdict) → Bytes m → header 2 m ≡ v → serverFields m (serverHeader m v) ≡ some f → Wrote m f
+from-header m f Verdict.Accepted b a e = from-session m f b a (sessionAt m) refl e
+from-header m f (Verdict.Refused r) b a e = absurd (none-there f e)
+
+pub server-inverse : Inverse serverHello readServerHello
+server-inverse = record { reads-written = reads; writes-read = λ m f b e. from-header m f (header 2 m) b refl e }

@@ -1,0 +1,89 @@
+-- `messages::client_hello::behind_suites`: where methods and block stand decides, as in `clientSuites`.
+-- Assumes nothing.
+use borrow.Author.Needs.{needs}
+use Prim.Native.Nat.{_+_, _≤_}
+use native.Mathlib.Omega.{arith}
+use mathlib.Core.Path.{_≡_, sym, _∙_}
+use lib.ListN.{length}
+use Rattle.messages.specs.ClientHello.{methodsLength}
+use Rattle.messages.proofs.Places.{ruled-inside}
+use Rattle.messages.proofs.Windows.{stated-window}
+use Rattle.messages.proofs.client_hello.behind_suites.Statement.{statement}
+use Rattle.messages.proofs.client_hello.behind_suites.Tie as tie
+
+add-methods : tie.Need-add-methods
+add-methods c = search needs
+
+methods-requires : tie.Need-methods-requires
+methods-requires c κs = search needs
+
+enum-known-start : tie.Need-enum-known-start
+enum-known-start c = search needs
+
+-- where the compression methods stand
+inside : (c : tie.After-known-told)
+    → (c .before .start .given .0 .0 ≡ c .before .before .before .before .before .args .suites-start + c .before .before .before .before .before .args .suites-len + 1)
+    × (c .before .start .given .0 .0 + c .before .start .given .0 .1 .0 ≤ length (c .before .before .before .before .before .args .message .now))
+inside c =
+    ruled-inside methodsLength 1 (c .before .before .before .before .before .args .message .now) _ _ _ (sym (c .before .before .before .methods .ensures) ∙ c .before .start .given .1)
+
+add-tail : tie.Need-add-tail
+add-tail c = record { fits = omega (arith, inside c) }
+
+tail-requires : tie.Need-tail-requires
+tail-requires c κs = search needs
+
+enum-known-block : tie.Need-enum-known-block
+enum-known-block c = search needs
+
+shared-slice-read-number16 : tie.Need-shared-slice-read-number16
+shared-slice-read-number16 c = search needs
+
+shared-slice-read-number16-2 : tie.Need-shared-slice-read-number16-2
+shared-slice-read-number16-2 c = search needs
+
+number16-requires : tie.Need-number16-requires
+number16-requires c κs = search needs
+
+enum-known-r : tie.Need-enum-known-r
+enum-known-r c = search needs
+
+enum-known-r-2 : tie.Need-enum-known-r-2
+enum-known-r-2 c = search needs
+
+returns : tie.Need-returns
+returns c =
+    rw (
+      ← c .before .before .before .before .before .before .before .before .before .before .methods .ensures,
+      c .before .before .before .before .before .before .before .before .start .given .1,
+      ← c .before .before .before .before .before .before .tail .ensures,
+      c .before .before .before .before .block .given .1,
+      stated-window 2 4 (c .before .before .before .before .before .before .before .before .before .before .before .before .args .message .now) (omega (arith, inside (c .before .before .before .before .before .before .before))),
+      ← c .number16 .ensures,
+    )
+
+returns-2 : tie.Need-returns-2
+returns-2 c =
+    rw (← c .before .before .before .before .before .before .before .methods .ensures, c .before .before .before .before .before .start .given .1, ← c .before .before .before .tail .ensures, c .before .r .given .1)
+
+returns-3 : tie.Need-returns-3
+returns-3 c = rw (← c .before .before .before .methods .ensures, c .before .r2 .given .1)
+
+pub behind-suites-spec : {M : Type 1} → statement M
+behind-suites-spec =
+    tie.close
+    (tie.spec
+    add-methods
+    methods-requires
+    enum-known-start
+    add-tail
+    tail-requires
+    enum-known-block
+    shared-slice-read-number16
+    shared-slice-read-number16-2
+    number16-requires
+    enum-known-r
+    enum-known-r-2
+    returns
+    returns-2
+    returns-3)

@@ -1,0 +1,41 @@
+-- `messages::fixed::write_finished`: R5 for another length; else head and verify_data are the bytes of the layout.
+-- Assumes nothing.
+use borrow.Author.Needs.{needs}
+use borrow.Author.Tests.{eq-eqb, ne-eqb}
+use native.Mathlib.Omega.{arith}
+use mathlib.Core.Path.{_≡_}
+use mathlib.Core.Bool.{true}
+use mathlib.Core.List.{[], _∷_, _++_}
+use lib.ListN.{length}
+use Rattle.messages.specs.Layout.{bytes, valid}
+use Rattle.messages.specs.Fixed.{finished}
+use Rattle.messages.proofs.Layouts.{valid-within, valid-rules, writes, writes-none}
+use Rattle.messages.proofs.fixed.write_finished.Statement.{statement}
+use Rattle.messages.proofs.fixed.write_finished.Tie as tie
+
+returns : tie.Need-returns
+returns c =
+    let a = c .before .before .before .args in
+    writes-none finished (a .verify-data .now) (a .out .now) (valid-rules finished (a .verify-data .now) (ne-eqb _ _ (c .if1 .taken)))
+
+slice-aggregate-two : tie.Need-slice-aggregate-two
+slice-aggregate-two c = search needs
+
+two-requires : tie.Need-two-requires
+two-requires c κs = search needs
+
+same-length : tie.Need-same-length
+same-length c = search needs
+
+returns-2 : tie.Need-returns-2
+returns-2 c =
+    let a = c .before .before .before .before .before .before .before .before .args in
+    let xs = a .verify-data .now in
+    let twelve : length xs ≡ 12 = c .before .before .before .before .before .if1 .left in
+    let ok : valid finished xs ≡ true = valid-within finished xs (eq-eqb _ _ twelve) (omega arith) in
+    let all : bytes finished xs ≡ (20 ∷ 0 ∷ 0 ∷ 12 ∷ []) ++ xs = rw twelve in
+    writes finished xs (a .out .now) _ _ ok (rw all (c .before .before .two .ensures))
+
+pub write-finished-spec : {M : Type 1} → statement M
+write-finished-spec =
+    tie.close (tie.spec returns slice-aggregate-two two-requires same-length returns-2)

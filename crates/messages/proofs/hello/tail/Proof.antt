@@ -1,0 +1,93 @@
+-- `messages::hello::tail`: each return is a case of `blockAt`; the block's own rule is asked of the part that last16 found.
+-- Assumes nothing.
+use borrow.Author.Needs.{needs}
+use borrow.Author.Tests.{eq-eqb, ne-eqb, not-true, not-false}
+use Prim.Native.Nat.{_+_}
+use native.Mathlib.Nat.{add-sub-cancel-left}
+use native.Mathlib.Omega.{arith}
+use mathlib.Core.Path.{_≡_, sym, _∙_}
+use lib.ListN.{length, take, drop}
+use mathlib.Core.Bool.{cond}
+use Rattle.refusal.specs.declared.Refusal.the-variants.{DecodeError}
+use Rattle.messages.specs.declared.hello.Block.{Block}
+use Rattle.messages.specs.declared.hello.BlockFound.the-variants.{Found, Refused}
+use Rattle.messages.specs.Extensions.{blockRule}
+use Rattle.messages.specs.Hello.{blockAt}
+use Rattle.messages.proofs.Places.{last-there}
+use Rattle.messages.proofs.hello.tail.Statement.{statement}
+use Rattle.messages.proofs.hello.tail.Tie as tie
+
+returns : tie.Need-returns
+returns c = rw (eq-eqb _ _ (c .if1 .taken))
+
+last16-requires : tie.Need-last16-requires
+last16-requires c κs = search needs
+
+enum-known-start : tie.Need-enum-known-start
+enum-known-start c = search needs
+
+-- the block ends where the message does
+inside : (c : tie.After-known-told) → c .before .start .given .0 .0 + c .before .start .given .0 .1 .0 ≡ length (c .before .before .before .before .before .before .args .message .now)
+inside c =
+    let there = last-there 2 (c .before .before .before .before .before .before .args .message .now) (c .before .before .before .before .before .before .args .at) _ _ (sym (c .before .before .before .last16 .ensures) ∙ c .before .start .given .1) in
+    omega arith
+
+-- what the block's own test was asked
+rule : (c : tie.After-test)
+    → blockRule (c .before .before .before .before .before .before .before .before .args .client) (take (c .before .before .before .start .given .0 .1 .0) (drop (c .before .before .before .start .given .0 .0) (c .before .before .before .before .before .before .before .before .args .message .now)))
+    ≡ c .test .result
+rule c =
+    let g = c .before .before .before .start .given .0 in
+    rw (← add-sub-cancel-left (g .0) (g .1 .0)) (sym (c .test .ensures))
+
+add-test : tie.Need-add-test
+add-test c = record { fits = omega (arith, inside c) }
+
+sub-test : tie.Need-sub-test
+sub-test c = search needs
+
+part-test-start : tie.Need-part-test-start
+part-test-start c = search needs
+
+part-test-end : tie.Need-part-test-end
+part-test-end c = omega (arith, inside c)
+
+test-requires : tie.Need-test-requires
+test-requires c κs = search needs
+
+-- what is left once the block is tested
+rule-left : (c : tie.After-test)
+    → blockAt (c .before .before .before .before .before .before .before .before .args .client) (c .before .before .before .before .before .before .before .before .args .message .now) (c .before .before .before .before .before .before .before .before .args .at)
+    ≡ cond (c .test .result) (Found (Block.At (c .before .before .before .start .given .0 .0) (c .before .before .before .start .given .0 .1 .0))) (Refused DecodeError)
+rule-left c =
+    rw (ne-eqb (c .before .before .before .before .before .before .before .before .args .at) (length (c .before .before .before .before .before .before .before .before .args .message .now)) (c .before .before .before .before .before .before .if1 .left), ← c .before .before .before .before .before .last16 .ensures, c .before .before .before .start .given .1, rule c)
+
+returns-2 : tie.Need-returns-2
+returns-2 c = rw (rule-left (c .before), not-true (c .before .test .result) (c .if2 .taken))
+
+enum-known-r : tie.Need-enum-known-r
+enum-known-r c = search needs
+
+returns-3 : tie.Need-returns-3
+returns-3 c = rw (rule-left (c .before), not-false (c .before .test .result) (c .if2 .left))
+
+returns-4 : tie.Need-returns-4
+returns-4 c =
+    rw (ne-eqb (c .before .before .before .before .before .before .args .at) (length (c .before .before .before .before .before .before .args .message .now)) (c .before .before .before .before .if1 .left), ← c .before .before .before .last16 .ensures, c .before .r .given .1)
+
+pub tail-spec : {M : Type 1} → statement M
+tail-spec =
+    tie.close
+    (tie.spec
+    returns
+    last16-requires
+    enum-known-start
+    add-test
+    sub-test
+    part-test-start
+    part-test-end
+    test-requires
+    returns-2
+    enum-known-r
+    returns-3
+    returns-4)

@@ -1,0 +1,75 @@
+-- `messages::key_exchange::identity`: the place that read_identity found lies inside the message, and its bytes are the identity.
+-- Assumes nothing.
+use borrow.Author.Needs.{needs}
+use Prim.Native.Nat.{_+_}
+use native.Mathlib.Nat.{add-sub-cancel-left}
+use native.Mathlib.Omega.{arith}
+use mathlib.Core.Path.{_≡_, sym, _∙_}
+use lib.ListN.{length}
+use Rattle.messages.specs.declared.Part.the-variants.{At}
+use Rattle.messages.specs.KeyExchange.{vectorPlace}
+use Rattle.messages.proofs.Places.{last-inside}
+use Rattle.messages.proofs.key_exchange.identity.Statement.{statement}
+use Rattle.messages.proofs.key_exchange.identity.Tie as tie
+
+read-identity-requires : tie.Need-read-identity-requires
+read-identity-requires c κs = search needs
+
+enum-known-start : tie.Need-enum-known-start
+enum-known-start c = search needs
+
+-- where the identity stands
+found : (c : tie.After-known-told)
+    → vectorPlace 16 (c .before .before .before .before .before .args .message .now) ≡ At (c .before .start .given .0 .0) (c .before .start .given .0 .1 .0)
+found c = sym (c .before .before .before .read-identity .ensures) ∙ c .before .start .given .1
+
+-- it ends where the message does
+inside : (c : tie.After-known-told) → c .before .start .given .0 .0 + c .before .start .given .0 .1 .0 ≡ length (c .before .before .before .before .before .args .message .now)
+inside c = last-inside 16 (c .before .before .before .before .before .args .message .now) 4 _ _ (found c) .1
+
+add-result : tie.Need-add-result
+add-result c = record { fits = omega (arith, inside c) }
+
+sub-result : tie.Need-sub-result
+sub-result c = search needs
+
+part-result-start : tie.Need-part-result-start
+part-result-start c = search needs
+
+part-result-end : tie.Need-part-result-end
+part-result-end c = omega (arith, inside c)
+
+enum-told : tie.Need-enum-told
+enum-told c = search needs
+
+sub-result-2 : tie.Need-sub-result-2
+sub-result-2 c = search needs
+
+part-result-start-2 : tie.Need-part-result-start-2
+part-result-start-2 c = search needs
+
+part-result-end-2 : tie.Need-part-result-end-2
+part-result-end-2 c = search needs
+
+returns : tie.Need-returns
+returns c = rw (found (c .before), add-sub-cancel-left)
+
+returns-2 : tie.Need-returns-2
+returns-2 c = rw (← c .before .before .before .read-identity .ensures, c .before .enum-told .given .1)
+
+pub identity-spec : {M : Type 1} → statement M
+identity-spec =
+    tie.close
+    (tie.spec
+    read-identity-requires
+    enum-known-start
+    add-result
+    sub-result
+    part-result-start
+    part-result-end
+    enum-told
+    sub-result-2
+    part-result-start-2
+    part-result-end-2
+    returns
+    returns-2)

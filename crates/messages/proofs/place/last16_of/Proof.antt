@@ -1,0 +1,27 @@
+-- `messages::place::last16_of`: the header's verdict decides, as in `afterHeader`.
+-- Assumes nothing.
+use borrow.Author.Needs.{needs}
+use Rattle.messages.proofs.place.last16_of.Statement.{statement}
+use Rattle.messages.proofs.place.last16_of.Tie as tie
+
+test-requires : tie.Need-test-requires
+test-requires c κs = search needs
+
+enum-told : tie.Need-enum-told
+enum-told c = search needs
+
+last16-requires : tie.Need-last16-requires
+last16-requires c κs = search needs
+
+enum-told-2 : tie.Need-enum-told-2
+enum-told-2 c = search needs
+
+returns : tie.Need-returns
+returns c = rw (← c .before .before .before .test .ensures, c .before .enum-told .given .1) (c .last16 .ensures)
+
+returns-2 : tie.Need-returns-2
+returns-2 c = rw (← c .before .before .test .ensures, c .enum-told2 .given .1)
+
+pub last16-of-spec : {M : Type 1} → statement M
+last16-of-spec =
+    tie.close (tie.spec test-requires enum-told last16-requires enum-told-2 returns returns-2)

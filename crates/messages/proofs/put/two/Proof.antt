@@ -1,0 +1,50 @@
+-- `messages::put::two`: R1 where one of the two tests finds no room; else the second part stands behind the first (Puts, `behind`).
+-- Assumes nothing.
+use borrow.Author.Needs.{needs}
+use native.Mathlib.Omega.{arith}
+use mathlib.Core.Path.{_≡_, refl, _∙_}
+use mathlib.Core.List.{[], _++_}
+use lib.ListN.{length, length-append}
+use Rattle.refusal.proofs.Laws.{short}
+use Rattle.messages.proofs.Puts.{front, behind, wrote}
+use Rattle.messages.proofs.put.two.Statement.{statement}
+use Rattle.messages.proofs.put.two.Tie as tie
+
+returns : tie.Need-returns
+returns c =
+    let a = c .before .before .before .before .args in
+    short (a .head .now ++ a .tail .now) (a .out .now) (simp length-append (omega arith))
+
+sub-if2 : tie.Need-sub-if2
+sub-if2 c = search needs
+
+returns-2 : tie.Need-returns-2
+returns-2 c =
+    let a = c .before .before .before .before .before .args in
+    short (a .head .now ++ a .tail .now) (a .out .now) (simp length-append (omega arith))
+
+at-requires : tie.Need-at-requires
+at-requires c κs = search needs
+
+at-requires-2 : tie.Need-at-requires-2
+at-requires-2 c κs = search needs
+
+same-length : tie.Need-same-length
+same-length c = search needs
+
+returns-3 : tie.Need-returns-3
+returns-3 c =
+    let a = c .before .before .before .before .before .before .before .before .before .before .before .before .before .args in
+    let first = c .before .before .before .before .before .before .at in
+    let second = c .before .before .at2 in
+    let head = a .head .now in
+    let tail = a .tail .now in
+    let out = a .out .now in
+    let one : first .last .1 .0 ≡ front head out = first .ensures .1 ∙ behind [] head out out 0 refl refl in
+    let place : first .result ≡ length head = omega arith in
+    let both : second .last .1 .0 ≡ front (head ++ tail) out = second .ensures .1 ∙ behind head tail out (first .last .1 .0) (first .result) one place in
+    wrote (head ++ tail) out (second .last .1 .0) (second .result) (simp length-append (omega arith)) both (simp length-append (omega arith))
+
+pub two-spec : {M : Type 1} → statement M
+two-spec =
+    tie.close (tie.spec returns sub-if2 returns-2 at-requires at-requires-2 same-length returns-3)

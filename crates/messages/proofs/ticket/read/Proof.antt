@@ -1,0 +1,70 @@
+-- `messages::ticket::read`: the ticket that was found starts behind the lifetime hint, whose four bytes are therefore there.
+-- Assumes nothing.
+use borrow.Author.Needs.{needs}
+use Prim.Native.Nat.{_≤_}
+use native.Mathlib.Omega.{arith}
+use mathlib.Core.Path.{_≡_, sym, _∙_}
+use lib.ListN.{length}
+use Rattle.messages.specs.declared.Part.the-variants.{At}
+use Rattle.messages.specs.Header.{header}
+use Rattle.messages.specs.Place.{lastAt, afterHeader}
+use Rattle.messages.proofs.Places.{last-inside}
+use Rattle.messages.proofs.Windows.{take-window}
+use Rattle.messages.proofs.ticket.read.Statement.{statement}
+use Rattle.messages.proofs.ticket.read.Tie as tie
+
+last16-of-requires : tie.Need-last16-of-requires
+last16-of-requires c κs = search needs
+
+enum-known-start : tie.Need-enum-known-start
+enum-known-start c = search needs
+
+-- where the ticket stands
+found : (c : tie.After-known-told)
+    → afterHeader (header 4 (c .before .before .before .before .before .args .message .now)) (lastAt 2 (c .before .before .before .before .before .args .message .now) 8)
+    ≡ At (c .before .start .given .0 .0) (c .before .start .given .0 .1 .0)
+found c = sym (c .before .before .before .last16-of .ensures) ∙ c .before .start .given .1
+
+-- it starts behind the lifetime hint
+inside : (c : tie.After-known-told) → 10 ≤ length (c .before .before .before .before .before .args .message .now)
+inside c = let i = last-inside 4 (c .before .before .before .before .before .args .message .now) 8 _ _ (found c) in omega arith
+
+shared-slice-read-number32 : tie.Need-shared-slice-read-number32
+shared-slice-read-number32 c = omega (arith, inside (c .before))
+
+shared-slice-read-number32-2 : tie.Need-shared-slice-read-number32-2
+shared-slice-read-number32-2 c = omega (arith, inside (c .before .before))
+
+shared-slice-read-number32-3 : tie.Need-shared-slice-read-number32-3
+shared-slice-read-number32-3 c = omega (arith, inside (c .before .before .before))
+
+shared-slice-read-number32-4 : tie.Need-shared-slice-read-number32-4
+shared-slice-read-number32-4 c = omega (arith, inside (c .before .before .before .before))
+
+number32-requires : tie.Need-number32-requires
+number32-requires c κs = search needs
+
+enum-known-r : tie.Need-enum-known-r
+enum-known-r c = search needs
+
+returns : tie.Need-returns
+returns c =
+    rw (found (c .before .before .before .before .before), take-window 4 4 (c .before .before .before .before .before .before .before .before .before .before .args .message .now) (omega (arith, inside (c .before .before .before .before .before))), ← c .number32 .ensures)
+
+returns-2 : tie.Need-returns-2
+returns-2 c = rw (← c .before .before .before .last16-of .ensures, c .before .r .given .1)
+
+pub read-spec : {M : Type 1} → statement M
+read-spec =
+    tie.close
+    (tie.spec
+    last16-of-requires
+    enum-known-start
+    shared-slice-read-number32
+    shared-slice-read-number32-2
+    shared-slice-read-number32-3
+    shared-slice-read-number32-4
+    number32-requires
+    enum-known-r
+    returns
+    returns-2)
