@@ -4,10 +4,11 @@ use mathlib.Core.Bool.{Bool, true, false, not, _&&_, _||_, cond}
 use mathlib.Core.List.{List, [], _∷_, _++_}
 use mathlib.Core.Option.{Option, none, some}
 use lib.ListN.{length, take, drop}
-use lib.Dec.{leb, eqb}
+use lib.Dec.{leb, ltb, eqb}
 use Rattle.endian.specs.Number.{be, number}
-use Rattle.endian.specs.Vector.{vector, stated}
-use Rattle.refusal.specs.declared.Refusal.the-variants.{DecodeError}
+use Rattle.endian.specs.Vector.{vector, writable, stated}
+use Rattle.refusal.specs.declared.Refusal.the-variants.{BadValue, DecodeError}
+use Rattle.refusal.specs.Lent.{Outcome, gives, refuses}
 use Rattle.messages.specs.declared.extensions.Step.{Step}
 use Rattle.messages.specs.declared.extensions.Step.the-variants.{Extension, End, Refused}
 use Rattle.messages.specs.Place.{endAt}
@@ -22,6 +23,16 @@ extensionBytes e = be 2 (e .kind) ++ vector 2 (e .contents)
 abbrev pub blockBytes : List Ext → List ℕ
 blockBytes [] = []
 blockBytes (e ∷ es) = extensionBytes e ++ blockBytes es
+
+-- ---- writing
+
+-- a type that two bytes hold, and data whose length they hold; else R5
+abbrev pub extensionWritten : Ext → Outcome
+extensionWritten e = cond (ltb (e .kind) 65536 && writable 2 (e .contents)) (gives (extensionBytes e)) (refuses BadValue)
+
+-- SessionTicket, 35: "its data is a ticket vector with its own 2-byte length"
+abbrev pub ticketExtension : List ℕ → Ext
+ticketExtension ticket = record { kind = 35; contents = vector 2 ticket }
 
 -- ---- reading
 
@@ -67,7 +78,7 @@ abbrev pub eachOnce : Option (List Ext) → Bool
 eachOnce none = false
 eachOnce (some es) = distinct (kinds es)
 
--- SessionTicket, 35: "its data is a ticket vector with its own 2-byte length"
+-- the data of type 35 is just such a vector
 abbrev pub ticketShape : Ext → Bool
 ticketShape e = cond (eqb (e .kind) 35) (eqb (endAt 2 (e .contents) 0) (length (e .contents))) true
 

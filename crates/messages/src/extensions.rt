@@ -1,10 +1,14 @@
 // The extension block of a hello.
 ghost use mathlib.Core.Path.{_≡_};
-ghost use Rattle.messages.specs.Extensions.{stepAt, extensionsIn, eachOnce, ticketShape, ticketsShaped, blockRule};
+ghost use Rattle.refusal.specs.Lent.{Answers};
+ghost use Rattle.messages.specs.Place.{lastAt};
+ghost use Rattle.messages.specs.Extensions.{extensionWritten, ticketExtension, stepAt, extensionsIn, eachOnce, ticketShape, ticketsShaped, blockRule};
 ghost use Rattle.messages.specs.Parts.{partOnce};
 use crate::Part;
 use crate::place;
+use crate::put;
 use refusal::Refusal;
+use refusal::Written;
 
 // What stands at a place of a block.
 pub enum Step {
@@ -123,4 +127,43 @@ pub fn test(client: bool, block: &[u8]) -> bool
         return all_shaped(block);
     }
     true
+}
+
+// ---- writing
+
+// One extension: R5 for a type or a length that two bytes do not hold, then R1.
+pub fn write(kind: usize, contents: &[u8], out: &mut [u8]) -> Written
+    ensures { λ r. ⌜ Answers (extensionWritten (record { kind = kind; contents = now (contents .entry) })) (now (out .entry)) r (now (out .exit)) ⌝ }
+{
+    if 65535 < kind {
+        return Written::Refused(Refusal::BadValue);
+    }
+    if 65535 < contents.len() {
+        return Written::Refused(Refusal::BadValue);
+    }
+    let number = endian::bytes16(kind);
+    let size = endian::bytes16(contents.len());
+    let head = [number[0], number[1], size[0], size[1]];
+    put::two(&head, contents, out)
+}
+
+// The SessionTicket extension with a ticket: R5 for a ticket that is too long for it, then R1.
+pub fn write_ticket(ticket: &[u8], out: &mut [u8]) -> Written
+    ensures { λ r. ⌜ Answers (extensionWritten (ticketExtension (now (ticket .entry)))) (now (out .entry)) r (now (out .exit)) ⌝ }
+{
+    let n = ticket.len();
+    if 65533 < n {
+        return Written::Refused(Refusal::BadValue);
+    }
+    let outer = endian::bytes16(n + 2);
+    let inner = endian::bytes16(n);
+    let head = [0u8, 35, outer[0], outer[1], inner[0], inner[1]];
+    put::two(&head, ticket, out)
+}
+
+// Where the ticket stands in the data of a SessionTicket extension.
+pub fn ticket(contents: &[u8]) -> Part
+    ensures { λ r. ⌜ r ≡ lastAt 2 (now (contents .entry)) 0 ⌝ }
+{
+    place::last16(contents, 0)
 }
