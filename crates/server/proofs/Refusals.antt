@@ -1,0 +1,24 @@
+-- What a refusal does to a connection, by who is given it: an alert closes it, an R number leaves it as it was.
+-- Assumes nothing.
+use mathlib.Core.Path.{_≡_, refl}
+use mathlib.Core.Bool.{cond}
+use Rattle.refusal.specs.declared.Refusal.{Refusal}
+use Rattle.refusal.specs.declared.Refusal.the-variants.{ShortOutput, BadTable, BadSetting, ConnectionOver, BadValue, UnexpectedMessage, HandshakeFailure, IllegalParameter, DecodeError, DecryptError, ProtocolVersion, UnknownPskIdentity}
+use Rattle.refusal.specs.Table.{toClient}
+use Rattle.server.specs.declared.Phase.{Phase}
+use Rattle.server.specs.declared.Connection.{Connection}
+use Rattle.server.specs.Connection.{ended, afterRefusal}
+
+pub alerts-close : (r : Refusal) (c : Connection) → afterRefusal r c ≡ cond (toClient r) (ended Phase.Closed) c
+alerts-close ShortOutput c = refl
+alerts-close BadTable c = refl
+alerts-close BadSetting c = refl
+alerts-close ConnectionOver c = refl
+alerts-close BadValue c = refl
+alerts-close UnexpectedMessage c = refl
+alerts-close HandshakeFailure c = refl
+alerts-close IllegalParameter c = refl
+alerts-close DecodeError c = refl
+alerts-close DecryptError c = refl
+alerts-close ProtocolVersion c = refl
+alerts-close UnknownPskIdentity c = refl

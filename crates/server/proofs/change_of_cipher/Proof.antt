@@ -1,0 +1,91 @@
+-- `server::change_of_cipher` meets its contract, phase by phase.
+-- Assumes nothing.
+use mathlib.Core.Path.{_≡_, sym, ap, _∙_}
+use mathlib.Core.List.{[]}
+use Rattle.server.specs.declared.Phase.{Phase}
+use Rattle.server.specs.declared.Connection.{Connection}
+use Rattle.server.specs.Steps.{answered, settled, changeStep}
+use borrow.Author.Needs.{needs}
+use Rattle.server.proofs.change_of_cipher.Statement.{statement}
+use Rattle.server.proofs.change_of_cipher.Tie as tie
+
+-- the step in a phase, where the connection itself comes back and so names its own phase
+over : (c : Connection) {p : Phase} → c .phase ≡ p → answered (settled c [] (changeStep c p)) ≡ answered (settled c [] (changeStep c (c .phase)))
+over c e = ap (λ (q : Phase). answered (settled c [] (changeStep c q))) (sym e)
+
+enum-told : tie.Need-enum-told
+enum-told c = search needs
+
+refuse-requires : tie.Need-refuse-requires
+refuse-requires c κs = search needs
+
+enum-told-2 : tie.Need-enum-told-2
+enum-told-2 c = search needs
+
+refuse-requires-2 : tie.Need-refuse-requires-2
+refuse-requires-2 c κs = search needs
+
+enum-told-3 : tie.Need-enum-told-3
+enum-told-3 c = search needs
+
+after-change-requires : tie.Need-after-change-requires
+after-change-requires c κs = search needs
+
+enum-told-4 : tie.Need-enum-told-4
+enum-told-4 c = search needs
+
+refuse-requires-3 : tie.Need-refuse-requires-3
+refuse-requires-3 c κs = search needs
+
+enum-told-5 : tie.Need-enum-told-5
+enum-told-5 c = search needs
+
+refuse-requires-4 : tie.Need-refuse-requires-4
+refuse-requires-4 c κs = search needs
+
+enum-told-6 : tie.Need-enum-told-6
+enum-told-6 c = search needs
+
+refuse-requires-5 : tie.Need-refuse-requires-5
+refuse-requires-5 c κs = search needs
+
+returns : tie.Need-returns
+returns c = rw (c .before .enum-told .given .1) (c .refuse .ensures)
+
+returns-2 : tie.Need-returns-2
+returns-2 c = rw (c .before .enum-told2 .given .1) (c .refuse2 .ensures)
+
+returns-3 : tie.Need-returns-3
+returns-3 c = rw (c .before .enum-told3 .given .1, c .after-change .ensures)
+
+returns-4 : tie.Need-returns-4
+returns-4 c = rw (c .before .enum-told4 .given .1) (c .refuse3 .ensures)
+
+returns-5 : tie.Need-returns-5
+returns-5 c = c .refuse4 .ensures ∙ over (c .before .before .before .args .c) (c .before .enum-told5 .given .1)
+
+returns-6 : tie.Need-returns-6
+returns-6 c = c .refuse5 .ensures ∙ over (c .before .before .before .args .c) (c .before .enum-told6 .given .1)
+
+pub change-of-cipher-spec : {M : Type 1} → statement M
+change-of-cipher-spec =
+    tie.close
+    (tie.spec
+    enum-told
+    refuse-requires
+    enum-told-2
+    refuse-requires-2
+    enum-told-3
+    after-change-requires
+    enum-told-4
+    refuse-requires-3
+    enum-told-5
+    refuse-requires-4
+    enum-told-6
+    refuse-requires-5
+    returns
+    returns-2
+    returns-3
+    returns-4
+    returns-5
+    returns-6)

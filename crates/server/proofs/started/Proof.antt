@@ -1,0 +1,40 @@
+-- `server::started` meets its contract, field by field.
+-- Assumes nothing.
+use Rattle.server.specs.Connection.{started}
+use borrow.Author.Needs.{needs}
+use Rattle.server.proofs.started.Statement.{statement}
+use Rattle.server.proofs.started.Tie as tie
+
+rule-of-requires : tie.Need-rule-of-requires
+rule-of-requires c κs = search needs
+
+hint-field-requires : tie.Need-hint-field-requires
+hint-field-requires c κs = search needs
+
+bytes32-requires : tie.Need-bytes32-requires
+bytes32-requires c κs = search needs
+
+bytes32-requires-2 : tie.Need-bytes32-requires-2
+bytes32-requires-2 c κs = search needs
+
+new-requires : tie.Need-new-requires
+new-requires c κs = search needs
+
+returns : tie.Need-returns
+unfolding started
+returns c =
+    let at-random = c .before in
+    let at-key = at-random .before in
+    let at-hint = at-key .before in
+    rw (c .new .ensures, at-random .bytes322 .ensures, at-key .bytes32 .ensures, at-hint .hint-field .ensures, at-hint .before .rule-of .ensures)
+
+pub started-spec : {M : Type 1} → statement M
+started-spec =
+    tie.close
+    (tie.spec
+    rule-of-requires
+    hint-field-requires
+    bytes32-requires
+    bytes32-requires-2
+    new-requires
+    returns)
