@@ -57,10 +57,10 @@ abbrev pub chosen : List ℕ → List ℕ → Option ℕ
 chosen [] offered = none
 chosen (s ∷ ss) offered = cond (offers offered s) (some s) (chosen ss offered)
 
--- a compression method 0
-abbrev pub noCompression : List ℕ → Bool
-noCompression [] = false
-noCompression (m ∷ ms) = eqb m 0 || noCompression ms
+-- the compression method 0, null, is among them
+abbrev pub offersNull : List ℕ → Bool
+offersNull [] = false
+offersNull (m ∷ ms) = eqb m 0 || offersNull ms
 
 -- "ServerKeyExchange only if the hint isn't empty"
 abbrev pub hintMessage : List ℕ → List ℕ
@@ -99,7 +99,7 @@ abbrev pub helloFields : List ℕ → Connection → List ℕ → Option ClientH
 helloFields ours c m none = refuse DecodeError
 helloFields ours c m (some f) =
     cond (ltb (f .version) 0x0303) (refuse ProtocolVersion)
-    (cond (not (noCompression (f .methods))) (refuse IllegalParameter)
+    (cond (not (offersNull (f .methods))) (refuse IllegalParameter)
     (helloChosen c m f (chosen ours (f .suites))))
 
 -- ---- 2. ClientKeyExchange
