@@ -1,4 +1,3 @@
 pub mod HmacSteps
 pub mod PremasterParts
 pub mod PrfSteps
-pub mod Worked

@@ -11,4 +11,3 @@ pub mod Parts
 pub mod Tests
 pub mod Texts
 pub mod Walks
-pub mod Worked

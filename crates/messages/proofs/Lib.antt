@@ -12,4 +12,3 @@ pub mod Puts
 pub mod Refusals
 pub mod ServerHellos
 pub mod Windows
-pub mod Worked

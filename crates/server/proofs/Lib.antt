@@ -1,1 +1,3 @@
+pub mod Hellos
 pub mod Refusals
+pub mod Secrets

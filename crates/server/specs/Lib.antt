@@ -1,2 +1,3 @@
 pub mod Connection
+pub mod Inner
 pub mod Steps

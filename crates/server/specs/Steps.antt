@@ -4,7 +4,7 @@ use Prim.Native.Nat.{ℕ}
 use mathlib.Core.Bool.{Bool, true, false, cond, not, _&&_, _||_}
 use mathlib.Core.List.{List, [], _∷_, _++_}
 use mathlib.Core.Option.{Option, none, some}
-use lib.ListN.{length}
+use lib.ListN.{length, replicate}
 use lib.Dec.{ltb, eqb}
 use Rattle.endian.specs.Number.{number}
 use Rattle.refusal.specs.Lent.{Outcome, gives, refuses, within, answer, after}
@@ -14,7 +14,8 @@ use Rattle.refusal.specs.declared.Written.{Written}
 use Rattle.sha256.specs.State.{absorb, finished}
 use Rattle.sha256.specs.declared.Sha256.{Sha256}
 use Rattle.keys.specs.declared.Side.the-variants.{Client, Server}
-use Rattle.keys.specs.Secrets.{premasterBytes, master, verifyData}
+use Rattle.keys.specs.declared.Side.{Side}
+use Rattle.keys.specs.Secrets.{premaster, master, verifyData}
 use Rattle.messages.specs.declared.Verdict.{Verdict}
 use Rattle.messages.specs.Layout.{bytes}
 use Rattle.messages.specs.Header.{header}
@@ -23,11 +24,12 @@ use Rattle.messages.specs.ServerHello.{serverHello}
 use Rattle.messages.specs.KeyExchange.{serverKeyExchange}
 use Rattle.messages.specs.Fixed as Fixed
 use Rattle.messages.specs.Place.{lastAt, filledBy, contents}
-use Rattle.keytable.specs.Table.{same}
+use Rattle.keytable.specs.Table.{same, wellFormed, keyOf}
 use Rattle.server.specs.declared.Rule.{Rule}
 use Rattle.server.specs.declared.Phase.{Phase}
 use Rattle.server.specs.declared.Connection.{Connection}
 use Rattle.server.specs.declared.Answer.{Answer}
+use Rattle.server.specs.declared.Reply.{Reply}
 use Rattle.server.specs.Connection.{ended, afterRefusal, hintOf}
 
 -- what a step comes to: a refusal, or bytes for the client and the connection as it is then
@@ -35,10 +37,18 @@ pub data Step : Type 0 where
   refuse : Refusal → Step
   accept : (flight : List ℕ) (next : Connection) → Step
 
--- the bytes of a value that has no refusal where it is used
-abbrev pub bytesOf : Outcome → List ℕ
-bytesOf (gives b) = b
-bytesOf (refuses r) = []
+-- a value made from another one, which may be refused
+abbrev pub andThen : Outcome → (List ℕ → Outcome) → Outcome
+andThen (gives b) next = next b
+andThen (refuses r) next = refuses r
+
+-- What the server knows of a key table: whether it is well formed, and a lookup from identity to key.
+pub record View : Type 0 where
+  pub good : Bool
+  pub lookup : List ℕ → Option (List ℕ)
+
+abbrev pub viewOf : List ℕ → View
+viewOf table = record { good = wellFormed table; lookup = keyOf table }
 
 -- ---- 1. ClientHello
 
@@ -68,10 +78,13 @@ hintMessage [] = []
 hintMessage (b ∷ hint) = bytes serverKeyExchange (b ∷ hint)
 
 -- "Answer: ServerHello (0x0303, empty session id, compression 0, no extension block), ServerKeyExchange only if the hint isn't empty, ServerHelloDone."
+abbrev pub flight : (random hint : List ℕ) → ℕ → List ℕ
+flight random hint suite =
+    bytes serverHello (record { version = 0x0303; random = random; sessionId = []; suite = suite; compression = 0; extensions = none })
+    ++ (hintMessage hint ++ bytes Fixed.serverHelloDone [])
+
 abbrev pub flightFor : Connection → ℕ → List ℕ
-flightFor c suite =
-    bytes serverHello (record { version = 0x0303; random = c .«server_random»; sessionId = []; suite = suite; compression = 0; extensions = none })
-    ++ (hintMessage (hintOf c) ++ bytes Fixed.serverHelloDone [])
+flightFor c suite = flight (c .«server_random») (hintOf c) suite
 
 -- after the hello m, which chose the suite, and its answer
 abbrev pub afterHello : Connection → List ℕ → ClientHello → ℕ → Connection
@@ -104,9 +117,14 @@ helloFields ours c m (some f) =
 
 -- ---- 2. ClientKeyExchange
 
--- the master secret from a key
-abbrev pub masterFrom : List ℕ → Connection → List ℕ
-masterFrom key c = bytesOf (master (premasterBytes key) (c .«client_random») (c .«server_random»))
+-- the master secret from a key and the two randoms
+abbrev pub masterUnder : (key client server : List ℕ) → Outcome
+masterUnder key client server = andThen (premaster key) (λ secret. master secret client server)
+
+-- the bytes of a value; a key of 1 to 64 bytes, which every key of a table is, has a master secret
+abbrev pub bytesOf : Outcome → List ℕ
+bytesOf (gives b) = b
+bytesOf (refuses r) = []
 
 -- after the key exchange m
 abbrev pub afterKeys : Connection → List ℕ → List ℕ → Bool → Connection
@@ -121,7 +139,7 @@ afterKeys c m key listed =
       «stand_in» = c .«stand_in»;
       «server_random» = c .«server_random»;
       «client_random» = c .«client_random»;
-      master = masterFrom key c;
+      master = bytesOf (masterUnder key (c .«client_random») (c .«server_random»));
       transcript = absorb (c .transcript) m;
     }
 
@@ -141,15 +159,25 @@ keyIdentity lookup c m (some identity) = keyFound c m (lookup identity)
 
 -- ---- 4. Finished
 
--- SHA-256 of all handshake messages that a connection has counted
-abbrev pub handshakeHash : Sha256 → List ℕ
-handshakeHash t = bytesOf (finished t)
+-- the Finished value of a side, whose seed is SHA-256 of all messages in the transcript; none past the hash's limit, which no series of calls reaches
+abbrev pub finishedOf : Side → List ℕ → Sha256 → Outcome
+finishedOf side secret transcript = andThen (finished transcript) (verifyData side secret)
 
--- "Unlisted identity, or wrong value: 51. Else answer the server's Finished, 16 bytes; complete." The server's value counts the client's Finished m.
+-- the value is that one
+abbrev pub isValue : List ℕ → Outcome → Bool
+isValue value (gives b) = same value b
+isValue value (refuses r) = false
+
+-- "Else answer the server's Finished, 16 bytes; complete."
+abbrev pub completed : Outcome → Step
+completed (gives value) = accept (bytes Fixed.finished value) (ended Phase.Complete)
+completed (refuses r) = refuse DecryptError
+
+-- "Unlisted identity, or wrong value: 51." The server's value counts the client's Finished m.
 abbrev pub judged : Connection → List ℕ → List ℕ → Step
 judged c m value =
-    cond (c .listed && same value (bytesOf (verifyData Client (c .master) (handshakeHash (c .transcript)))))
-    (accept (bytes Fixed.finished (bytesOf (verifyData Server (c .master) (handshakeHash (absorb (c .transcript) m))))) (ended Phase.Complete))
+    cond (c .listed && isValue value (finishedOf Client (c .master) (c .transcript)))
+    (completed (finishedOf Server (c .master) (absorb (c .transcript) m)))
     (refuse DecryptError)
 
 -- "Length other than 12: 50."
@@ -169,14 +197,14 @@ abbrev pub unawaited : List ℕ → Step
 unawaited m = cond (ltb (length m) 4) (refuse DecodeError) (refuse UnexpectedMessage)
 
 -- "then, for ClientKeyExchange, R2; then body tests"
-abbrev pub messageStep : List ℕ → Bool → (List ℕ → Option (List ℕ)) → Connection → List ℕ → Phase → Step
-messageStep ours good lookup c m Phase.Hello = afterTests (header 1 m) (helloFields ours c m (clientFields m (clientBody m)))
-messageStep ours good lookup c m Phase.KeyExchange =
-    afterTests (header 16 m) (cond good (keyIdentity lookup c m (contents m (lastAt 2 m 4))) (refuse BadTable))
-messageStep ours good lookup c m Phase.Change = unawaited m
-messageStep ours good lookup c m Phase.Finished = afterTests (header 20 m) (finishedValue c m (contents m (filledBy 12 m)))
-messageStep ours good lookup c m Phase.Complete = refuse ConnectionOver
-messageStep ours good lookup c m Phase.Closed = refuse ConnectionOver
+abbrev pub messageStep : List ℕ → View → Connection → List ℕ → Phase → Step
+messageStep ours v c m Phase.Hello = afterTests (header 1 m) (helloFields ours c m (clientFields m (clientBody m)))
+messageStep ours v c m Phase.KeyExchange =
+    afterTests (header 16 m) (cond (v .good) (keyIdentity (v .lookup) c m (contents m (lastAt 2 m 4))) (refuse BadTable))
+messageStep ours v c m Phase.Change = unawaited m
+messageStep ours v c m Phase.Finished = afterTests (header 20 m) (finishedValue c m (contents m (filledBy 12 m)))
+messageStep ours v c m Phase.Complete = refuse ConnectionOver
+messageStep ours v c m Phase.Closed = refuse ConnectionOver
 
 -- ---- 3. a change of cipher: "Elsewhere it is 10 .. On a complete or closed connection R4."
 
@@ -222,7 +250,8 @@ alertStep c level description =
 
 -- ---- what a call gives back
 
-pub record Reply : Type 0 where
+-- what is said, the lent output afterwards, and the connection as it is then
+pub record Settled : Type 0 where
   pub said : Written
   pub out : List ℕ
   pub next : Connection
@@ -238,7 +267,7 @@ nextAfter c step (refuses r) = afterRefusal r c
 nextAfter c (refuse r) (gives b) = afterRefusal r c
 nextAfter c (accept flight next) (gives b) = next
 
-abbrev pub settled : Connection → List ℕ → Step → Reply
+abbrev pub settled : Connection → List ℕ → Step → Settled
 settled c out step =
     record {
       said = answer (within (length out) (outcome step));
@@ -246,6 +275,34 @@ settled c out step =
       next = nextAfter c step (within (length out) (outcome step));
     }
 
+-- the calls: a message with a lent output, a change of cipher and a received alert, which are lent none
+abbrev pub messageCall : View → Connection → List ℕ → List ℕ → Settled
+messageCall v c m out = settled c out (messageStep suites v c m (c .phase))
+
+abbrev pub changeCall : Connection → Settled
+changeCall c = settled c [] (changeStep c (c .phase))
+
+abbrev pub alertCall : Connection → ℕ → ℕ → Settled
+alertCall c level description = settled c [] (alertStep c level description)
+
 -- of a call that is lent no output
-abbrev pub answered : Reply → Answer
-answered r = record { said = r .said; next = r .next }
+abbrev pub answered : Settled → Answer
+answered s = record { said = s .said; next = s .next }
+
+-- "the host is handed the master, for its records": where a ClientKeyExchange was accepted
+abbrev pub handedOver : Phase → Step → Option (List ℕ)
+handedOver Phase.Hello step = none
+handedOver Phase.KeyExchange (refuse r) = none
+handedOver Phase.KeyExchange (accept flight next) = some (next .master)
+handedOver Phase.Change step = none
+handedOver Phase.Finished step = none
+handedOver Phase.Complete step = none
+handedOver Phase.Closed step = none
+
+-- what a message is answered with: zeros where no master is handed over
+abbrev pub withMaster : Settled → Option (List ℕ) → Reply
+withMaster s none = record { said = s .said; handed = false; master = replicate 48 0; next = s .next }
+withMaster s (some secret) = record { said = s .said; handed = true; master = secret; next = s .next }
+
+abbrev pub messageReply : View → Connection → List ℕ → List ℕ → Reply
+messageReply v c m out = withMaster (messageCall v c m out) (handedOver (c .phase) (messageStep suites v c m (c .phase)))

@@ -2,6 +2,10 @@
 //
 // specs/Steps.antt has every step as a definition. Start, a change of cipher and an alert are here;
 // they become public together with the message step.
+mod finished;
+mod hello;
+mod key_exchange;
+
 use refusal::Refusal;
 use refusal::Written;
 use sha256::Sha256;
@@ -12,7 +16,8 @@ ghost use lib.ListN.{length};
 ghost use Rattle.server.specs.Connection as Conn;
 ghost use Rattle.server.specs.Connection.{badSetting, startAnswer};
 ghost use Rattle.server.specs.Steps as Steps;
-ghost use Rattle.server.specs.Steps.{answered, settled, isOver, alertStep, afterChange, changeStep};
+ghost use Rattle.server.specs.Steps.{answered, settled, isOver, alertStep, afterChange, changeStep, unawaited, viewOf, messageCall, messageReply};
+ghost use Rattle.server.specs.Inner as Inner;
 
 // What a connection does where a client names an identity that isn't listed.
 pub enum Rule {
@@ -42,7 +47,7 @@ pub struct Connection {
     phase: Phase,
     rule: Rule,
     // The hint is so many bytes of its field.
-    hint_length: usize,
+    hint_length: u8,
     // What the hello chose.
     suite: u16,
     // Whether the identity that the client named is listed.
@@ -58,8 +63,17 @@ pub struct Connection {
 
 // What a call that writes nothing gives back: no bytes or a refusal, and the connection.
 pub struct Answer {
-    said: Written,
-    next: Connection,
+    pub said: Written,
+    pub next: Connection,
+}
+
+// What a message is answered with: how many bytes were written or a refusal, the master secret where
+// one is handed over, and the connection.
+pub struct Reply {
+    pub said: Written,
+    pub handed: bool,
+    pub master: [u8; 48],
+    pub next: Connection,
 }
 
 // The fixed value of a connection that is over.
@@ -113,7 +127,7 @@ fn is_over(phase: Phase) -> bool
 }
 
 // A received alert.
-fn alert(c: Connection, level: u8, description: u8) -> Answer
+pub fn alert(c: Connection, level: u8, description: u8) -> Answer
     ensures { λ a. ⌜ a ≡ answered (settled c [] (alertStep c level description)) ⌝ }
 {
     let phase = c.phase;
@@ -170,7 +184,7 @@ fn after_change(c: Connection) -> Connection
 }
 
 // A change of cipher.
-fn change_of_cipher(c: Connection) -> Answer
+pub fn change_of_cipher(c: Connection) -> Answer
     ensures { λ a. ⌜ a ≡ answered (settled c [] (changeStep c (c .phase))) ⌝ }
 {
     let phase = c.phase;
@@ -235,7 +249,7 @@ fn started(random: &[u8], hint: &[u8], stand_in: &[u8], named: Named) -> Connect
     Connection {
         phase: Phase::Hello,
         rule,
-        hint_length: hint.len(),
+        hint_length: hint.len() as u8,
         suite: 0,
         listed: false,
         hint: field,
@@ -258,7 +272,7 @@ fn bad_setting() -> Answer
 }
 
 // A connection that awaits a ClientHello, or R3.
-fn start(random: &[u8], hint: &[u8], stand_in: &[u8], named: Named) -> Answer
+pub fn start(random: &[u8], hint: &[u8], stand_in: &[u8], named: Named) -> Answer
     ensures { λ r. ⌜ r ≡ startAnswer (record { random = now (random .entry); hint = now (hint .entry); standIn = now («stand_in» .entry); named = named }) ⌝ }
 {
     if random.len() != 32 {
@@ -277,5 +291,65 @@ fn start(random: &[u8], hint: &[u8], stand_in: &[u8], named: Named) -> Answer
     Answer {
         said: Written::Wrote(0),
         next,
+    }
+}
+
+// A message where none is awaited.
+fn unawaited(c: Connection, m: &[u8]) -> Answer
+    ensures { λ a. ⌜ a ≡ answered (settled c [] (Steps.unawaited (now (m .entry)))) ⌝ }
+{
+    if m.len() < 4 {
+        return refuse(c, Refusal::DecodeError);
+    }
+    refuse(c, Refusal::UnexpectedMessage)
+}
+
+// The reply to a message that hands over no master secret.
+fn without_master(a: Answer) -> Reply
+    ensures { λ r. ⌜ r ≡ Inner.withoutMaster a ⌝ }
+{
+    let said = a.said;
+    let next = a.next;
+    Reply {
+        said,
+        handed: false,
+        master: [0u8; 48],
+        next,
+    }
+}
+
+// The reply to a key exchange: the master secret is handed over where it was accepted.
+fn with_master(a: Answer) -> Reply
+    ensures { λ r. ⌜ r ≡ Inner.withMasterOf a ⌝ }
+{
+    let said = a.said;
+    let next = a.next;
+    match said {
+        Written::Wrote(_) => {
+            let master = next.master;
+            Reply {
+                said,
+                handed: true,
+                master,
+                next,
+            }
+        }
+        Written::Refused(_) => without_master(a),
+    }
+}
+
+// A handshake message.
+pub fn message(c: Connection, table: &[u8], m: &[u8], out: &mut [u8]) -> Reply
+    ensures { λ r. ⌜ (r ≡ messageReply (viewOf (now (table .entry))) c (now (m .entry)) (now (out .entry)))
+        × (now (out .exit) ≡ messageCall (viewOf (now (table .entry))) c (now (m .entry)) (now (out .entry)) .out) ⌝ }
+{
+    let phase = c.phase;
+    match phase {
+        Phase::Hello => without_master(hello::step(c, m, out)),
+        Phase::KeyExchange => with_master(key_exchange::step(c, table, m)),
+        Phase::Change => without_master(unawaited(c, m)),
+        Phase::Finished => without_master(finished::step(c, m, out)),
+        Phase::Complete => without_master(refuse(c, Refusal::ConnectionOver)),
+        Phase::Closed => without_master(refuse(c, Refusal::ConnectionOver)),
     }
 }

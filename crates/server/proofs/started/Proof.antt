@@ -1,6 +1,7 @@
 -- `server::started` meets its contract, field by field.
 -- Assumes nothing.
 use Rattle.server.specs.Connection.{started}
+use native.Mathlib.Omega.{arith}
 use borrow.Author.Needs.{needs}
 use Rattle.server.proofs.started.Statement.{statement}
 use Rattle.server.proofs.started.Tie as tie
@@ -20,6 +21,9 @@ bytes32-requires-2 c κs = search needs
 new-requires : tie.Need-new-requires
 new-requires c κs = search needs
 
+cast-t12 : tie.Need-cast-t12
+cast-t12 c = omega arith
+
 returns : tie.Need-returns
 unfolding started
 returns c =
@@ -37,4 +41,5 @@ started-spec =
     bytes32-requires
     bytes32-requires-2
     new-requires
+    cast-t12
     returns)

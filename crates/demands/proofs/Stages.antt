@@ -1,0 +1,245 @@
+-- The stages of a connection, from a start on, as far as the change of cipher, and those where it is over: what it is there, and what every call makes of it.
+-- Finishing.antt has the stage between.
+-- Assumes nothing.
+use mathlib.Core.Path.{_≡_, refl, ap, _∙_}
+use mathlib.Core.Logic.{_⊎_, inl, inr}
+use Prim.Native.Nat.{ℕ, _-_, _≤_}
+use native.Mathlib.Omega.{arith}
+use native.Mathlib.Decide.{decLe}
+use mathlib.Core.Bool.{Bool, true, false, cond, not}
+use mathlib.Core.List.{List, []}
+use mathlib.Core.Option.{Option, none, some}
+use lib.ListN.{length, replicate}
+use lib.Seq.{take-append-seam}
+use lib.Dec.{ltb}
+use borrow.Author.Tests.{ltb-false, le-ltb}
+use Rattle.refusal.specs.declared.Refusal.the-variants.{UnexpectedMessage, HandshakeFailure, IllegalParameter, DecodeError, ProtocolVersion, UnknownPskIdentity}
+use Rattle.messages.specs.declared.Verdict.{Verdict}
+use Rattle.messages.specs.Header.{header}
+use Rattle.messages.specs.Place.{lastAt, afterHeader, contents}
+use Rattle.messages.specs.ClientHello.{ClientHello, clientHeader, clientFields, readClientHello}
+use Rattle.messages.specs.KeyExchange.{readVector}
+use Rattle.server.specs.declared.Rule.{Rule}
+use Rattle.server.specs.declared.Phase.{Phase}
+use Rattle.server.specs.declared.Connection.{Connection}
+use Rattle.server.specs.Connection.{Settings, ruleOf, started, ended, hintOf}
+use Rattle.server.specs.Steps.{Step, refuse, accept, View, suites, chosen, offersNull, flight, flightFor, afterHello, helloChosen, helloFields, afterKeys, keyFound, keyIdentity, messageStep, afterChange, settled}
+use Rattle.demands.specs.Series.{Call, message, changeOfCipher, alert, call}
+use Rattle.demands.specs.Terms.{LegalHello, LegalKeyExchange, flightTo, IgnoredWarning, Aside, ShortHello, BadTableCall}
+use Rattle.demands.proofs.Settling.{refused-closes, accepted-next, short-stays, Alerts, Fate, warning-stays, alert-fate, Tested, header-tested, unread, unread-alerts, orRefuse, step-read}
+
+-- ---- awaiting the ClientHello
+
+-- what the connection is after a legal ClientHello
+abbrev pub helloed : Settings → {hello : List ℕ} → LegalHello hello → Connection
+helloed s {hello} legal = afterHello (started s) hello (legal .fields) (legal .suite)
+
+hint-kept : (s : Settings) → hintOf (started s) ≡ s .hint
+unfolding started
+hint-kept s = take-append-seam (s .hint) (replicate (128 - length (s .hint)) 0)
+
+pub flight-is : (s : Settings) (suite : ℕ) → flightFor (started s) suite ≡ flight (s .random) (s .hint) suite
+unfolding started
+flight-is s suite = ap (λ (hint : List ℕ). flight (s .random) hint suite) (hint-kept s)
+
+-- a legal ClientHello with room for its answer
+pub record HelloComes (s : Settings) (x : Call) : Type 0 where
+  pub hello : List ℕ
+  pub out : List ℕ
+  pub is : x ≡ message hello out
+  pub legal : LegalHello hello
+  pub room : length (flightTo s legal) ≤ length out
+
+module _ (s : Settings) (v : View) where
+  abbrev helloStep : List ℕ → Step
+  helloStep m = messageStep suites v (started s) m Phase.Hello
+
+  hello-read : (m : List ℕ) → helloStep m ≡ orRefuse (unread 1 m) (λ f. helloFields suites (started s) m (some f)) (readClientHello m)
+  hello-read m = step-read (λ h. clientFields m (clientHeader m h)) (λ r. refl) (helloFields suites (started s) m) refl (header 1 m)
+
+  pub hello-legal : {m : List ℕ} (legal : LegalHello m) → helloStep m ≡ accept (flightTo s legal) (helloed s legal)
+  hello-legal {m} legal =
+      hello-read m ∙ rw (legal .read, le-ltb (legal .fields .version) 0x0303 (legal .version), legal .null)
+      (ap (helloChosen (started s) m (legal .fields)) (legal .common) ∙ rw (flight-is s (legal .suite)))
+
+  pub hello-other : (m : List ℕ) → LegalHello m ⊎ Alerts (helloStep m)
+  hello-other m = of-read (readClientHello m) refl
+    where
+      of-suites : (f : ClientHello) → readClientHello m ≡ some f → 0x0303 ≤ f .version → offersNull (f .methods) ≡ true
+          → (o : Option ℕ) → chosen suites (f .suites) ≡ o → LegalHello m ⊎ Alerts (helloChosen (started s) m f o)
+      of-suites f read version null none common = inr (HandshakeFailure, refl, refl)
+      of-suites f read version null (some suite) common =
+          inl (record { fields = f; read = read; version = version; null = null; suite = suite; common = common })
+
+      of-null : (f : ClientHello) → readClientHello m ≡ some f → 0x0303 ≤ f .version → (b : Bool) → offersNull (f .methods) ≡ b
+          → LegalHello m ⊎ Alerts (cond (not b) (refuse IllegalParameter) (helloChosen (started s) m f (chosen suites (f .suites))))
+      of-null f read version true null = of-suites f read version null (chosen suites (f .suites)) refl
+      of-null f read version false null = inr (IllegalParameter, refl, refl)
+
+      of-version : (f : ClientHello) → readClientHello m ≡ some f → (b : Bool) → ltb (f .version) 0x0303 ≡ b → LegalHello m
+          ⊎ Alerts (cond b (refuse ProtocolVersion)
+          (cond (not (offersNull (f .methods))) (refuse IllegalParameter) (helloChosen (started s) m f (chosen suites (f .suites)))))
+      of-version f read true version = inr (ProtocolVersion, refl, refl)
+      of-version f read false version = of-null f read (ltb-false (f .version) 0x0303 version) (offersNull (f .methods)) refl
+
+      of-read : (o : Option ClientHello) → readClientHello m ≡ o → LegalHello m ⊎ Alerts (helloStep m)
+      of-read none read = inr (unread 1 m, hello-read m ∙ rw read, unread-alerts 1 m)
+      of-read (some f) read =
+          let step : helloStep m ≡ helloFields suites (started s) m (some f) = hello-read m ∙ rw read in
+          rw step (of-version f read (ltb (f .version) 0x0303) refl)
+
+  pub hello-stays : (x : Call) → Aside (ShortHello s) x → call v (started s) x .next ≡ started s
+  unfolding started
+  hello-stays x (inl warning) = warning-stays v (started s) refl x warning
+  hello-stays x (inr short) =
+      rw (short .is) (short-stays (started s) (short .out) _ (flightTo s (short .legal)) (helloed s (short .legal)) (hello-legal (short .legal)) (short .short))
+
+  pub hello-comes : (x : Call) (comes : HelloComes s x) → call v (started s) x .next ≡ helloed s (comes .legal)
+  unfolding started
+  hello-comes x comes =
+      rw (comes .is)
+      (accepted-next (started s) (comes .out) _ (flightTo s (comes .legal)) (helloed s (comes .legal)) (hello-legal (comes .legal)) (comes .room))
+
+  pub hello-fate : (x : Call) → Fate v (started s) (Aside (ShortHello s)) (HelloComes s) x
+  unfolding started
+  hello-fate (message m out) = go (hello-other m)
+    where
+      legally : (legal : LegalHello m) → Dec (length (flightTo s legal) ≤ length out) → Fate v (started s) (Aside (ShortHello s)) (HelloComes s) (message m out)
+      legally legal (yes room) = inr (inl (record { hello = m; out = out; is = refl; legal = legal; room = room }))
+      legally legal (no short) = inl (inr (record { hello = m; out = out; is = refl; legal = legal; short = omega arith }))
+
+      go : LegalHello m ⊎ Alerts (helloStep m) → Fate v (started s) (Aside (ShortHello s)) (HelloComes s) (message m out)
+      go (inl legal) = legally legal (decLe (length (flightTo s legal)) (length out))
+      go (inr alerts) = inr (inr (refused-closes (started s) out (helloStep m) (alerts .0) (alerts .1) (alerts .2)))
+  hello-fate changeOfCipher = inr (inr refl)
+  hello-fate (alert level description) = alert-fate v (started s) refl (Aside (ShortHello s)) (HelloComes s) (λ x. inl) level description
+
+-- ---- awaiting the ClientKeyExchange
+
+-- the key that the master secret is made of, by what the table has for the identity
+abbrev keyUsed : Settings → Option (List ℕ) → List ℕ
+keyUsed s none = started s .«stand_in»
+keyUsed s (some key) = key
+
+abbrev isListed : Option (List ℕ) → Bool
+isListed none = false
+isListed (some key) = true
+
+-- what the connection is after a legal ClientKeyExchange that was accepted, by what the table has for its identity
+abbrev pub keyed : Settings → {hello : List ℕ} → LegalHello hello → List ℕ → Option (List ℕ) → Connection
+keyed s legal exchange found = afterKeys (helloed s legal) exchange (keyUsed s found) (isListed found)
+
+-- "Under tell, an unlisted identity is 115."
+abbrev pub unknown : Rule → Option (List ℕ) → Bool
+unknown Rule.Tell none = true
+unknown Rule.Tell (some key) = false
+unknown Rule.Hide found = false
+
+-- a legal ClientKeyExchange, with a table that is well formed
+pub record ExchangeComes (v : View) (x : Call) : Type 0 where
+  pub exchange : List ℕ
+  pub out : List ℕ
+  pub is : x ≡ message exchange out
+  pub good : v .good ≡ true
+  pub legal : LegalKeyExchange exchange
+
+module _ (s : Settings) (v : View) {hello : List ℕ} (legal : LegalHello hello) where
+  abbrev exchangeStep : List ℕ → Step
+  exchangeStep m = messageStep suites v (helloed s legal) m Phase.KeyExchange
+
+  pub exchange-read : (m : List ℕ) → v .good ≡ true
+      → exchangeStep m ≡ orRefuse (unread 16 m) (λ identity. keyFound (helloed s legal) m (v .lookup identity)) (readVector 16 m)
+  exchange-read m good =
+      rw good (step-read (λ h. contents m (afterHeader h (lastAt 2 m 4))) (λ r. refl) (keyIdentity (v .lookup) (helloed s legal) m) refl (header 16 m))
+
+  found-step : (m : List ℕ) (found : Option (List ℕ)) → keyFound (helloed s legal) m found
+      ≡ cond (unknown (ruleOf (s .named)) found) (refuse UnknownPskIdentity) (accept [] (keyed s legal m found))
+  unfolding started
+  found-step m found = go (ruleOf (s .named)) refl found
+    where
+      go : (rule : Rule) → started s .rule ≡ rule → (o : Option (List ℕ))
+          → keyFound (helloed s legal) m o ≡ cond (unknown rule o) (refuse UnknownPskIdentity) (accept [] (keyed s legal m o))
+      go Rule.Tell e none = rw e
+      go Rule.Tell e (some key) = refl
+      go Rule.Hide e none = rw e
+      go Rule.Hide e (some key) = refl
+
+  pub exchange-legal : {m : List ℕ} → v .good ≡ true → (exchange : LegalKeyExchange m) → exchangeStep m
+      ≡ cond (unknown (ruleOf (s .named)) (v .lookup (exchange .identity))) (refuse UnknownPskIdentity)
+      (accept [] (keyed s legal m (v .lookup (exchange .identity))))
+  exchange-legal {m} good exchange = exchange-read m good ∙ rw (exchange .read) (found-step m (v .lookup (exchange .identity)))
+
+  pub exchange-stays : (x : Call) → Aside (BadTableCall v) x → call v (helloed s legal) x .next ≡ helloed s legal
+  exchange-stays x (inl warning) = warning-stays v (helloed s legal) refl x warning
+  exchange-stays x (inr bad) = rw (bad .is, bad .fits, bad .bad)
+
+  pub exchange-comes : (x : Call) (comes : ExchangeComes v x) → call v (helloed s legal) x .next
+      ≡ cond (unknown (ruleOf (s .named)) (v .lookup (comes .legal .identity))) (ended Phase.Closed)
+      (keyed s legal (comes .exchange) (v .lookup (comes .legal .identity)))
+  exchange-comes x comes =
+      rw (comes .is, exchange-legal (comes .good) (comes .legal))
+      (go (unknown (ruleOf (s .named)) (v .lookup (comes .legal .identity))) (keyed s legal (comes .exchange) (v .lookup (comes .legal .identity))))
+    where
+      go : (b : Bool) (next : Connection)
+          → settled (helloed s legal) (comes .out) (cond b (refuse UnknownPskIdentity) (accept [] next)) .next ≡ cond b (ended Phase.Closed) next
+      go true next = refl
+      go false next = accepted-next (helloed s legal) (comes .out) (accept [] next) [] next refl (omega arith)
+
+  pub exchange-fate : (x : Call) → Fate v (helloed s legal) (Aside (BadTableCall v)) (ExchangeComes v) x
+  exchange-fate (message m out) = of-table (v .good) refl
+    where
+      refused : Alerts (exchangeStep m) → Fate v (helloed s legal) (Aside (BadTableCall v)) (ExchangeComes v) (message m out)
+      refused alerts = inr (inr (refused-closes (helloed s legal) out (exchangeStep m) (alerts .0) (alerts .1) (alerts .2)))
+
+      of-read : v .good ≡ true → (o : Option (List ℕ)) → readVector 16 m ≡ o
+          → Fate v (helloed s legal) (Aside (BadTableCall v)) (ExchangeComes v) (message m out)
+      of-read good none read = refused (unread 16 m, exchange-read m good ∙ rw read, unread-alerts 16 m)
+      of-read good (some identity) read =
+          inr (inl (record { exchange = m; out = out; is = refl; good = good; legal = record { identity = identity; read = read } }))
+
+      of-header : v .good ≡ false → (h : Verdict) → header 16 m ≡ h → Tested m h
+          → Fate v (helloed s legal) (Aside (BadTableCall v)) (ExchangeComes v) (message m out)
+      of-header bad Verdict.Accepted fits t = inl (inr (record { exchange = m; out = out; is = refl; fits = fits; bad = bad }))
+      of-header bad (Verdict.Refused r) refuses t = refused (r, rw refuses, t)
+
+      of-table : (b : Bool) → v .good ≡ b → Fate v (helloed s legal) (Aside (BadTableCall v)) (ExchangeComes v) (message m out)
+      of-table true good = of-read good (readVector 16 m) refl
+      of-table false bad = of-header bad (header 16 m) refl (header-tested 16 m)
+  exchange-fate changeOfCipher = inr (inr refl)
+  exchange-fate (alert level description) =
+      alert-fate v (helloed s legal) refl (Aside (BadTableCall v)) (ExchangeComes v) (λ x. inl) level description
+
+-- ---- awaiting the change of cipher
+
+-- what the connection is after the change of cipher
+abbrev pub changed : Settings → {hello : List ℕ} → LegalHello hello → List ℕ → Option (List ℕ) → Connection
+changed s legal exchange found = afterChange (keyed s legal exchange found)
+
+module _ (s : Settings) (v : View) {hello : List ℕ} (legal : LegalHello hello) (exchange : List ℕ) (found : Option (List ℕ)) where
+  pub change-stays : (x : Call) → IgnoredWarning x → call v (keyed s legal exchange found) x .next ≡ keyed s legal exchange found
+  change-stays = warning-stays v (keyed s legal exchange found) refl
+
+  pub change-comes : call v (keyed s legal exchange found) changeOfCipher .next ≡ changed s legal exchange found
+  change-comes = refl
+
+  pub change-fate : (x : Call) → Fate v (keyed s legal exchange found) IgnoredWarning (λ y. y ≡ changeOfCipher) x
+  change-fate (message m out) = inr (inr (go (ltb (length m) 4)))
+    where
+      go : (b : Bool) → settled (keyed s legal exchange found) out (cond b (refuse DecodeError) (refuse UnexpectedMessage)) .next ≡ ended Phase.Closed
+      go true = refl
+      go false = refl
+  change-fate changeOfCipher = inr (inl refl)
+  change-fate (alert level description) =
+      alert-fate v (keyed s legal exchange found) refl IgnoredWarning (λ y. y ≡ changeOfCipher) (λ x h. h) level description
+
+-- ---- over
+
+pub closed-stays : (v : View) (x : Call) → call v (ended Phase.Closed) x .next ≡ ended Phase.Closed
+closed-stays v (message m out) = refl
+closed-stays v changeOfCipher = refl
+closed-stays v (alert level description) = refl
+
+pub complete-stays : (v : View) (x : Call) → call v (ended Phase.Complete) x .next ≡ ended Phase.Complete
+complete-stays v (message m out) = refl
+complete-stays v changeOfCipher = refl
+complete-stays v (alert level description) = refl

@@ -1,0 +1,66 @@
+-- Demand 3, both halves: each is one statement about every series of calls from an accepted start. specs/Series.antt has the calls and the run,
+-- specs/Terms.antt the terms. proofs/Sameness.antt and proofs/Completion.antt prove them.
+use mathlib.Core.Path.{_≡_}
+use mathlib.Core.Logic.{_↔_}
+use Prim.Native.Nat.{ℕ, _≤_}
+use mathlib.Core.Bool.{true}
+use mathlib.Core.List.{List, _∷_, _++_}
+use lib.ListN.{length}
+use Rattle.keytable.specs.Table.{wellFormed}
+use Rattle.keytable.specs.WellFormed.{LineRemoved}
+use Rattle.server.specs.declared.Rule.{Rule}
+use Rattle.server.specs.declared.Phase.{Phase}
+use Rattle.server.specs.Connection.{Settings, ruleOf, acceptable, startAnswer}
+use Rattle.server.specs.Steps.{View, viewOf}
+use Rattle.demands.specs.Series.{Call, message, run, answers}
+use Rattle.demands.specs.Terms.{AwaitsFinished, RightFinished, named}
+
+-- ---- first half: under the hiding rule, nothing tells which identities are listed
+
+-- "a call in which a Finished right under that identity's key is judged after a ClientKeyExchange that named it"; judged is "a legal Finished in its
+-- place, also where R1 follows", so nothing is asked of the output
+pub record JudgedRight (s : Settings) (v : View) (identity : List ℕ) (calls : List Call) (x : Call) : Type 0 where
+  pub awaits : AwaitsFinished s v calls
+  pub names : named s v (awaits .came) ≡ identity
+  pub finished : List ℕ
+  pub out : List ℕ
+  pub is : x ≡ message finished out
+  pub right : RightFinished s v (awaits .came) finished
+
+-- no call of the series is such a one. "The call that ends the sameness is itself not compared": a series that has one is compared as far as the
+-- call before it.
+abbrev pub NoneJudgedRight : Settings → View → List ℕ → List Call → Type 0
+NoneJudgedRight s v identity calls =
+    (before : List Call) (x : Call) (after : List Call) → calls ≡ before ++ (x ∷ after) → ¬ JudgedRight s v identity before x
+
+-- "two servers under the hiding rule, alike in random, hint and stand-in key, each with an unchanging well-formed table, the second's being the
+-- first's without one identity's line and otherwise the same". The answers are compared over the whole series: said of one call at a time, from alike
+-- connections, it would say nothing of a difference that a call leaves behind for a later one to show.
+abbrev pub Sameness : Type 0
+Sameness =
+    (s : Settings) → acceptable s ≡ true → ruleOf (s .named) ≡ Rule.Hide
+    → (identity table without : List ℕ) → LineRemoved identity table without → wellFormed table ≡ true → wellFormed without ≡ true
+    → (calls : List Call) → NoneJudgedRight s (viewOf table) identity calls
+    → answers (viewOf table) (startAnswer s .next) calls ≡ answers (viewOf without) (startAnswer s .next) calls
+
+-- ---- second half: completes exactly when, under either rule, with a table well formed or not
+
+-- "A legal ClientHello, ClientKeyExchange, change of cipher and Finished came in that order. Until then nothing else came, apart from ignored warnings
+-- and calls refused to the host .. The identity is listed, and the Finished value is demand 2's under its key."
+pub record CameRight (s : Settings) (v : View) (calls : List Call) : Type 0 where
+  pub before : List Call
+  pub awaits : AwaitsFinished s v before
+  pub finished : List ℕ
+  pub out : List ℕ
+  pub rest : List Call
+  pub is : calls ≡ before ++ (message finished out ∷ rest)
+  pub right : RightFinished s v (awaits .came) finished
+  -- with less room it is refused to the host, and counts as not come
+  pub room : 16 ≤ length out
+
+-- Nothing is assumed of the connection's state or of the table: with a table that has to be well formed the statement would leave out R2, and with the
+-- state in the assumption it would say nothing of how a server gets there.
+abbrev pub CompletesExactly : Type 0
+CompletesExactly =
+    (s : Settings) → acceptable s ≡ true → (table : List ℕ) (calls : List Call)
+    → (run (viewOf table) (startAnswer s .next) calls .phase ≡ Phase.Complete) ↔ CameRight s (viewOf table) calls

@@ -1,0 +1,36 @@
+-- A series of calls on one connection (document 01, "The series of demand 3"): "Its calls are handshake messages of any bytes, changes of cipher and
+-- received alerts, in any number and order."
+use Prim.Native.Nat.{ℕ}
+use mathlib.Core.List.{List, [], _∷_}
+use Rattle.refusal.specs.declared.Written.{Written}
+use Rattle.server.specs.declared.Connection.{Connection}
+use Rattle.server.specs.Steps.{View, Settled, messageCall, changeCall, alertCall}
+
+pub data Call : Type 0 where
+  -- out: the bytes of the lent output before the call
+  message : (bytes out : List ℕ) → Call
+  changeOfCipher : Call
+  alert : (level description : ℕ) → Call
+
+-- a call on a connection, by the very definitions that the server's contracts name
+abbrev pub call : View → Connection → Call → Settled
+call v c (message bytes out) = messageCall v c bytes out
+call v c changeOfCipher = changeCall c
+call v c (alert level description) = alertCall c level description
+
+-- "Each gets the connection as the call before left it, refused or not; nobody else writes it or the table meanwhile."
+abbrev pub run : View → Connection → List Call → Connection
+run v c [] = c
+run v c (x ∷ xs) = run v (call v c x .next) xs
+
+-- "Compared at each call: the alert or refusal, the answer's length and the whole output afterwards." The length is in what is said.
+pub record Seen : Type 0 where
+  pub said : Written
+  pub out : List ℕ
+
+abbrev pub seen : Settled → Seen
+seen s = record { said = s .said; out = s .out }
+
+abbrev pub answers : View → Connection → List Call → List Seen
+answers v c [] = []
+answers v c (x ∷ xs) = seen (call v c x) ∷ answers v (call v c x .next) xs

@@ -1,0 +1,141 @@
+-- Document 01's terms for demand 3 ("The series of demand 3"), said of the calls, the settings and the table alone: nothing here speaks of the state
+-- that a server keeps. A message is legal by the layouts' readers, and its value right by the definitions of "Secrets".
+use mathlib.Core.Path.{_≡_}
+use mathlib.Core.Logic.{_⊎_}
+use Prim.Native.Nat.{ℕ, _≤_, _<_}
+use mathlib.Core.Bool.{true, false}
+use mathlib.Core.List.{List, [], _∷_, _++_}
+use mathlib.Core.Option.{some}
+use lib.ListN.{length}
+use Rattle.refusal.specs.Lent.{Outcome, gives}
+use Rattle.sha256.specs.Hash.{sha256}
+use Rattle.keys.specs.declared.Side.the-variants.{Client}
+use Rattle.keys.specs.Secrets.{verifyData}
+use Rattle.messages.specs.declared.Verdict.the-variants.{Accepted}
+use Rattle.messages.specs.Header.{header}
+use Rattle.messages.specs.ClientHello.{ClientHello, readClientHello}
+use Rattle.messages.specs.KeyExchange.{readVector}
+use Rattle.messages.specs.Fixed.{readFixed}
+use Rattle.keytable.specs.WellFormed.{Each}
+use Rattle.server.specs.Connection.{Settings}
+use Rattle.server.specs.Steps.{View, andThen, suites, chosen, offersNull, flight, masterUnder}
+use Rattle.demands.specs.Series.{Call, message, changeOfCipher, alert}
+
+-- ---- "Legal: a ClientHello, ClientKeyExchange or Finished that meets the tests on its header and limit and, of its step, all that answer with an alert,
+-- except whether the identity is listed and the Finished value right. A change of cipher always is." The readers make the tests on header, limit and layout.
+
+pub record LegalHello (m : List ℕ) : Type 0 where
+  pub fields : ClientHello
+  pub read : readClientHello m ≡ some fields
+  pub version : 0x0303 ≤ fields .version
+  pub null : offersNull (fields .methods) ≡ true
+  pub suite : ℕ
+  pub common : chosen suites (fields .suites) ≡ some suite
+
+pub record LegalKeyExchange (m : List ℕ) : Type 0 where
+  pub identity : List ℕ
+  pub read : readVector 16 m ≡ some identity
+
+pub record LegalFinished (m : List ℕ) : Type 0 where
+  pub value : List ℕ
+  pub read : readFixed 20 12 m ≡ some value
+
+-- ---- what a connection's messages are, and what is right
+
+-- the server's answer to a legal ClientHello
+abbrev pub flightTo : Settings → {hello : List ℕ} → LegalHello hello → List ℕ
+flightTo s legal = flight (s .random) (s .hint) (legal .suite)
+
+-- "the value that "Secrets" gives from that key's master and the connection's messages before the Finished": the ClientHello, the server's answer and the
+-- ClientKeyExchange, headers included
+abbrev pub valueUnder : Settings → {hello : List ℕ} → LegalHello hello → (exchange key : List ℕ) → Outcome
+valueUnder s {hello} legal exchange key =
+    andThen (masterUnder key (legal .fields .random) (s .random))
+    (λ secret. andThen (sha256 (hello ++ (flightTo s legal ++ exchange))) (verifyData Client secret))
+
+-- ---- what leaves a series where it was
+
+-- "an alert of level 1 whose description isn't 0"
+abbrev pub IgnoredWarning : Call → Type 0
+IgnoredWarning (message m out) = ⊥
+IgnoredWarning changeOfCipher = ⊥
+IgnoredWarning (alert level description) = (level ≡ 1) × ¬ (description ≡ 0)
+
+-- "ignored warnings and calls refused to the host apart"; which calls are refused to the host depends on what came before
+abbrev pub Aside : (Call → Type 0) → Call → Type 0
+Aside RefusedToHost x = IgnoredWarning x ⊎ RefusedToHost x
+
+-- "R1: it meets every other test, but its output is shorter than the answer", of a ClientHello
+pub record ShortHello (s : Settings) (x : Call) : Type 0 where
+  pub hello : List ℕ
+  pub out : List ℕ
+  pub is : x ≡ message hello out
+  pub legal : LegalHello hello
+  pub short : length out < length (flightTo s legal)
+
+-- "R2, where its order has it: it meets each test that stands before R2, and the table isn't well formed." Those are the tests on the header.
+pub record BadTableCall (v : View) (x : Call) : Type 0 where
+  pub exchange : List ℕ
+  pub out : List ℕ
+  pub is : x ≡ message exchange out
+  pub fits : header 16 exchange ≡ Accepted
+  pub bad : v .good ≡ false
+
+-- ---- what came, call by call: each record says that its message came in its place and that nothing else did
+
+pub record HelloCame (s : Settings) (calls : List Call) : Type 0 where
+  pub before : List Call
+  pub hello : List ℕ
+  pub out : List ℕ
+  pub is : calls ≡ before ++ (message hello out ∷ [])
+  pub aside : Each (Aside (ShortHello s)) before
+  pub legal : LegalHello hello
+  pub room : length (flightTo s legal) ≤ length out
+
+pub record KeyExchangeCame (s : Settings) (v : View) (calls : List Call) : Type 0 where
+  pub first : List Call
+  pub came : HelloCame s first
+  pub between : List Call
+  pub exchange : List ℕ
+  pub out : List ℕ
+  pub is : calls ≡ first ++ (between ++ (message exchange out ∷ []))
+  pub aside : Each (Aside (BadTableCall v)) between
+  pub good : v .good ≡ true
+  pub legal : LegalKeyExchange exchange
+
+pub record ChangeCame (s : Settings) (v : View) (calls : List Call) : Type 0 where
+  pub first : List Call
+  pub came : KeyExchangeCame s v first
+  pub between : List Call
+  pub is : calls ≡ first ++ (between ++ (changeOfCipher ∷ []))
+  pub aside : Each IgnoredWarning between
+
+-- ---- the Finished
+
+module _ (s : Settings) (v : View) {calls : List Call} (came : ChangeCame s v calls) where
+  -- the identity that the ClientKeyExchange named
+  abbrev pub named : List ℕ
+  named = came .came .legal .identity
+
+  -- a legal Finished that is right under the key that the table has for that identity
+  pub record RightFinished (m : List ℕ) : Type 0 where
+    pub legal : LegalFinished m
+    pub key : List ℕ
+    pub listed : v .lookup named ≡ some key
+    pub right : valueUnder s (came .came .came .legal) (came .came .exchange) key ≡ gives (legal .value)
+
+  -- R1 of a Finished: it is right, and its output has less room than the server's Finished takes
+  pub record ShortFinished (x : Call) : Type 0 where
+    pub finished : List ℕ
+    pub out : List ℕ
+    pub is : x ≡ message finished out
+    pub right : RightFinished finished
+    pub short : length out < 16
+
+-- "In its place", of a Finished: what came before it
+pub record AwaitsFinished (s : Settings) (v : View) (calls : List Call) : Type 0 where
+  pub first : List Call
+  pub came : ChangeCame s v first
+  pub between : List Call
+  pub is : calls ≡ first ++ between
+  pub aside : Each (Aside (ShortFinished s v came)) between

@@ -1,0 +1,111 @@
+-- `server::finished::body` meets its contract: the twelve bytes of the body are judged.
+-- Assumes nothing.
+use mathlib.Core.Path.{_≡_, sym, _∙_}
+use Prim.Native.Nat.{ℕ, _+_, _-_}
+use native.Mathlib.Omega.{arith}
+use mathlib.Core.List.{List}
+use lib.ListN.{length, drop, length-drop}
+use lib.Seq.{length-take-le}
+use borrow.Author.Tests.{not-true, not-false}
+use Rattle.messages.specs.declared.Part.the-variants.{At}
+use Rattle.messages.specs.Place.{filledBy}
+use Rattle.server.proofs.Secrets.{filled-there, judged-right, refusing, silent-does}
+use borrow.Author.Needs.{needs}
+use Rattle.server.proofs.finished.body.Statement.{statement}
+use Rattle.server.proofs.finished.body.Tie as tie
+
+-- where the body has twelve bytes
+module _ (c : tie.After-known-told) where
+  abbrev m : List ℕ
+  m = c .before .before .before .before .before .before .args .m .now
+
+  abbrev from : ℕ
+  from = c .before .start .given .0 .0
+
+  abbrev size : ℕ
+  size = c .before .start .given .0 .1 .0
+
+  here : filledBy 12 m ≡ At from size
+  here = sym (c .before .before .before .read-finished-body .ensures) ∙ c .before .start .given .1
+
+  there : (length m ≡ 16) × (from ≡ 4) × (size ≡ 12)
+  there = filled-there m from size here
+
+read-finished-body-requires : tie.Need-read-finished-body-requires
+read-finished-body-requires c κs = search needs
+
+enum-known-start : tie.Need-enum-known-start
+enum-known-start c = search needs
+
+add-right : tie.Need-add-right
+add-right c = let at = there c in omega arith
+
+sub-right : tie.Need-sub-right
+sub-right c = search needs
+
+part-right-start : tie.Need-part-right-start
+part-right-start c = search needs
+
+part-right-end : tie.Need-part-right-end
+part-right-end c = let at = there c in omega arith
+
+right-requires : tie.Need-right-requires
+right-requires c κs =
+    let at = there (c .before) in
+    let rest : length (drop (from (c .before)) (m (c .before))) ≡ 12 = simp length-drop (omega arith) in
+    length-take-le (from (c .before) + size (c .before) - from (c .before)) _ (omega arith) ∙ omega arith
+
+refuse-requires : tie.Need-refuse-requires
+refuse-requires c κs = search needs
+
+returns : tie.Need-returns
+returns c =
+    let args = c .before .before .before .before .before .before .before .before .before .before .args in
+    let right = c .before .before .right in
+    let there = here (c .before .before .before .before) in
+    rw (judged-right (args .c) (args .m .now) there (right .ensures), not-true (right .result) (c .before .if1 .taken))
+    (silent-does _ _ refusing (c .refuse .ensures))
+
+complete-requires : tie.Need-complete-requires
+complete-requires c κs = search needs
+
+enum-told : tie.Need-enum-told
+enum-told c = search needs
+
+refuse-requires-2 : tie.Need-refuse-requires-2
+refuse-requires-2 c κs = search needs
+
+same-length : tie.Need-same-length
+same-length c = search needs
+
+returns-2 : tie.Need-returns-2
+returns-2 c =
+    let at-right = c .before .before .before .before .before in
+    let args = at-right .before .before .before .before .before .before .before .before .args in
+    let right = at-right .right in
+    let there = here (at-right .before .before) in
+    rw (judged-right (args .c) (args .m .now) there (right .ensures), not-false (right .result) (c .before .before .before .before .if1 .left))
+    (c .before .before .complete .ensures)
+
+returns-3 : tie.Need-returns-3
+returns-3 c = rw (← c .before .before .before .read-finished-body .ensures, c .before .enum-told .given .1) (silent-does _ _ refusing (c .refuse2 .ensures))
+
+pub body-spec : {M : Type 1} → statement M
+body-spec =
+    tie.close
+    (tie.spec
+    read-finished-body-requires
+    enum-known-start
+    add-right
+    sub-right
+    part-right-start
+    part-right-end
+    right-requires
+    refuse-requires
+    returns
+    complete-requires
+    enum-told
+    refuse-requires-2
+    same-length
+    returns-2
+    returns-3)

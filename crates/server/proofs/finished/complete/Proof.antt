@@ -1,0 +1,103 @@
+-- `server::finished::complete` meets its contract: no value, a value that was written, or no room for it.
+-- Assumes nothing.
+use mathlib.Core.Path.{_≡_, _∙_}
+use borrow.Author.Tests.{not-true, not-false}
+use Rattle.refusal.specs.Lent.{Outcome, gives}
+use Rattle.sha256.specs.State.{absorb}
+use Rattle.keys.specs.declared.Side.the-variants.{Server}
+use Rattle.messages.specs.Layout.{bytes, written}
+use Rattle.messages.specs.Fixed as Fixed
+use Rattle.server.specs.Steps.{finishedOf}
+use Rattle.server.specs.Inner.{asValue}
+use Rattle.server.proofs.Secrets.{made, not-made, finished-written, answered-all, answered-short, refusing, silent-does}
+use borrow.Author.Needs.{needs}
+use Rattle.server.proofs.finished.complete.Statement.{statement}
+use Rattle.server.proofs.finished.complete.Tie as tie
+
+-- the value is the server's, over the client's Finished too
+module _ (c : tie.After-value-of) where
+  abbrev wanted : Outcome
+  wanted =
+      let args = c .before .before .before .before .before .args in
+      finishedOf Server (args .c .master) (absorb (args .c .transcript) (args .m .now))
+
+  value : c .value-of .result ≡ asValue wanted
+  value = c .value-of .ensures ∙ rw (c .before .update .ensures)
+
+  -- it has twelve bytes, as the message wants it
+  written-value : written Fixed.finished (c .value-of .result .bytes) ≡ gives (bytes Fixed.finished (c .value-of .result .bytes))
+  written-value = finished-written (c .value-of .result .bytes) (search (needs, c .value-of .ok))
+
+given : (c : tie.Else1) → wanted (c .before .before) ≡ gives (c .before .before .value-of .result .bytes)
+given c =
+    let at-value = c .before .before in
+    made (wanted at-value) (value at-value) (not-false (at-value .value-of .result .made) (c .if1 .left))
+
+update-requires : tie.Need-update-requires
+update-requires c κs = search needs
+
+value-of-requires : tie.Need-value-of-requires
+value-of-requires c κs = search needs
+
+refuse-requires : tie.Need-refuse-requires
+refuse-requires c κs = search needs
+
+returns : tie.Need-returns
+returns c =
+    let at-value = c .before .before .before in
+    rw (not-made (wanted at-value) (value at-value) (not-true (at-value .value-of .result .made) (c .before .if1 .taken)))
+    (silent-does _ _ refusing (c .refuse .ensures))
+
+slice-aggregate-write-finished : tie.Need-slice-aggregate-write-finished
+slice-aggregate-write-finished c = search needs
+
+write-finished-requires : tie.Need-write-finished-requires
+write-finished-requires c κs = search needs
+
+enum-told : tie.Need-enum-told
+enum-told c = search needs
+
+ended-requires : tie.Need-ended-requires
+ended-requires c κs = search needs
+
+enum-told-2 : tie.Need-enum-told-2
+enum-told-2 c = search needs
+
+same-length : tie.Need-same-length
+same-length c = search needs
+
+returns-2 : tie.Need-returns-2
+returns-2 c =
+    let write = c .before .before .before .before .before in
+    let at-if = write .before .before .before .before in
+    let at-value = at-if .before .before in
+    rw (given at-if, c .ended .ensures)
+    (answered-all _ _ _ _ (rw (written-value at-value) at (write .write-finished .ensures)) (c .before .enum-told .given .1))
+
+same-length-2 : tie.Need-same-length-2
+same-length-2 c = search needs
+
+returns-3 : tie.Need-returns-3
+returns-3 c =
+    let write = c .before .before .before .before in
+    let at-if = write .before .before .before .before in
+    let at-value = at-if .before .before in
+    rw (given at-if) (answered-short _ _ _ _ (rw (written-value at-value) at (write .write-finished .ensures)) (c .enum-told2 .given .1))
+
+pub complete-spec : {M : Type 1} → statement M
+complete-spec =
+    tie.close
+    (tie.spec
+    update-requires
+    value-of-requires
+    refuse-requires
+    returns
+    slice-aggregate-write-finished
+    write-finished-requires
+    enum-told
+    ended-requires
+    enum-told-2
+    same-length
+    returns-2
+    same-length-2
+    returns-3)

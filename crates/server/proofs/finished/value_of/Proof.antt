@@ -1,0 +1,64 @@
+-- `server::finished::value_of` meets its contract: the hash, and the value over it.
+-- Assumes nothing.
+use mathlib.Core.Path.{_≡_, refl}
+use lib.ListN.{length}
+use Rattle.server.proofs.Secrets.{hash-left, hash-refused, value-left}
+use borrow.Author.Needs.{needs}
+use Rattle.server.proofs.finished.value_of.Statement.{statement}
+use Rattle.server.proofs.finished.value_of.Tie as tie
+
+slice-aggregate-finish : tie.Need-slice-aggregate-finish
+slice-aggregate-finish c = search needs
+
+finish-requires : tie.Need-finish-requires
+finish-requires c κs = search needs
+
+enum-told : tie.Need-enum-told
+enum-told c = search needs
+
+slice-aggregate-finished : tie.Need-slice-aggregate-finished
+slice-aggregate-finished c = search needs
+
+slice-aggregate-finished-2 : tie.Need-slice-aggregate-finished-2
+slice-aggregate-finished-2 c = search needs
+
+slice-aggregate-finished-3 : tie.Need-slice-aggregate-finished-3
+slice-aggregate-finished-3 c = search needs
+
+finished-requires : tie.Need-finished-requires
+finished-requires c κs = search needs
+
+enum-told-2 : tie.Need-enum-told-2
+enum-told-2 c = search needs
+
+returns : tie.Need-returns
+returns c =
+    let start = c .before .before .before .before .before .before .before .before .before .before in
+    let at-hash = c .before .before .before .before .before .before .before .before in
+    let hash = at-hash .finish .last .1 .0 in
+    let of-master : length (start .args .t2) ≡ 48 = search (needs, start .good) in
+    let of-hash : length hash ≡ 32 = search needs in
+    rw (
+      hash-left (start .args .transcript) _ refl of-hash (at-hash .finish .ensures) (c .before .before .before .before .before .enum-told .given .1),
+      value-left (start .args .side) (start .args .t2) hash _ of-master of-hash refl (c .before .finished .ensures),
+    )
+
+returns-2 : tie.Need-returns-2
+returns-2 c =
+    let at-hash = c .before .before .before in
+    rw (hash-refused (at-hash .before .before .args .transcript) _ refl (at-hash .finish .ensures) (c .enum-told2 .given .1))
+
+pub value-of-spec : {M : Type 1} → statement M
+value-of-spec =
+    tie.close
+    (tie.spec
+    slice-aggregate-finish
+    finish-requires
+    enum-told
+    slice-aggregate-finished
+    slice-aggregate-finished-2
+    slice-aggregate-finished-3
+    finished-requires
+    enum-told-2
+    returns
+    returns-2)

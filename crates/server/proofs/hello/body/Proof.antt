@@ -1,0 +1,213 @@
+-- `server::hello::body` meets its contract: where the parts stand, and what their tests showed, decide as in `helloFields`.
+-- Assumes nothing.
+use mathlib.Core.Path.{_≡_, sym, ap, _∙_}
+use native.Mathlib.Nat.{add-sub-cancel-left}
+use native.Mathlib.Omega.{arith}
+use lib.ListN.{take, drop}
+use borrow.Author.Tests.{not-true, not-false}
+use Rattle.refusal.specs.declared.Refusal.the-variants.{HandshakeFailure, IllegalParameter, DecodeError, ProtocolVersion}
+use Rattle.messages.specs.declared.client_hello.Client.{Client}
+use Rattle.messages.specs.declared.client_hello.Client.the-variants.{Read}
+use Rattle.messages.specs.Hello.{blockContents}
+use Rattle.messages.specs.ClientHello.{ClientHello, clientBody, clientFields}
+use Rattle.server.specs.Steps.{suites, chosen, offersNull, helloChosen, helloFields}
+use Rattle.server.specs.Inner.{asChoice}
+use Rattle.server.proofs.Hellos.{none-chosen, one-chosen, Inside, parts-inside, version-old, null-missing, null-there, same-step, refusing}
+use borrow.Author.Needs.{needs}
+use Rattle.server.proofs.hello.body.Statement.{statement}
+use Rattle.server.proofs.hello.body.Tie as tie
+
+read-body-requires : tie.Need-read-body-requires
+read-body-requires c κs = search needs
+
+enum-known-version : tie.Need-enum-known-version
+enum-known-version c = search needs
+
+-- what was found, and where
+found : (c : tie.After-known-told) →
+    let g = c .before .version .given .0 in
+    clientBody (c .before .before .before .before .before .before .args .m .now)
+    ≡ Read (g .0) (g .1 .0) (g .1 .1 .0) (g .1 .1 .1 .0) (g .1 .1 .1 .1 .0) (g .1 .1 .1 .1 .1 .0) (g .1 .1 .1 .1 .1 .1 .0)
+found c = sym (c .before .before .before .read-body .ensures) ∙ c .before .version .given .1
+
+inside : (c : tie.After-known-told) →
+    let m = c .before .before .before .before .before .before .args .m .now in
+    let g = c .before .version .given .0 in
+    Inside m (g .1 .1 .0) (g .1 .1 .1 .0) (g .1 .1 .1 .1 .0) (g .1 .1 .1 .1 .1 .0)
+inside c = parts-inside (c .before .before .before .before .before .before .args .m .now) _ _ _ _ _ _ _ (found c)
+
+abbrev fields : tie.After-known-told → ClientHello
+fields c =
+    let m = c .before .before .before .before .before .before .args .m .now in
+    let g = c .before .version .given .0 in
+    record {
+      version = g .0;
+      random = take 32 (drop 6 m);
+      sessionId = take (g .1 .0) (drop 39 m);
+      suites = take (g .1 .1 .1 .0) (drop (g .1 .1 .0) m);
+      methods = take (g .1 .1 .1 .1 .1 .0) (drop (g .1 .1 .1 .1 .0) m);
+      extensions = blockContents m (g .1 .1 .1 .1 .1 .1 .0);
+    }
+
+-- it decides
+read : (c : tie.After-read-body) {f : Client} → c .read-body .result ≡ f →
+    let a = c .before .before .before .args in
+    helloFields suites (a .c) (a .m .now) (clientFields (a .m .now) (clientBody (a .m .now)))
+    ≡ helloFields suites (a .c) (a .m .now) (clientFields (a .m .now) f)
+read c e =
+    let a = c .before .before .before .args in
+    ap (λ (f : Client). helloFields suites (a .c) (a .m .now) (clientFields (a .m .now) f)) (sym (c .read-body .ensures) ∙ e)
+
+refuse-requires : tie.Need-refuse-requires
+refuse-requires c κs = search needs
+
+returns : tie.Need-returns
+returns c =
+    let known = c .before .before in
+    let a = known .before .before .before .before .before .before .args in
+    let step = read (known .before .before .before) (known .before .version .given .1) in
+    same-step (step ∙ version-old (a .c) (a .m .now) (fields known) (c .before .if1 .taken))
+    (refusing (a .c) (a .out .now) ProtocolVersion _ (c .refuse .ensures))
+
+add-offers-null : tie.Need-add-offers-null
+add-offers-null c = record { fits = omega (arith, inside (c .before)) }
+
+sub-offers-null : tie.Need-sub-offers-null
+sub-offers-null c = search needs
+
+part-offers-null-start : tie.Need-part-offers-null-start
+part-offers-null-start c = search needs
+
+part-offers-null-end : tie.Need-part-offers-null-end
+part-offers-null-end c = omega (arith, inside (c .before))
+
+offers-null-requires : tie.Need-offers-null-requires
+offers-null-requires c κs = search needs
+
+-- whether null is among the methods
+null-found : (c : tie.After-offers-null) → c .offers-null .result ≡ offersNull (fields (c .before .before .before) .methods)
+null-found c = rw add-sub-cancel-left at (c .offers-null .ensures)
+
+refuse-requires-2 : tie.Need-refuse-requires-2
+refuse-requires-2 c κs = search needs
+
+returns-2 : tie.Need-returns-2
+returns-2 c =
+    let test = c .before .before in
+    let known = test .before .before .before in
+    let a = known .before .before .before .before .before .before .args in
+    let missing = sym (null-found test) ∙ not-true (test .offers-null .result) (c .before .if2 .taken) in
+    let step = read (known .before .before .before) (known .before .version .given .1) in
+    same-step (step ∙ null-missing (a .c) (a .m .now) (fields known) (test .before .before .if1 .left) missing)
+    (refusing (a .c) (a .out .now) IllegalParameter _ (c .refuse2 .ensures))
+
+slice-aggregate-choose : tie.Need-slice-aggregate-choose
+slice-aggregate-choose c = search needs
+
+add-choose : tie.Need-add-choose
+add-choose c = record { fits = omega (arith, inside (c .before .before .before .before .before)) }
+
+sub-choose : tie.Need-sub-choose
+sub-choose c = search needs
+
+part-choose-start : tie.Need-part-choose-start
+part-choose-start c = search needs
+
+part-choose-end : tie.Need-part-choose-end
+part-choose-end c = omega (arith, inside (c .before .before .before .before .before))
+
+choose-requires : tie.Need-choose-requires
+choose-requires c κs = search needs
+
+-- what was chosen decides
+choice : (c : tie.After-choose) →
+    let known = c .before .before .before .before .before .before .before in
+    let a = known .before .before .before .before .before .before .args in
+    helloFields suites (a .c) (a .m .now) (clientFields (a .m .now) (clientBody (a .m .now)))
+    ≡ helloChosen (a .c) (a .m .now) (fields known) (chosen suites (fields known .suites))
+choice c =
+    let test = c .before .before .before .before in
+    let known = test .before .before .before in
+    let a = known .before .before .before .before .before .before .args in
+    let there = sym (null-found test) ∙ not-false (test .offers-null .result) (c .before .before .before .if2 .left) in
+    let step = read (known .before .before .before) (known .before .version .given .1) in
+    step ∙ null-there (a .c) (a .m .now) (fields known) (test .before .before .if1 .left) there
+
+suite-found : (c : tie.After-choose) → c .choose .result ≡ asChoice (chosen suites (fields (c .before .before .before .before .before .before .before) .suites))
+suite-found c = rw add-sub-cancel-left at (c .choose .ensures)
+
+enum-told : tie.Need-enum-told
+enum-told c = search needs
+
+refuse-requires-3 : tie.Need-refuse-requires-3
+refuse-requires-3 c κs = search needs
+
+enum-known-suite : tie.Need-enum-known-suite
+enum-known-suite c = search needs
+
+answer-requires : tie.Need-answer-requires
+answer-requires c κs = inside (c .before .before .before .before .before .before .before .before .before .before .before) .0
+
+enum-told-2 : tie.Need-enum-told-2
+enum-told-2 c = search needs
+
+refuse-requires-4 : tie.Need-refuse-requires-4
+refuse-requires-4 c κs = search needs
+
+returns-3 : tie.Need-returns-3
+returns-3 c =
+    let at-choice = c .before .before .before in
+    let known = at-choice .before .before .before .before .before .before .before in
+    let a = known .before .before .before .before .before .before .args in
+    let none = none-chosen (chosen suites (fields known .suites)) (sym (suite-found at-choice) ∙ c .before .enum-told .given .1) in
+    same-step (choice at-choice ∙ ap (helloChosen (a .c) (a .m .now) (fields known)) none)
+    (refusing (a .c) (a .out .now) HandshakeFailure _ (c .refuse3 .ensures))
+
+same-length : tie.Need-same-length
+same-length c = search needs
+
+returns-4 : tie.Need-returns-4
+returns-4 c =
+    let at-choice = c .before .before .before .before .before .before .before in
+    let known = at-choice .before .before .before .before .before .before .before in
+    let a = known .before .before .before .before .before .before .args in
+    let one = one-chosen (chosen suites (fields known .suites)) _ (sym (suite-found at-choice) ∙ c .before .before .before .before .before .suite .given .1) in
+    same-step (choice at-choice ∙ ap (helloChosen (a .c) (a .m .now) (fields known)) one) (c .before .before .answer .ensures)
+
+returns-5 : tie.Need-returns-5
+returns-5 c =
+    let at-read = c .before .before .before in
+    let a = at-read .before .before .before .args in
+    same-step (read at-read (c .before .enum-told2 .given .1)) (refusing (a .c) (a .out .now) DecodeError _ (c .refuse4 .ensures))
+
+pub body-spec : {M : Type 1} → statement M
+body-spec =
+    tie.close
+    (tie.spec
+    read-body-requires
+    enum-known-version
+    refuse-requires
+    returns
+    add-offers-null
+    sub-offers-null
+    part-offers-null-start
+    part-offers-null-end
+    offers-null-requires
+    refuse-requires-2
+    returns-2
+    slice-aggregate-choose
+    add-choose
+    sub-choose
+    part-choose-start
+    part-choose-end
+    choose-requires
+    enum-told
+    refuse-requires-3
+    enum-known-suite
+    answer-requires
+    enum-told-2
+    refuse-requires-4
+    returns-3
+    same-length
+    returns-4
+    returns-5)

@@ -1,0 +1,88 @@
+-- `server::hello::put_rest` meets its contract: each message is valid and has room, and the second stands behind the first.
+-- Assumes nothing.
+use mathlib.Core.Path.{_≡_, refl, ap}
+use Prim.Native.Nat.{_+_, _-_, _≤_}
+use native.Mathlib.Omega.{arith}
+use mathlib.Core.List.{[]}
+use lib.ListN.{length, take, drop, length-drop}
+use Rattle.refusal.proofs.Copy.{part-to-end}
+use Rattle.messages.specs.Layout.{bytes}
+use Rattle.messages.specs.KeyExchange.{serverKeyExchange}
+use Rattle.messages.specs.Fixed.{serverHelloDone}
+use Rattle.server.specs.Steps.{hintMessage}
+use Rattle.server.specs.Inner.{front}
+use Rattle.server.proofs.Hellos.{hint-absent, hint-present, hint-valid, at-front, put-behind}
+use borrow.Author.Needs.{needs}
+use Rattle.server.proofs.hello.put_rest.Statement.{statement}
+use Rattle.server.proofs.hello.put_rest.Tie as tie
+
+write-done-requires : tie.Need-write-done-requires
+write-done-requires c κs = search needs
+
+same-length : tie.Need-same-length
+same-length c = search needs
+
+returns : tie.Need-returns
+returns c =
+    let start = c .before .before .before .before .before .before .before in
+    rw (hint-absent (start .args .hint .now) (c .before .before .before .before .if1 .taken))
+    (at-front serverHelloDone [] refl (omega arith) (c .before .before .write-done .ensures))
+
+write-hint-requires : tie.Need-write-hint-requires
+write-hint-requires c κs = search needs
+
+add-at : tie.Need-add-at
+add-at c = search needs
+
+-- there is a hint
+present : (c : tie.Else1) → hintMessage (c .before .before .before .args .hint .now) ≡ bytes serverKeyExchange (c .before .before .before .args .hint .now)
+present c = hint-present (c .before .before .before .args .hint .now) (c .if1 .left)
+
+sub-write-done : tie.Need-sub-write-done
+sub-write-done c = search (needs, ap length (present (c .before .before .before .before)))
+
+part-write-done-start : tie.Need-part-write-done-start
+part-write-done-start c = search (needs, ap length (present (c .before .before .before .before)))
+
+part-write-done-end : tie.Need-part-write-done-end
+part-write-done-end c = search needs
+
+write-done-requires-2 : tie.Need-write-done-requires-2
+write-done-requires-2 c κs = search needs
+
+same-length-2 : tie.Need-same-length-2
+same-length-2 c = search needs
+
+returns-2 : tie.Need-returns-2
+returns-2 c =
+    let at-test = c .before .before .before .before .before .before .before .before in
+    let start = at-test .before .before .before in
+    let hint = start .args .hint .now in
+    let out = start .args .out .now in
+    let size = ap length (present at-test) in
+    let first = c .before .before .before .before .before .before .write-hint in
+    let second = c .before .before .write-done2 in
+    let one : first .last .1 .0 ≡ front (bytes serverKeyExchange hint) out =
+    at-front serverKeyExchange hint (hint-valid hint (start .pre .0)) (omega arith) (first .ensures) in
+    let mid = first .last .1 .0 in
+    let room : 4 ≤ length (take (length mid - (6 + length hint)) (drop (6 + length hint) mid)) =
+    rw (part-to-end mid (6 + length hint)) (simp length-drop (omega arith)) in
+    rw (present at-test)
+    (put-behind (bytes serverKeyExchange hint) (bytes serverHelloDone []) out mid (second .last .0) (6 + length hint) one (omega arith)
+    (at-front serverHelloDone [] refl room (second .ensures)))
+
+pub put-rest-spec : {M : Type 1} → statement M
+put-rest-spec =
+    tie.close
+    (tie.spec
+    write-done-requires
+    same-length
+    returns
+    write-hint-requires
+    add-at
+    sub-write-done
+    part-write-done-start
+    part-write-done-end
+    write-done-requires-2
+    same-length-2
+    returns-2)

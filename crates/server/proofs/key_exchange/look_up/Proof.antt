@@ -1,0 +1,85 @@
+-- `server::key_exchange::look_up` meets its contract: the key that was found, or none.
+-- Assumes nothing.
+use mathlib.Core.Path.{_≡_, refl, sym}
+use Prim.Native.Nat.{ℕ, _≤_}
+use native.Mathlib.Omega.{arith}
+use mathlib.Core.List.{List}
+use mathlib.Core.Option.{some}
+use lib.ListN.{length, take}
+use lib.Seq.{length-take-le}
+use Rattle.keytable.specs.Table.{keyOf}
+use Rattle.keytable.proofs.Lookups.{key-size}
+use Rattle.server.proofs.Secrets.{key-put, key-missing}
+use borrow.Author.Needs.{needs}
+use Rattle.server.proofs.key_exchange.look_up.Statement.{statement}
+use Rattle.server.proofs.key_exchange.look_up.Tie as tie
+
+-- where the lookup has found a key
+module _ (c : tie.After-known-told) where
+  abbrev table : List ℕ
+  table = c .before .before .before .before .before .before .before .before .before .args .table .now
+
+  abbrev identity : List ℕ
+  identity = c .before .before .before .before .before .before .before .before .before .args .identity .now
+
+  abbrev n : ℕ
+  n = c .before .n .given .0 .0
+
+  abbrev buffer : List ℕ
+  buffer = c .before .before .before .before .lookup .last .1 .1 .0
+
+  put : (n ≤ 64) × (keyOf table identity ≡ some (take n buffer))
+  put = key-put table identity _ (c .before .before .before .before .lookup .ensures) (c .before .n .given .1)
+
+  fits : n ≤ length buffer
+  fits =
+      let size : length buffer ≡ 64 = search needs in
+      omega (arith, put .0)
+
+slice-aggregate-lookup : tie.Need-slice-aggregate-lookup
+slice-aggregate-lookup c = search needs
+
+lookup-requires : tie.Need-lookup-requires
+lookup-requires c κs = search needs
+
+enum-known-n : tie.Need-enum-known-n
+enum-known-n c = search needs
+
+array-share-prefix-key : tie.Need-array-share-prefix-key
+array-share-prefix-key c = fits c
+
+slice-aggregate-after-keys : tie.Need-slice-aggregate-after-keys
+slice-aggregate-after-keys c = sym (length-take-le (n (c .before)) (buffer (c .before)) (fits (c .before)))
+
+after-keys-requires : tie.Need-after-keys-requires
+after-keys-requires c κs = key-size (table (c .before)) (identity (c .before)) _ (put (c .before) .1)
+
+enum-told : tie.Need-enum-told
+enum-told c = search needs
+
+unlisted-requires : tie.Need-unlisted-requires
+unlisted-requires c κs = search needs
+
+returns : tie.Need-returns
+returns c = rw (put (c .before .before) .1, c .after-keys .ensures)
+
+returns-2 : tie.Need-returns-2
+returns-2 c =
+    let look = c .before .before .before .before in
+    let args = look .before .before .before .before .before .args in
+    rw (key-missing (args .table .now) (args .identity .now) _ refl (look .lookup .ensures) (c .before .enum-told .given .1)) (c .unlisted .ensures)
+
+pub look-up-spec : {M : Type 1} → statement M
+look-up-spec =
+    tie.close
+    (tie.spec
+    slice-aggregate-lookup
+    lookup-requires
+    enum-known-n
+    array-share-prefix-key
+    slice-aggregate-after-keys
+    after-keys-requires
+    enum-told
+    unlisted-requires
+    returns
+    returns-2)

@@ -1,0 +1,67 @@
+-- `server::key_exchange::master_under` meets its contract: the premaster secret at the front of its buffer, and the master secret over it.
+-- Assumes nothing.
+use mathlib.Core.Path.{_≡_, refl, sym}
+use Prim.Native.Nat.{_+_, _*_, _≤_}
+use native.Mathlib.Omega.{arith}
+use lib.ListN.{length}
+use lib.Seq.{length-take-le}
+use Rattle.keys.specs.Secrets.{premasterBytes}
+use Rattle.server.proofs.Secrets.{length-premaster, premaster-given, premaster-left, master-left}
+use borrow.Author.Needs.{needs}
+use Rattle.server.proofs.key_exchange.master_under.Statement.{statement}
+use Rattle.server.proofs.key_exchange.master_under.Tie as tie
+
+slice-aggregate-premaster : tie.Need-slice-aggregate-premaster
+slice-aggregate-premaster c = search needs
+
+premaster-requires : tie.Need-premaster-requires
+premaster-requires c κs = search needs
+
+mul-premaster : tie.Need-mul-premaster
+mul-premaster c = search needs
+
+add-premaster : tie.Need-add-premaster
+add-premaster c = search needs
+
+array-share-prefix-premaster : tie.Need-array-share-prefix-premaster
+array-share-prefix-premaster c = search needs
+
+slice-aggregate-master : tie.Need-slice-aggregate-master
+slice-aggregate-master c =
+    let start = c .before .before .before .before .before .before .before in
+    let buffer = c .before .before .premaster2 .last .1 .0 in
+    let size : length buffer ≡ 132 = search needs in
+    sym (length-take-le (4 + 2 * length (start .args .key .now)) buffer (omega (arith, start .pre .1)))
+
+slice-aggregate-master-2 : tie.Need-slice-aggregate-master-2
+slice-aggregate-master-2 c = search needs
+
+master-requires : tie.Need-master-requires
+master-requires c κs = search needs
+
+returns : tie.Need-returns
+returns c =
+    let start = c .before .before .before .before .before .before .before .before .before .before in
+    let key = start .args .key .now in
+    let secret = premasterBytes key in
+    let size : length secret ≤ 65536 = omega (arith, length-premaster key, start .pre .1) in
+    let put = premaster-left key _ (start .pre .0) (start .pre .1) refl (c .before .before .before .before .before .premaster2 .ensures) in
+    let made = rw put at (c .before .master2 .ensures) in
+    rw (
+      premaster-given key (start .pre .0) (start .pre .1),
+      master-left secret (start .args .client .now) (start .args .server .now) _ size (start .pre .2) (start .pre .3) refl made,
+    )
+
+pub master-under-spec : {M : Type 1} → statement M
+master-under-spec =
+    tie.close
+    (tie.spec
+    slice-aggregate-premaster
+    premaster-requires
+    mul-premaster
+    add-premaster
+    array-share-prefix-premaster
+    slice-aggregate-master
+    slice-aggregate-master-2
+    master-requires
+    returns)
