@@ -1,7 +1,7 @@
 -- The message schedule word by word, and the rounds one by one: what the loops over them rest on.
 -- Assumes nothing.
-use mathlib.Core.Path.{_≡_, refl, ap, _∙_}
-use Prim.Native.Nat.{ℕ, zero, suc, _+_, _*_, _<_}
+use mathlib.Core.Path.{_≡_, refl, sym, ap, _∙_}
+use Prim.Native.Nat.{ℕ, zero, suc, _+_, _*_, _≤_, _<_}
 use native.Mathlib.Numerals.{add-one}
 use native.Mathlib.Omega.{arith}
 use mathlib.Core.List.{List, [], _∷_, _++_}
@@ -49,6 +49,16 @@ next-later n w M x e ex =
     rw (add-one n, at (n + 14) (omega arith), at (n + 9) (omega arith), at (n + 1) (omega arith), at n (omega arith), ex)
 
 -- one round more
-pub next-round : (t u : ℕ) (W : List ℕ) (s v r : Words) → u ≡ suc t → v ≡ rounds t W s → r ≡ round (getD K t 0) (getD W t 0) v → r ≡ rounds u W s
+pub next-round : (t : ℕ) (W : List ℕ) (s v r : Words) → v ≡ rounds t W s → r ≡ round (getD K t 0) (getD W t 0) v → r ≡ rounds (t + 1) W s
 unfolding rounds
-next-round t u W s v r eu ev er = rw (eu, ← ev, ← er)
+next-round t W s v r ev er = rw (add-one t, ← ev, ← er)
+
+-- the first t rounds take the first t words
+pub rounds-front : (t n : ℕ) (W : List ℕ) (s : Words) → t ≤ n → rounds t (take n W) s ≡ rounds t W s
+unfolding rounds
+rounds-front zero n W s h = refl
+rounds-front (suc t) n W s h = rw (getD-take n W t 0 h, rounds-front t n W s (omega arith))
+
+-- so they stand where the words behind those change
+pub rounds-kept : (t n : ℕ) (W W′ : List ℕ) (s v : Words) → t ≤ n → take n W′ ≡ take n W → v ≡ rounds t W s → v ≡ rounds t W′ s
+rounds-kept t n W W′ s v h e ev = ev ∙ sym (rounds-front t n W s h) ∙ rw (← e) (rounds-front t n W′ s h)

@@ -2,10 +2,12 @@
 // rounds, and the sum with the hash value so far.
 use super::Words;
 ghost use mathlib.Core.Path.{_≡_};
-ghost use Prim.Native.Nat.{_+_, _<_};
+ghost use Prim.Native.Nat.{ℕ, _+_, _<_};
+ghost use mathlib.Core.List.{List};
 ghost use Rattle.sha256.specs.declared.Words.{Words};
 ghost use lib.ListN.{length, take};
 ghost use Rattle.sha256.specs.Functions.{_⊞_, Ch, Maj, Σ₀, Σ₁, σ₀, σ₁};
+ghost use Rattle.sha256.specs.Constants.{K};
 ghost use Rattle.sha256.specs.Message.{words};
 ghost use Rattle.sha256.specs.Hash.{schedule, round, rounds, added, compress};
 
@@ -140,13 +142,15 @@ fn later(w2: u32, w7: u32, w15: u32, w16: u32) -> u32
     plus(plus(plus(small_sigma1(w2), w7), small_sigma0(w15)), w16)
 }
 
-// The schedule's other forty-eight words, from the first sixteen.
-fn extend(w: &mut [u32])
+// Eight words more of a schedule that has from + 16 words at its front.
+fn extend(w: &mut [u32], from: usize)
     requires { ⌜ length (now w) ≡ 64 ⌝ }
-    ensures { λ _. ⌜ now (w .exit) ≡ schedule 48 (take 16 (now (w .entry))) ⌝ }
+    requires { ⌜ from < 41 ⌝ }
+    ensures { λ _. ⌜ take (from + 16) (now (w .exit)) ≡ take (from + 16) (now (w .entry)) ⌝ }
+    ensures { λ _. ⌜ ((M : List ℕ) → take (from + 16) (now (w .entry)) ≡ schedule from M → take (from + 8 + 16) (now (w .exit)) ≡ schedule (from + 8) M) ⌝ }
 {
-    let mut n: usize = 0;
-    while n < 48 {
+    let mut n = from;
+    while n < from + 8 {
         w[n + 16] = later(w[n + 14], w[n + 9], w[n + 1], w[n]);
         n += 1;
     }
@@ -172,29 +176,35 @@ fn one_round(v: Words, k: u32, w: u32) -> Words
     }
 }
 
-// Eight rounds in a row, after which each working variable is in its own place again, so that the loop
-// below moves none. The calls stand here one by one so that the compiler takes each round in.
-fn eight_rounds(v: Words, w: &[u32; 64], t: usize) -> Words
-    requires { ⌜ t < 57 ⌝ }
-    ensures { λ r. ⌜ ((s : Words) → v ≡ rounds t (now (w .entry)) s → r ≡ rounds (t + 8) (now (w .entry)) s) ⌝ }
-{
-    let v1 = one_round(v, K[t], w[t]);
-    let v2 = one_round(v1, K[t + 1], w[t + 1]);
-    let v3 = one_round(v2, K[t + 2], w[t + 2]);
-    let v4 = one_round(v3, K[t + 3], w[t + 3]);
-    let v5 = one_round(v4, K[t + 4], w[t + 4]);
-    let v6 = one_round(v5, K[t + 5], w[t + 5]);
-    let v7 = one_round(v6, K[t + 6], w[t + 6]);
-    one_round(v7, K[t + 7], w[t + 7])
-}
-
-fn all_rounds(start: Words, w: &[u32; 64]) -> Words
-    ensures { λ r. ⌜ r ≡ rounds 64 (now (w .entry)) start ⌝ }
+// Eight rounds in a row, after which each working variable is in its own place again: the compiler
+// unrolls this loop and moves none. The table K comes by reference, since each K[t] would copy it whole.
+fn eight_rounds(start: Words, k: &[u32; 64], w: &[u32; 64], from: usize) -> Words
+    requires { ⌜ now k ≡ K ⌝ }
+    requires { ⌜ from < 57 ⌝ }
+    ensures { λ r. ⌜ ((s : Words) → start ≡ rounds from (now (w .entry)) s → r ≡ rounds (from + 8) (now (w .entry)) s) ⌝ }
 {
     let mut v = start;
+    let mut t = from;
+    while t < from + 8 {
+        v = one_round(v, k[t], w[t]);
+        t += 1;
+    }
+    v
+}
+
+// The sixty-four rounds, with the block's words at the front of w. The schedule grows in step with the
+// rounds, so that a processor works at both at once.
+fn all_rounds(start: Words, w: &mut [u32; 64]) -> Words
+    ensures { λ r. ⌜ r ≡ rounds 64 (schedule 48 (take 16 (now (w .entry)))) start ⌝ }
+{
+    let k = K;
+    let mut v = start;
     let mut t: usize = 0;
-    while t < 57 {
-        v = eight_rounds(v, w, t);
+    while t < 64 {
+        if 16 <= t {
+            extend(w, t - 16);
+        }
+        v = eight_rounds(v, &k, w, t);
         t += 8;
     }
     v
@@ -222,6 +232,5 @@ pub(crate) fn next_value(h: Words, block: &[u8]) -> Words
 {
     let mut w = [0u32; 64];
     load(block, &mut w);
-    extend(&mut w);
-    sum(all_rounds(h, &w), h)
+    sum(all_rounds(h, &mut w), h)
 }

@@ -1,9 +1,10 @@
--- `sha256::block::extend` meets its contract: the invariant: the first n + 16 words are the schedule's.
+-- `sha256::block::extend` meets its contract: the invariant: the words that were there stand, and the first n + 16 words are the schedule's.
 -- Assumes nothing.
-use Prim.Native.Nat.{_≤_, _+_, _-_}
-use mathlib.Core.Path.{_≡_, refl, sym, _∙_}
+use Prim.Native.Nat.{ℕ, _≤_, _+_, _-_}
+use mathlib.Core.Path.{_≡_, refl, _∙_}
+use mathlib.Core.List.{List}
 use lib.ListN.{length, take}
-use lib.Seq.{take-all}
+use lib.Seq.{take-set-le}
 use native.Mathlib.Omega.{arith}
 use Rattle.sha256.specs.Hash.{schedule}
 use Rattle.sha256.proofs.Schedule.{front-grows, next-later}
@@ -12,14 +13,18 @@ use Rattle.sha256.proofs.block.extend.Statement.{statement}
 use Rattle.sha256.proofs.block.extend.Tie as tie
 
 abbrev Inv-loop : tie.InvT-loop
-Inv-loop w₀ n₀ w n = (n ≤ 48) × (length w ≡ 64) × (take (n + 16) w ≡ schedule n (take 16 w₀))
+Inv-loop w₀ from n₀ w n =
+    (from ≤ n) × (n ≤ from + 8) × (length w ≡ 64) × (take (from + 16) w ≡ take (from + 16) w₀)
+    × ((M : List ℕ) → take (from + 16) w₀ ≡ schedule from M → take (n + 16) w ≡ schedule n M)
 
 abbrev μ-loop : tie.MeasureT-loop
-μ-loop w₀ n₀ w n = 48 - n
+μ-loop w₀ from n₀ w n = from + 8 - n
 
 loop-holds : tie.Need-loop-holds Inv-loop μ-loop
-unfolding schedule
-loop-holds c = (search needs, search needs, refl)
+loop-holds c = (search needs, search needs, search needs, refl, λ M e. e)
+
+add-loop : tie.Need-add-loop Inv-loop μ-loop
+add-loop c = search needs
 
 add-later : tie.Need-add-later Inv-loop μ-loop
 add-later c = search needs
@@ -76,17 +81,24 @@ loop-again : tie.Need-loop-again Inv-loop μ-loop
 loop-again c =
     let at-loop = c .before .before .before .before .before .before in
     let n = at-loop .loop .n in
-    let M = take 16 (at-loop .before .before .args .w .now) in
-    let same : n + 1 + 16 ≡ n + 16 + 1 = omega arith in
-    (search needs, search needs, rw same (front-grows (at-loop .loop .w) (schedule n M) (n + 16) (c .later .result) (omega arith) (at-loop .loop .inv .2) ∙ next-later n (at-loop .loop .w) M (c .later .result) (at-loop .loop .inv .2) (c .later .ensures)))
+    let w = at-loop .loop .w in
+    let x = c .later .result in
+    let same : n + 1 + 16 ≡ n + 16 + 1 = omega arith in (
+      search needs,
+      search needs,
+      search needs,
+      take-set-le (at-loop .before .before .args .from + 16) w (n + 16) x (omega arith) ∙ at-loop .loop .inv .3,
+      λ M e. let front = at-loop .loop .inv .4 M e in
+          rw same (front-grows w (schedule n M) (n + 16) x (omega arith) front ∙ next-later n w M x front (c .later .ensures)),
+    )
 
 same-length : tie.Need-same-length Inv-loop μ-loop
 same-length c = search needs
 
 returns : tie.Need-returns Inv-loop μ-loop
 returns c =
-    let done : c .before .loop .n ≡ 48 = omega arith in
-    sym (take-all 64 (c .before .loop .w) (omega arith)) ∙ (rw done at (c .before .loop .inv .2))
+    let done : c .before .loop .n ≡ c .before .before .before .args .from + 8 = omega arith in
+    (c .before .loop .inv .3, λ M e. rw done at (c .before .loop .inv .4 M e))
 
 pub extend-spec : {M : Type 1} → statement M
 extend-spec =
@@ -95,6 +107,7 @@ extend-spec =
     Inv-loop
     μ-loop
     loop-holds
+    add-loop
     add-later
     mul-later
     slice-read-later

@@ -11,12 +11,6 @@ slice-aggregate-load c = search needs
 load-requires : tie.Need-load-requires
 load-requires c κs = search needs
 
-slice-aggregate-extend : tie.Need-slice-aggregate-extend
-slice-aggregate-extend c = search needs
-
-extend-requires : tie.Need-extend-requires
-extend-requires c κs = search needs
-
 all-rounds-requires : tie.Need-all-rounds-requires
 all-rounds-requires c κs = search needs
 
@@ -25,18 +19,9 @@ sum-requires c κs = search needs
 
 returns : tie.Need-returns
 unfolding compress
-returns c =
-    let at-extend = c .before .before .before .before in
-    rw (c .sum .ensures, c .before .all-rounds .ensures, at-extend .extend .ensures, at-extend .before .before .before .load .ensures)
+returns c = rw (c .sum .ensures, c .before .all-rounds .ensures, c .before .before .before .before .load .ensures)
 
 pub next-value-spec : {M : Type 1} → statement M
 next-value-spec =
     tie.close
-    (tie.spec
-    slice-aggregate-load
-    load-requires
-    slice-aggregate-extend
-    extend-requires
-    all-rounds-requires
-    sum-requires
-    returns)
+    (tie.spec slice-aggregate-load load-requires all-rounds-requires sum-requires returns)
