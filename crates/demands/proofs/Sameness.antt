@@ -74,7 +74,6 @@ data Together (s : Settings) (v v' : View) (Set : List ℕ → Type 0) (calls : 
 
 module _ (s : Settings) (ok : acceptable s ≡ true) (hide : ruleOf (s .named) ≡ Rule.Hide) (Set : List ℕ → Type 0) (v v' : View) (good : v .good ≡ true)
     (good' : v' .good ≡ true) (agree : AgreeOutside Set v v') where
-
   -- ---- what came is the same for both
 
   never-bad : (x : Call) → Aside (BadTableCall v) x → Aside (BadTableCall v') x
@@ -151,9 +150,10 @@ module _ (s : Settings) (ok : acceptable s ≡ true) (hide : ruleOf (s .named) �
 
     -- from here on the connections differ
     names-one : (m out : List ℕ) (legal : LegalKeyExchange m) → Set (legal .identity) → Goes calls (message m out) here here
-    names-one m out legal set =
-        (seen-outcome here here out (accepted v good) (accepted v' good') refl,
-        changing (calls ++ (message m out ∷ [])) now [] (sym (append-nil _)) tt set (next v good) (next v' good'))
+    names-one m out legal set = (
+      seen-outcome here here out (accepted v good) (accepted v' good') refl,
+      changing (calls ++ (message m out ∷ [])) now [] (sym (append-nil _)) tt set (next v good) (next v' good'),
+    )
       where
         accepted : (w : View) → w .good ≡ true
             → messageStep suites w here m Phase.KeyExchange ≡ accept [] (keyed s (came .legal) m (w .lookup (legal .identity)))
@@ -259,15 +259,17 @@ module _ (s : Settings) (ok : acceptable s ≡ true) (hide : ruleOf (s .named) �
 
       finish-on : (x : Call) → NotJudged calls x → Goes calls x (changedBy v) (changedBy v')
       finish-on (message m out) never =
-          let e = refused-both m out never in
-          (seen-outcome (changedBy v) (changedBy v') out (e .0) (e .1) refl,
-          same-yet (refused-closes (changedBy v) out _ (wrong m) (e .0) (wrong-alerts m)
-          ∙ sym (refused-closes (changedBy v') out _ (wrong m) (e .1) (wrong-alerts m))))
+          let e = refused-both m out never in (
+            seen-outcome (changedBy v) (changedBy v') out (e .0) (e .1) refl,
+            same-yet (refused-closes (changedBy v) out _ (wrong m) (e .0) (wrong-alerts m)
+                ∙ sym (refused-closes (changedBy v') out _ (wrong m) (e .1) (wrong-alerts m))),
+          )
       finish-on changeOfCipher never = (refl, same-yet refl)
-      finish-on (alert level description) never =
-          (alert-alike (changedBy v) (changedBy v') refl refl level description,
-          warned-on (alert level description)
-          (both-fates v v' (changedBy v) (changedBy v') IgnoredWarning (λ y. ⊥) (alert level description) (fate v) (fate v')))
+      finish-on (alert level description) never = (
+        alert-alike (changedBy v) (changedBy v') refl refl level description,
+        warned-on (alert level description)
+            (both-fates v v' (changedBy v) (changedBy v') IgnoredWarning (λ y. ⊥) (alert level description) (fate v) (fate v')),
+      )
         where
           fate : (w : View) → Fate w (changedBy w) IgnoredWarning (λ y. ⊥) (alert level description)
           fate w = alert-fate w (changedBy w) refl IgnoredWarning (λ y. ⊥) (λ y h. h) level description

@@ -36,12 +36,13 @@ unfolding premaster premasterBytes leadingZeros validUtf8 wellFormed keyOf
 worked =
     record {
       v1 = refl;
-      v2 =
-        ((λ psk e. premaster-answer psk (omega arith) (omega arith) ∙ rw e),
+      v2 = (
+        (λ psk e. premaster-answer psk (omega arith) (omega arith) ∙ rw e),
         (λ psk e. premaster-answer psk (omega arith) (omega arith) ∙ rw e),
         (λ psk e. rw e),
         (λ psk e. rw e),
-        refl);
+        refl,
+      );
       v3 = refl;
       v4 = (refl, refl);
       v5 = refl;
@@ -51,11 +52,12 @@ worked =
       v9 = (refl, refl, refl, refl, refl);
       v10 = (refl, refl, bad-gives-R2 unended refl, bad-gives-R2 odd refl, refl);
       v11 = (refl, refl, refl, refl);
-      v12 =
-        ((λ ours c m f e. rw e),
+      v12 = (
+        (λ ours c m f e. rw e),
         (λ ours c m f suite e null common. rw (e, null, common)),
         (λ c suite. refl),
         (λ v c. refl),
         (λ v c. refl),
-        refl);
+        refl,
+      );
     }

@@ -119,10 +119,10 @@ pub record BytesWorkedThrough : Type 0 where
   -- connection, and of the smallest one. The version stands at bytes 4 and 5 of the answer.
   pub v12 : ((ours : List ℕ) (c : Connection) (m : List ℕ) (f : ClientHello) → f .version ≡ 0x0302 → helloFields ours c m (some f) ≡ refuse ProtocolVersion)
       × ((ours : List ℕ) (c : Connection) (m : List ℕ) (f : ClientHello) (suite : ℕ)
-        → f .version ≡ 0x0304 → offersNull (f .methods) ≡ true → chosen ours (f .suites) ≡ some suite
-        → helloFields ours c m (some f) ≡ accept (flightFor c suite) (afterHello c m f suite))
+      → f .version ≡ 0x0304 → offersNull (f .methods) ≡ true → chosen ours (f .suites) ≡ some suite
+      → helloFields ours c m (some f) ≡ accept (flightFor c suite) (afterHello c m f suite))
       × ((c : Connection) (suite : ℕ) → take 2 (drop 4 (flightFor c suite)) ≡ 0x03 ∷ 0x03 ∷ [])
       × ((v : View) (c : Connection) → messageStep suites v c (smallestHello 0x0302) Phase.Hello ≡ refuse ProtocolVersion)
       × ((v : View) (c : Connection) → messageStep suites v c (smallestHello 0x0304) Phase.Hello
-        ≡ accept (flightFor c 0x00AE) (afterHello c (smallestHello 0x0304) (smallest 0x0304) 0x00AE))
+      ≡ accept (flightFor c 0x00AE) (afterHello c (smallestHello 0x0304) (smallest 0x0304) 0x00AE))
       × (numberOf ProtocolVersion ≡ 70)

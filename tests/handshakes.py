@@ -1,0 +1,473 @@
+"""The input and the expected output of crates/handshakes, from a client and a server that are written here.
+
+  handshakes.py stdin    the calls, in the form that the program's first lines give
+  handshakes.py stdout   what the program has to print of them
+
+The server follows RFC 5246, RFC 4279 and document 01 with Python's hashlib and hmac and shares
+nothing with the library. Whole handshakes for each suite, hint and rule come first, then every
+refusal of document 01's table, replayed messages, and series of calls drawn from a fixed seed.
+"""
+import hashlib, hmac, sys
+
+SUITES = {0x00AE: 96, 0x008C: 72, 0x00B0: 64}
+EVERY = tuple(SUITES)
+KEYS = {b"gate7": bytes.fromhex("abcd"), b"gate": bytes(range(64)), "Küche".encode(): b"\x01"}
+TABLE = b"".join(name + b":" + key.hex().encode() + b"\n" for name, key in KEYS.items())
+STAND_IN = hashlib.sha256(b"stand-in").digest()
+NOTHING, TELL, HIDE = 0, 1, 2
+
+
+# ---- messages and secrets
+
+def message(kind, body):
+    return bytes([kind]) + len(body).to_bytes(3, "big") + body
+
+
+def vector(width, contents):
+    return len(contents).to_bytes(width, "big") + contents
+
+
+def hello(random, suites=EVERY, methods=b"\0", version=0x0303, block=None, session=b""):
+    offered = b"".join(s.to_bytes(2, "big") for s in suites)
+    body = version.to_bytes(2, "big") + random + vector(1, session) + vector(2, offered) + vector(1, methods)
+    return message(1, body + (b"" if block is None else vector(2, block)))
+
+
+def exchange(identity):
+    return message(16, vector(2, identity))
+
+
+def extension(kind, data=b""):
+    return kind.to_bytes(2, "big") + vector(2, data)
+
+
+def mac(key, data):
+    return hmac.new(key, data, hashlib.sha256).digest()
+
+
+def prf(secret, label, seed, n):
+    seed = label + seed
+    a, out = seed, b""
+    while len(out) < n:
+        a = mac(secret, a)
+        out += mac(secret, a + seed)
+    return out[:n]
+
+
+def master_secret(key, client, server):
+    size = len(key).to_bytes(2, "big")
+    return prf(size + bytes(len(key)) + size + key, b"master secret", client + server, 48)
+
+
+def verify_data(master, label, messages):
+    return prf(master, label, hashlib.sha256(messages).digest(), 12)
+
+
+# ---- the server: what it answers is (what is said, bytes for the client, master handed over)
+
+class Refuse(Exception):
+    pass
+
+
+def take(data, n):
+    if len(data) < n:
+        raise Refuse("alert 50")
+    return data[:n], data[n:]
+
+
+def take_vector(data, width):
+    size, data = take(data, width)
+    return take(data, int.from_bytes(size, "big"))
+
+
+def read_hello(body):
+    version, body = take(body, 2)
+    random, body = take(body, 32)
+    session, body = take_vector(body, 1)
+    offered, body = take_vector(body, 2)
+    methods, body = take_vector(body, 1)
+    if len(session) > 32 or len(offered) < 2 or len(offered) % 2 or not methods:
+        raise Refuse("alert 50")
+    if body:
+        block, body = take_vector(body, 2)
+        if body:
+            raise Refuse("alert 50")
+        read_block(block)
+    offered = [int.from_bytes(offered[i:i + 2], "big") for i in range(0, len(offered), 2)]
+    return int.from_bytes(version, "big"), random, offered, methods
+
+
+def read_block(block):
+    seen = set()
+    while block:
+        kind, block = take(block, 2)
+        data, block = take_vector(block, 2)
+        if kind in seen:
+            raise Refuse("alert 50")
+        seen.add(kind)
+        if kind == b"\x00\x23" and take_vector(data, 2)[1]:
+            raise Refuse("alert 50")
+
+
+class Server:
+    def __init__(self):
+        self.awaits = "closed"
+
+    def start(self, random, hint, stand_in, rule):
+        try:
+            hint.decode()
+        except UnicodeDecodeError:
+            hint = None
+        if len(random) != 32 or hint is None or len(hint) > 128 or len(stand_in) != 32:
+            self.awaits = "closed"
+            return "R3"
+        self.random, self.hint, self.stand_in, self.hides = random, hint, stand_in, rule == HIDE
+        self.awaits, self.heard = "hello", b""
+        return "wrote 0"
+
+    def over(self):
+        return self.awaits in ("closed", "complete")
+
+    def refused(self, said):
+        if said.startswith("alert"):
+            self.awaits = "closed"
+        return said
+
+    def change(self):
+        if self.over():
+            return "R4"
+        if self.awaits != "change":
+            return self.refused("alert 10")
+        self.awaits = "finished"
+        return "wrote 0"
+
+    def alert(self, level, description):
+        if self.over():
+            return "R4"
+        if level not in (1, 2):
+            return self.refused("alert 47")
+        if level == 2 or description == 0:
+            self.awaits = "closed"
+        return "wrote 0"
+
+    def message(self, m, room, table, good):
+        try:
+            answer, after, master = self.step(m, table, good)
+            if len(answer) > room:
+                raise Refuse("R1")
+        except Refuse as refusal:
+            return self.refused(str(refusal)), b"", b""
+        after()
+        return "wrote %d" % len(answer), answer, master
+
+    def step(self, m, table, good):
+        if self.over():
+            raise Refuse("R4")
+        if len(m) < 4:
+            raise Refuse("alert 50")
+        kind = {"hello": 1, "exchange": 16, "finished": 20}.get(self.awaits)
+        if m[0] != kind:
+            raise Refuse("alert 10")
+        if int.from_bytes(m[1:4], "big") != len(m) - 4 or len(m) > 16384:
+            raise Refuse("alert 50")
+        return {1: self.hello, 16: self.exchange, 20: self.finished}[kind](m, m[4:], table, good)
+
+    def hello(self, m, body, table, good):
+        version, client, offered, methods = read_hello(body)
+        if version < 0x0303:
+            raise Refuse("alert 70")
+        if 0 not in methods:
+            raise Refuse("alert 47")
+        common = [s for s in SUITES if s in offered]
+        if not common:
+            raise Refuse("alert 40")
+        flight = message(2, b"\x03\x03" + self.random + b"\0" + common[0].to_bytes(2, "big") + b"\0")
+        if self.hint:
+            flight += message(12, vector(2, self.hint))
+        flight += message(14, b"")
+
+        def after():
+            self.awaits, self.client, self.heard = "exchange", client, m + flight
+        return flight, after, b""
+
+    def exchange(self, m, body, table, good):
+        if not good:
+            raise Refuse("R2")
+        identity, rest = take_vector(body, 2)
+        if rest:
+            raise Refuse("alert 50")
+        key = table.get(identity)
+        if key is None and not self.hides:
+            raise Refuse("alert 115")
+        master = master_secret(self.stand_in if key is None else key, self.client, self.random)
+
+        def after():
+            self.awaits, self.master, self.listed = "change", master, key is not None
+            self.heard += m
+        return b"", after, master
+
+    def finished(self, m, body, table, good):
+        if len(body) != 12:
+            raise Refuse("alert 50")
+        if not self.listed or body != verify_data(self.master, b"client finished", self.heard):
+            raise Refuse("alert 51")
+        answer = message(20, verify_data(self.master, b"server finished", self.heard + m))
+
+        def after():
+            self.awaits = "complete"
+        return answer, after, b""
+
+
+# ---- the calls, as the program reads them, with what it has to print
+
+class Script:
+    def __init__(self):
+        self.calls, self.lines = [], []
+        self.server = Server()
+        self.set_table(TABLE, KEYS)
+
+    def set_table(self, text, keys, good=True):
+        self.calls.append(b"\x02" + vector(3, text))
+        self.table, self.good = keys, good
+
+    def start(self, random, hint=b"", rule=NOTHING, stand_in=STAND_IN):
+        self.calls.append(bytes([1, rule]) + vector(1, random) + vector(1, hint) + vector(1, stand_in))
+        self.lines.append("start " + self.server.start(random, hint, stand_in, rule))
+
+    def message(self, m, room=60):
+        self.calls.append(bytes([3, room]) + vector(3, m))
+        said, answer, master = self.server.message(m, room, self.table, self.good)
+        line = "message " + said + " " + (answer + b"\xee" * (room - len(answer))).hex()
+        self.lines.append(line + (" master " + master.hex() if master else ""))
+        if master:
+            self.last = master
+        return said
+
+    def change(self):
+        self.calls.append(b"\x04")
+        self.lines.append("change " + self.server.change())
+
+    def alert(self, level, description):
+        self.calls.append(bytes([5, level, description]))
+        self.lines.append("alert " + self.server.alert(level, description))
+
+    def key_block(self, suite, server, client):
+        self.calls.append(b"\x06" + suite.to_bytes(2, "big") + server + client)
+        n = SUITES.get(suite)
+        said = "wrote %d" % n if n else "R5"
+        block = prf(self.last, b"key expansion", server + client, n) if n else b""
+        self.lines.append("keys " + said + " " + (block + bytes(96 - len(block))).hex())
+
+    def finished(self, label=b"client finished"):
+        return message(20, verify_data(self.server.master, label, self.server.heard))
+
+
+def drawn(name, n=32):
+    return hashlib.shake_256(name.encode()).digest(n)
+
+
+def whole(s, name, suites=EVERY, hint=b"", rule=NOTHING, identity=b"gate7"):
+    """A handshake as far as the server's Finished, with calls on the finished connection after it."""
+    server, client = drawn("server " + name), drawn("client " + name)
+    s.start(server, hint, rule)
+    s.message(hello(client, suites), 60 if len(hint) <= 8 else 181)
+    s.message(exchange(identity))
+    s.key_block([x for x in SUITES if x in suites][0], server, client)
+    s.change()
+    s.message(s.finished())
+    s.message(hello(client))
+    s.change()
+    s.alert(1, 90)
+
+
+def handshakes(s):
+    for suites in [(x,) for x in EVERY] + [(0x00B0, 0x1301, 0x008C), (0x00B0, 0x00AE)]:
+        for hint in (b"", b"barn", "Stall Ä".encode(), bytes(range(65, 91)) * 4 + bytes(24)):
+            for rule in (NOTHING, TELL, HIDE):
+                whole(s, "%r %r %d" % (suites, hint, rule), suites, hint, rule)
+    for identity in KEYS:
+        whole(s, repr(identity), identity=identity)
+
+
+def unlisted(s):
+    for rule in (NOTHING, TELL, HIDE):
+        for identity in (b"gate71", b"", b"gat", b"x" * 129, b"a:b", b"\xff"):
+            for room in (16, 0):
+                s.start(drawn("unlisted"), rule=rule)
+                s.message(hello(drawn("client")))
+                if s.message(exchange(identity)).startswith("wrote"):
+                    s.change()
+                    s.message(s.finished(), room)  # right under the stand-in key
+                s.message(message(20, bytes(12)))
+    at(s, 1)
+    s.message(exchange(b"y" * 16378))  # the longest
+
+
+def at(s, place, rule=HIDE, name="at"):
+    """A connection that awaits a hello (0), a key exchange (1), a change of cipher (2) or a Finished (3)."""
+    s.start(drawn("server " + name), b"barn", rule)
+    if place > 0:
+        s.message(hello(drawn("client " + name)))
+    if place > 1:
+        s.message(exchange(b"gate7"))
+    if place > 2:
+        s.change()
+
+
+def settings(s):
+    for random, hint, stand_in in (
+        (bytes(31), b"", STAND_IN), (bytes(33), b"", STAND_IN), (b"", b"", b""), (bytes(32), bytes(129), STAND_IN),
+        (bytes(32), b"\xc0\x80", STAND_IN), (bytes(32), b"\xed\xa0\x80", STAND_IN), (bytes(32), b"\xf4\x90\x80\x80", STAND_IN),
+        (bytes(32), b"ok", bytes(31)), (bytes(32), b"ok", bytes(33)), (bytes(32), b"\xf4\x8f\xbf\xbf", STAND_IN)):
+        s.start(random, hint, stand_in=stand_in)
+        s.message(hello(bytes(32)))
+        s.change()
+
+
+def headers(s):
+    for place in range(4):
+        for m in (b"", b"\x01", b"\x10\0\0", b"\0\0\0\0", message(11, b""), message(1, b""), message(16, b""), message(20, b""),
+                  b"\x01\0\0\x01", b"\x10\0\0\x01", b"\x14\0\0\x0d" + bytes(12), b"\x14\0\0\x0b" + bytes(12),
+                  message((1, 16, 0, 20)[place], bytes(16381)), message(20, bytes(11)), message(20, bytes(13))):
+            at(s, place)
+            s.message(m)
+            s.message(m[:20])
+        at(s, place)
+        s.change()
+        s.change()
+
+
+def hellos(s):
+    random = drawn("hellos")
+    for m in (hello(random, methods=b"\x01"), hello(random, methods=b"\x01\x00"), hello(random, suites=(0x1301, 0xC0A8)), hello(random, suites=()),
+              hello(random, version=0x0302), hello(random, version=0x0304), hello(random, version=0x02FF), hello(random, methods=b""),
+              hello(random, block=b""), hello(random, block=extension(23) + extension(35, b"\0\0")), hello(random, block=extension(35)),
+              hello(random, block=extension(35, b"\0\x01")), hello(random, block=extension(23) + extension(10) + extension(23)),
+              hello(random, session=bytes(32)), hello(random, session=bytes(33)), hello(random) + b"\0",
+              hello(random, version=0x0302, methods=b"\x01", suites=(1,)), hello(random, methods=b"\x01", suites=(1,)),
+              hello(random, suites=(0xAE00, 0x8C00, 0xB000)), hello(random, block=b"".join(extension(1000 + i) for i in range(1500)))):
+        at(s, 0)
+        s.message(m)
+        s.message(exchange(b"gate7"))
+
+
+def rooms(s):
+    for hint, size in ((b"", 46), (b"b", 53), (b"barn", 56), (b"h" * 128, 180)):
+        s.start(drawn("rooms"), hint)
+        for room in (0, size - 1, size):
+            s.message(hello(drawn("client")), room)
+        s.message(exchange(b"gate"), 0)
+        s.change()
+        right = s.finished()
+        for m, room in ((right, 0), (right, 15), (right, 16)):
+            s.message(m, room)
+    for room in (0, 15, 16):  # a wrong Finished is 51 whatever the room
+        at(s, 3)
+        s.message(message(20, bytes(12)), room)
+    for i in range(12):  # and each byte counts
+        at(s, 3)
+        m = bytearray(s.finished())
+        m[4 + i] ^= 1
+        s.message(bytes(m))
+
+
+def tables(s):
+    for text in (TABLE[:-1], b"gate7:abc\n", TABLE + b"gate7:00\n", b"\n", b"gate7\n", b"gate7:\n", b":00\n", b"g" * 129 + b":00\n",
+                 b"".join(b"%d:00\n" % i for i in range(257)), b"x" * 65537, b"\xc0\x80:00\n", b"gate7:ab\r\n"):
+        at(s, 1)
+        s.set_table(text, {}, good=False)
+        for m in (exchange(b"gate7"), message(16, b"\0")):
+            s.message(m)
+        s.message(b"\x10\0\0\x01")  # the tests on the header come before R2
+        at(s, 1)
+        s.message(exchange(b"gate7"))
+        s.set_table(TABLE, KEYS)
+        s.message(exchange(b"gate7"))
+        s.change()
+        s.message(s.finished())
+    s.set_table(b"", {})
+    at(s, 1)
+    s.message(exchange(b"gate7"))
+    s.change()
+    s.message(s.finished())
+    many = {b"gate%d" % i: bytes([i]) for i in range(256)}
+    s.set_table(b"".join(name + b":" + key.hex().upper().encode() + b"\n" for name, key in many.items()), many)
+    for name in (b"gate0", b"gate255", b"gate256"):
+        at(s, 1)
+        s.message(exchange(name))
+        s.change()
+        s.message(s.finished())
+    s.set_table(TABLE, KEYS)
+
+
+def alerts(s):
+    for place in range(4):
+        for level, description in ((1, 90), (1, 255), (1, 0), (2, 40), (2, 0), (0, 0), (3, 90), (255, 255)):
+            at(s, place)
+            s.alert(level, description)
+            s.alert(1, 41)
+            s.message(hello(drawn("alerts")))
+    at(s, 0)
+    for place in range(4):  # a handshake with warnings at every place completes
+        s.alert(1, 90)
+        [lambda: s.message(hello(drawn("client"))), lambda: s.message(exchange(b"gate7")), s.change, lambda: s.message(s.finished())][place]()
+
+
+def replays(s):
+    server, client = drawn("server old"), drawn("client old")
+    for random in (server, server, drawn("server new")):  # the second as after the old server's reboot
+        s.start(random)
+        recorded = [hello(client), exchange(b"gate7")]
+        for m in recorded:
+            s.message(m)
+        s.change()
+        if random == server:
+            old = s.finished()
+        s.message(old)
+        s.message(old)
+    at(s, 1)
+    s.message(hello(client))  # a second hello
+    at(s, 2)
+    s.message(exchange(b"gate7"))  # a second key exchange
+    at(s, 3)
+    s.message(s.finished(b"server finished"))
+    s.key_block(0x1301, server, client)
+
+
+def series(s, count):
+    """Calls in any order: each draw is a byte of a stream with a fixed seed."""
+    stream = iter(drawn("series", 60 * count))
+    for i in range(count):
+        at(s, next(stream) % 4, rule=next(stream) % 3, name="series %d" % i)
+        for _ in range(6):
+            pick, more = next(stream) % 10, next(stream)
+            awaited = {"hello": hello(drawn("c%d" % i)), "exchange": exchange([b"gate7", b"gate", b"nobody"][more % 3])}
+            if pick < 4:
+                m = bytearray(s.finished() if s.server.awaits == "finished" else awaited.get(s.server.awaits, b"\x14\0\0\0"))
+                if pick == 0:
+                    m[more % len(m)] ^= 1 << more % 8
+                s.message(bytes(m), (0, 15, 16, 55, 56, 60, 60, 60)[next(stream) % 8])
+            elif pick < 7:
+                s.change()
+            elif pick < 8:
+                s.alert(1, more)
+            elif pick < 9:
+                s.alert(more % 4, next(stream) % 2)
+            else:
+                s.message(drawn("m%d" % more, more % 50))
+
+
+def script():
+    s = Script()
+    for part in (handshakes, unlisted, settings, headers, hellos, rooms, tables, alerts, replays):
+        part(s)
+    series(s, 200)
+    return s
+
+
+if __name__ == "__main__":
+    made = script()
+    if sys.argv[1] == "stdin":
+        sys.stdout.buffer.write(b"".join(made.calls))
+    else:
+        print("\n".join(made.lines))
