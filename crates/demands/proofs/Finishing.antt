@@ -5,7 +5,7 @@ use mathlib.Core.Logic.{_⊎_, inl, inr}
 use Prim.Native.Nat.{ℕ, _+_, _≤_, _<_}
 use native.Mathlib.Omega.{arith}
 use native.Mathlib.Decide.{decLe}
-use mathlib.Core.Bool.{Bool, true, false, and-eq-true-iff}
+use mathlib.Core.Bool.{Bool, true, false, cond, and-eq-true-iff}
 use mathlib.Core.List.{List, _++_}
 use mathlib.Core.Option.{Option, none, some}
 use lib.ListN.{length, length-append}
@@ -29,9 +29,11 @@ use Rattle.server.specs.declared.Phase.{Phase}
 use Rattle.server.specs.declared.Connection.{Connection}
 use Rattle.server.specs.Connection.{Settings, acceptable, started, ended}
 use Rattle.server.specs.Steps.{Step, refuse, accept, View, suites, flight, masterUnder, finishedOf, isValue, judged, finishedValue, messageStep}
+use Rattle.server.specs.Inner.{flightLength}
+use Rattle.server.proofs.Hellos.{length-flight}
 use Rattle.demands.specs.Series.{Call, message, changeOfCipher, alert, call}
 use Rattle.demands.specs.Terms.{LegalHello, LegalKeyExchange, LegalFinished, flightTo, valueUnder, Aside, ChangeCame, named, RightFinished, ShortFinished}
-use Rattle.demands.proofs.Values.{is-value, value-is, compared, servers-value, flight-size}
+use Rattle.demands.proofs.Values.{is-value, value-is, compared, servers-value}
 use Rattle.demands.proofs.Settling.{refused-closes, accepted-next, short-stays, Fate, warning-stays, alert-fate, unread, unread-alerts, orRefuse, step-read, read-size}
 use Rattle.demands.proofs.Stages.{helloed, keyed, changed, flight-is}
 
@@ -61,7 +63,13 @@ flight-short : (s : Settings) → acceptable s ≡ true → (suite : ℕ) → le
 flight-short s ok suite =
     let first = and-eq-true-iff (eqb (length (s .random)) 32) (leb (length (s .hint)) 128) .0
     (and-eq-true-iff _ (validUtf8 (s .hint)) .0 (and-eq-true-iff _ (eqb (length (s .standIn)) 32) .0 ok .0) .0) in
-    flight-size (s .random) (s .hint) suite (eqb-true _ _ (first .0)) (leb-true _ _ (first .1))
+    let size = length-flight (s .random) (s .hint) suite (eqb-true _ _ (first .0)) in
+    let most : flightLength (length (s .hint)) ≤ 180 = few (eqb (length (s .hint)) 0) (leb-true _ _ (first .1)) in
+    omega (arith, size)
+  where
+    few : (none : Bool) → length (s .hint) ≤ 128 → cond none 46 (52 + length (s .hint)) ≤ 180
+    few true h = omega arith
+    few false h = omega arith
 
 module _ (s : Settings) (v : View) {hello : List ℕ} (legal : LegalHello hello) (exchange : List ℕ) where
   abbrev messages : List ℕ
@@ -133,7 +141,7 @@ module _ (s : Settings) (v : View) {hello : List ℕ} (legal : LegalHello hello)
         of-read none read = inr (finished-read m ∙ rw read)
         of-read (some value) read = of-value value read (judged-other found m value)
 
-    pub finished-right : acceptable s ≡ true → LegalKeyExchange exchange → (m : List ℕ) → Right s legal exchange found m
+    finished-right : acceptable s ≡ true → LegalKeyExchange exchange → (m : List ℕ) → Right s legal exchange found m
         → (own : List ℕ) × (length own ≡ 12) × (finishedStep m ≡ accept (bytes Fixed.finished own) (ended Phase.Complete))
     finished-right ok legal-exchange m r =
         let fits : length m ≤ limit = read-size (λ h. contents m (afterHeader h (filledBy 12 m))) (λ r. refl) 20 m (r .finished .value) (r .finished .read) in

@@ -7,7 +7,7 @@ use Prim.Native.Nat.{ℕ}
 use native.Mathlib.Omega.{arith}
 use mathlib.Core.Bool.{Bool, true, false, cond, not, _||_, true≢false}
 use mathlib.Core.List.{List, [], _∷_, _++_, append-assoc, append-nil}
-use mathlib.Core.Option.{Option, none, some}
+use mathlib.Core.Option.{Option, none, some, Option·none-ne-some}
 use lib.Dec.{eqb}
 use Rattle.refusal.specs.declared.Refusal.the-variants.{IllegalParameter}
 use Rattle.messages.specs.KeyExchange.{readVector}
@@ -176,7 +176,7 @@ module _ (s : Settings) (ok : acceptable s ≡ true) (hide : ruleOf (s .named) �
         of-identity i read (inr set) = names-one m out (record { identity = i; read = read }) set
 
         of-read : (o : Option (List ℕ)) → readVector 16 m ≡ o → Goes calls (message m out) here here
-        of-read none read = alike (λ i read'. absurd (let z : _≡_ {A = ℕ} 0 1 = cc in omega arith))
+        of-read none read = alike (λ i read'. absurd (Option·none-ne-some i (sym read ∙ read')))
         of-read (some i) read = of-identity i read (agree i)
     exchange-on changeOfCipher = same-on calls changeOfCipher here refl
     exchange-on (alert level description) = same-on calls (alert level description) here refl
@@ -322,7 +322,7 @@ sameness s ok hide identity table without removed good good' calls never =
     unlisted i is before x judged =
         let gone : keyOf without identity ≡ none = removed-gone identity table without removed good in
         let found : keyOf without identity ≡ some (judged .right .key) = rw (← is, ← judged .names) (judged .right .listed) in
-        absurd (let z : _≡_ {A = ℕ} 0 1 = cc in omega arith)
+        Option·none-ne-some (judged .right .key) (sym gone ∙ found)
 
     never-judged : NoneJudgedRightOf (λ i. i ≡ identity) s (viewOf table) (viewOf without) calls
     never-judged i is = (rw is never, λ before x after split. unlisted i is before x)

@@ -1,12 +1,11 @@
 -- What a step leaves behind, whatever the connection: by its answer and the room; by a received alert; by the tests on a header and a reader.
 -- Assumes nothing.
-use mathlib.Core.Path.{_≡_, refl, _∙_}
+use mathlib.Core.Path.{_≡_, refl, sym, _∙_}
 use mathlib.Core.Logic.{_⊎_, inl, inr}
 use Prim.Native.Nat.{ℕ, _-_, _≤_, _<_}
-use native.Mathlib.Omega.{arith}
 use mathlib.Core.Bool.{Bool, true, false, cond}
 use mathlib.Core.List.{List}
-use mathlib.Core.Option.{Option, none, some}
+use mathlib.Core.Option.{Option, none, some, Option·none-ne-some}
 use lib.ListN.{length, getD, drop}
 use lib.Dec.{leb, ltb, eqb}
 use borrow.Author.Tests.{leb-true, eqb-true, eqb-false, ne-eqb, le-leb, lt-leb}
@@ -94,7 +93,7 @@ header-tested kind m = go (ltb (length m) 4) (eqb (getD m 0 0) kind) (eqb (state
     go false true true true fits = leb-true (length m) limit fits
 
 -- what a message is refused with that its reader refuses
-abbrev pub refusalOf : Verdict → Refusal
+abbrev refusalOf : Verdict → Refusal
 refusalOf Verdict.Accepted = DecodeError
 refusalOf (Verdict.Refused r) = r
 
@@ -131,4 +130,4 @@ module _ {A : Type 0} where
       where
         go : (h : Verdict) → Tested m h → read h ≡ some a → length m ≤ limit
         go Verdict.Accepted t e = t
-        go (Verdict.Refused r) t e = absurd (let z : _≡_ {A = ℕ} 0 1 = cc (blind r) in omega arith)
+        go (Verdict.Refused r) t e = absurd (Option·none-ne-some a (sym (blind r) ∙ e))

@@ -6,13 +6,12 @@ use mathlib.Core.Logic.{_⊎_, inl, inr}
 use Prim.Native.Nat.{ℕ, _-_, _≤_}
 use native.Mathlib.Omega.{arith}
 use native.Mathlib.Decide.{decLe}
-use mathlib.Core.Bool.{Bool, true, false, cond, not}
+use mathlib.Core.Bool.{Bool, true, false, cond}
 use mathlib.Core.List.{List, []}
 use mathlib.Core.Option.{Option, none, some}
 use lib.ListN.{length, replicate}
 use lib.Seq.{take-append-seam}
 use lib.Dec.{ltb}
-use borrow.Author.Tests.{ltb-false, le-ltb}
 use Rattle.refusal.specs.declared.Refusal.the-variants.{UnexpectedMessage, HandshakeFailure, IllegalParameter, DecodeError, ProtocolVersion, UnknownPskIdentity}
 use Rattle.messages.specs.declared.Verdict.{Verdict}
 use Rattle.messages.specs.Header.{header}
@@ -24,6 +23,7 @@ use Rattle.server.specs.declared.Phase.{Phase}
 use Rattle.server.specs.declared.Connection.{Connection}
 use Rattle.server.specs.Connection.{Settings, ruleOf, started, ended, hintOf}
 use Rattle.server.specs.Steps.{Step, refuse, accept, View, suites, chosen, offersNull, flight, flightFor, afterHello, helloChosen, helloFields, afterKeys, keyFound, keyIdentity, messageStep, afterChange, settled}
+use Rattle.server.proofs.Hellos.{version-old, null-missing, null-there}
 use Rattle.demands.specs.Series.{Call, message, changeOfCipher, alert, call}
 use Rattle.demands.specs.Terms.{LegalHello, LegalKeyExchange, flightTo, IgnoredWarning, Aside, ShortHello, BadTableCall}
 use Rattle.demands.proofs.Settling.{refused-closes, accepted-next, short-stays, Alerts, Fate, warning-stays, alert-fate, Tested, header-tested, unread, unread-alerts, orRefuse, step-read}
@@ -57,36 +57,29 @@ module _ (s : Settings) (v : View) where
   hello-read : (m : List ℕ) → helloStep m ≡ orRefuse (unread 1 m) (λ f. helloFields suites (started s) m (some f)) (readClientHello m)
   hello-read m = step-read (λ h. clientFields m (clientHeader m h)) (λ r. refl) (helloFields suites (started s) m) refl (header 1 m)
 
-  pub hello-legal : {m : List ℕ} (legal : LegalHello m) → helloStep m ≡ accept (flightTo s legal) (helloed s legal)
+  hello-legal : {m : List ℕ} (legal : LegalHello m) → helloStep m ≡ accept (flightTo s legal) (helloed s legal)
   hello-legal {m} legal =
-      hello-read m ∙ rw (legal .read, le-ltb (legal .fields .version) 0x0303 (legal .version), legal .null)
-      (ap (helloChosen (started s) m (legal .fields)) (legal .common) ∙ rw (flight-is s (legal .suite)))
+      hello-read m ∙ rw (legal .read) (null-there (started s) m (legal .fields) (legal .version) (legal .null))
+      ∙ ap (helloChosen (started s) m (legal .fields)) (legal .common) ∙ rw (flight-is s (legal .suite))
 
-  pub hello-other : (m : List ℕ) → LegalHello m ⊎ Alerts (helloStep m)
+  hello-other : (m : List ℕ) → LegalHello m ⊎ Alerts (helloStep m)
   hello-other m = of-read (readClientHello m) refl
     where
-      of-suites : (f : ClientHello) → readClientHello m ≡ some f → 0x0303 ≤ f .version → offersNull (f .methods) ≡ true
-          → (o : Option ℕ) → chosen suites (f .suites) ≡ o → LegalHello m ⊎ Alerts (helloChosen (started s) m f o)
-      of-suites f read version null none common = inr (HandshakeFailure, refl, refl)
-      of-suites f read version null (some suite) common =
+      step : (f : ClientHello) → readClientHello m ≡ some f → helloStep m ≡ helloFields suites (started s) m (some f)
+      step f read = hello-read m ∙ rw read
+
+      of-fields : (f : ClientHello) → readClientHello m ≡ some f → Dec (0x0303 ≤ f .version) → (b : Bool) → offersNull (f .methods) ≡ b
+          → (o : Option ℕ) → chosen suites (f .suites) ≡ o → LegalHello m ⊎ Alerts (helloStep m)
+      of-fields f read (no old) b null o common = inr (ProtocolVersion, step f read ∙ version-old (started s) m f (omega arith), refl)
+      of-fields f read (yes version) false null o common = inr (IllegalParameter, step f read ∙ null-missing (started s) m f version null, refl)
+      of-fields f read (yes version) true null none common =
+          inr (HandshakeFailure, step f read ∙ null-there (started s) m f version null ∙ ap (helloChosen (started s) m f) common, refl)
+      of-fields f read (yes version) true null (some suite) common =
           inl (record { fields = f; read = read; version = version; null = null; suite = suite; common = common })
-
-      of-null : (f : ClientHello) → readClientHello m ≡ some f → 0x0303 ≤ f .version → (b : Bool) → offersNull (f .methods) ≡ b
-          → LegalHello m ⊎ Alerts (cond (not b) (refuse IllegalParameter) (helloChosen (started s) m f (chosen suites (f .suites))))
-      of-null f read version true null = of-suites f read version null (chosen suites (f .suites)) refl
-      of-null f read version false null = inr (IllegalParameter, refl, refl)
-
-      of-version : (f : ClientHello) → readClientHello m ≡ some f → (b : Bool) → ltb (f .version) 0x0303 ≡ b → LegalHello m
-          ⊎ Alerts (cond b (refuse ProtocolVersion)
-          (cond (not (offersNull (f .methods))) (refuse IllegalParameter) (helloChosen (started s) m f (chosen suites (f .suites)))))
-      of-version f read true version = inr (ProtocolVersion, refl, refl)
-      of-version f read false version = of-null f read (ltb-false (f .version) 0x0303 version) (offersNull (f .methods)) refl
 
       of-read : (o : Option ClientHello) → readClientHello m ≡ o → LegalHello m ⊎ Alerts (helloStep m)
       of-read none read = inr (unread 1 m, hello-read m ∙ rw read, unread-alerts 1 m)
-      of-read (some f) read =
-          let step : helloStep m ≡ helloFields suites (started s) m (some f) = hello-read m ∙ rw read in
-          rw step (of-version f read (ltb (f .version) 0x0303) refl)
+      of-read (some f) read = of-fields f read (decLe 0x0303 (f .version)) (offersNull (f .methods)) refl (chosen suites (f .suites)) refl
 
   pub hello-stays : (x : Call) → Aside (ShortHello s) x → call v (started s) x .next ≡ started s
   unfolding started

@@ -4,29 +4,20 @@ use mathlib.Core.Path.{_≡_, refl, ap, _∙_}
 use Prim.Native.Nat.{ℕ, _+_, _*_, _≤_}
 use native.Mathlib.Omega.{arith}
 use mathlib.Core.Bool.{false}
-use mathlib.Core.List.{List, _++_}
-use lib.ListN.{length, replicate, length-append, length-replicate}
+use mathlib.Core.List.{List}
+use lib.ListN.{length}
 use lib.Count.{leadingZeros}
-use borrow.Author.Tests.{le-leb}
-use Rattle.endian.specs.Number.{be}
 use Rattle.refusal.specs.Lent.{answer}
 use Rattle.refusal.specs.declared.Written.the-variants.{Wrote}
 use Rattle.keys.specs.Secrets.{premaster, premasterBytes}
+use Rattle.keys.proofs.Lengths.{length-premaster, premaster-given}
 use Rattle.messages.proofs.ClientHellos.{at-least-45}
 use Rattle.keytable.specs.Utf8.{validUtf8}
 use Rattle.keytable.specs.Table.{wellFormed, keyOf}
 use Rattle.demands.specs.Worked.{BytesWorkedThrough, GivesR2, unended, odd}
 
-premaster-length : (psk : List ℕ) → length (premasterBytes psk) ≡ 4 + 2 * length psk
-unfolding premasterBytes
-premaster-length psk =
-    let n = length psk in
-    rw (length-append (be 2 n) (replicate n 0 ++ (be 2 n ++ psk)), length-append (replicate n 0) (be 2 n ++ psk))
-    (rw (length-append (be 2 n) psk, length-replicate {A = ℕ} n 0) (omega arith))
-
 premaster-answer : (psk : List ℕ) → 1 ≤ length psk → length psk ≤ 64 → answer (premaster psk) ≡ Wrote (4 + 2 * length psk)
-unfolding premaster
-premaster-answer psk h k = rw (le-leb 1 (length psk) h, le-leb (length psk) 64 k) (ap Wrote (premaster-length psk))
+premaster-answer psk h k = rw (premaster-given psk h k) (ap Wrote (length-premaster psk))
 
 bad-gives-R2 : (t : List ℕ) → wellFormed t ≡ false → GivesR2 t
 bad-gives-R2 t bad ours c m fits = rw (fits, bad)

@@ -1,3 +1,4 @@
 pub mod HmacSteps
+pub mod Lengths
 pub mod PremasterParts
 pub mod PrfSteps

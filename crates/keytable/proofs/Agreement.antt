@@ -69,7 +69,7 @@ every-true P f (x ∷ s) = (f x, every-true P f s)
 pub apart-sound : (xs : List (List ℕ)) → apart [] xs ≡ true → Distinct xs
 apart-sound xs h = apart-fresh [] xs h .1
 
-pub apart-complete : (xs : List (List ℕ)) → Distinct xs → apart [] xs ≡ true
+apart-complete : (xs : List (List ℕ)) → Distinct xs → apart [] xs ≡ true
 apart-complete xs d = fresh-apart [] xs (every-true _ (λ x. refl) xs) d
 
 -- ---- lines
@@ -90,7 +90,7 @@ identities-parted [] = refl
 identities-parted (l ∷ ls) = ap (λ (r : List (List ℕ)). identityOf l ∷ r) (identities-parted ls)
 
 module _ (l : Line) (v : ValidLine l) where
-  pub identity-of-line : identityOf (lineOf l) ≡ l .identity
+  identity-of-line : identityOf (lineOf l) ≡ l .identity
   identity-of-line = upto-append colon (l .identity) (l .hex) (identity-no-colon l v)
 
   line-complete : validLine (lineOf l) ≡ true
@@ -102,7 +102,7 @@ lines-complete : (ls : List Line) → Each ValidLine ls → each validLine (map 
 lines-complete [] h = refl
 lines-complete (l ∷ ls) h = both (line-complete l (h .0)) (lines-complete ls (h .1))
 
-pub identities-of-lines : (ls : List Line) → Each ValidLine ls → map identityOf (map lineOf ls) ≡ map identityIn ls
+identities-of-lines : (ls : List Line) → Each ValidLine ls → map identityOf (map lineOf ls) ≡ map identityIn ls
 identities-of-lines [] h = refl
 identities-of-lines (l ∷ ls) h =
     ap₂ (λ (i : List ℕ) (r : List (List ℕ)). i ∷ r) (identity-of-line l (h .0)) (identities-of-lines ls (h .1))

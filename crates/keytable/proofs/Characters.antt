@@ -9,25 +9,16 @@ use native.Mathlib.Numerals.{sub-one}
 use mathlib.Core.Bool.{Bool, true, false, cond, _&&_, and-false, true≢false}
 use mathlib.Core.List.{List, [], _∷_}
 use lib.ListN.{length, take, drop, getD, length-drop}
-use lib.Seq.{take-all, drop-cons, drop-drop}
+use lib.Seq.{take-all, drop-drop}
 use lib.Dec.{leb, eqb}
 use borrow.Author.Tests.{eq-eqb, ne-eqb, lt-leb}
+use Rattle.refusal.proofs.Copy.{window, take-window, part-to-end}
 use Rattle.keytable.specs.Utf8.{leadingOnes, sizeOf, size, character, validAfter}
-use Rattle.keytable.proofs.Parts.{rest, rest-drop, first-of-drop}
-
--- n elements from the i-th on, one by one
-abbrev pub ats : ℕ → ℕ → List ℕ → List ℕ
-ats zero i s = []
-ats (suc n) i s = getD s i 0 ∷ ats n (suc i) s
-
-pub take-ats : (n i : ℕ) (s : List ℕ) → i + n ≤ length s → take n (drop i s) ≡ ats n i s
-take-ats zero i s h = refl
-take-ats (suc n) i s h =
-    rw (drop-cons s i 0 (omega arith)) (ap (λ (l : List ℕ). getD s i 0 ∷ l) (take-ats n (suc i) s (omega arith)))
+use Rattle.keytable.proofs.Parts.{rest, first-of-drop}
 
 -- the front of a text, byte by byte
-pub front : (s : List ℕ) (n w : ℕ) → n ≡ w → n ≤ length s → character (take n s) ≡ character (ats w 0 s)
-front s n w e h = rw e (ap character (take-ats w 0 s (omega arith)))
+pub front : (s : List ℕ) (n w : ℕ) → n ≡ w → n ≤ length s → character (take n s) ≡ character (window w 0 s)
+front s n w e h = rw e (ap character (take-window w 0 s (omega arith)))
 
 -- a character that is cut off is none
 pub cut-off : (s : List ℕ) (n : ℕ) → 0 < length s → n ≡ size (getD s 0 0) → length s < n → character (take n s) ≡ false
@@ -48,7 +39,7 @@ single (a ∷ s) n some e one = rw one (eq-eqb (size a) 1 (sym e ∙ one))
 
 module _ (s : List ℕ) (n : ℕ) (some : 0 < length s) (e : n ≡ size (getD s 0 0)) (good : character (take n s) ≡ true) where
   -- a character has a byte and ends within the text
-  pub some-bytes : 0 < n
+  some-bytes : 0 < n
   some-bytes = go n good
     where
       go : (m : ℕ) → character (take m s) ≡ true → 0 < m
@@ -61,13 +52,13 @@ module _ (s : List ℕ) (n : ℕ) (some : 0 < length s) (e : n ≡ size (getD s 
     | no h ↦ absurd (true≢false (sym good ∙ cut-off s n some e (omega arith)))
   ]
 
-pub valid-skip : (k : ℕ) (s : List ℕ) → k ≤ length s → validAfter k s ≡ validAfter 0 (drop k s)
+valid-skip : (k : ℕ) (s : List ℕ) → k ≤ length s → validAfter k s ≡ validAfter 0 (drop k s)
 valid-skip zero s h = refl
 valid-skip (suc k) [] h = absurd (omega arith)
 valid-skip (suc k) (b ∷ s) h = valid-skip k s (le-of-suc-le-suc h)
 
 -- after a character the text is as good as the rest
-pub valid-next : (s : List ℕ) (n : ℕ) → 0 < length s → n ≡ size (getD s 0 0) → character (take n s) ≡ true
+valid-next : (s : List ℕ) (n : ℕ) → 0 < length s → n ≡ size (getD s 0 0) → character (take n s) ≡ true
     → validAfter 0 s ≡ validAfter 0 (drop n s)
 valid-next [] n some e good = absurd (omega arith)
 valid-next (b ∷ s) zero some e good = absurd (true≢false (sym good))
@@ -75,12 +66,12 @@ valid-next (b ∷ s) (suc m) some e good =
     rw (← e) (rw (good, sub-one) (valid-skip m s (le-of-suc-le-suc (whole (b ∷ s) (suc m) some e good))))
 
 -- before no character no text is good
-pub valid-stop : (s : List ℕ) (n : ℕ) → 0 < length s → n ≡ size (getD s 0 0) → character (take n s) ≡ false → validAfter 0 s ≡ false
+valid-stop : (s : List ℕ) (n : ℕ) → 0 < length s → n ≡ size (getD s 0 0) → character (take n s) ≡ false → validAfter 0 s ≡ false
 valid-stop [] n some e bad = absurd (omega arith)
 valid-stop (b ∷ s) n some e bad = rw (← e) (rw bad)
 
 -- no character has more than four bytes
-pub size-small : (ones : ℕ) → sizeOf ones ≤ 4
+size-small : (ones : ℕ) → sizeOf ones ≤ 4
 size-small n = either (eqb n 0) 1 _ (omega arith) inner
   where
     either : (t : Bool) (x y : ℕ) → x ≤ 4 → y ≤ 4 → cond t x y ≤ 4
@@ -102,26 +93,26 @@ none-begins s n e h1 h2 h3 h4 =
 -- a turn of the loop over a text: the character at `at` has n bytes as its first byte has it
 module _ (s : List ℕ) (at n : ℕ) (h : at < length s) (e : n ≡ size (getD s at 0)) where
   some-left : 0 < length (rest s at)
-  some-left = rw (rest-drop s at) (simp length-drop (omega arith))
+  some-left = rw (part-to-end s at) (simp length-drop (omega arith))
 
   size-left : n ≡ size (getD (rest s at) 0 0)
-  size-left = e ∙ ap size (sym (ap (λ (l : List ℕ). getD l 0 0) (rest-drop s at) ∙ first-of-drop s at))
+  size-left = e ∙ ap size (sym (ap (λ (l : List ℕ). getD l 0 0) (part-to-end s at) ∙ first-of-drop s at))
 
   pub turn-begins : (0 < length (rest s at)) × (n ≡ size (getD (rest s at) 0 0))
   turn-begins = (some-left, size-left)
 
   pub turn-ends : character (take n (rest s at)) ≡ false → validAfter 0 s ≡ validAfter 0 (drop at s) → false ≡ validAfter 0 s
   turn-ends bad now =
-      sym (now ∙ ap (λ (l : List ℕ). validAfter 0 l) (sym (rest-drop s at)) ∙ valid-stop (rest s at) n some-left size-left bad)
+      sym (now ∙ ap (λ (l : List ℕ). validAfter 0 l) (sym (part-to-end s at)) ∙ valid-stop (rest s at) n some-left size-left bad)
 
   module _ (good : character (take n (rest s at)) ≡ true) where
     pub turn-moves : 0 < n
     turn-moves = some-bytes (rest s at) n some-left size-left good
 
     pub turn-within : at + n ≤ length s
-    turn-within = omega (arith, simp (rest-drop s at, length-drop) at (whole (rest s at) n some-left size-left good))
+    turn-within = omega (arith, simp (part-to-end s at, length-drop) at (whole (rest s at) n some-left size-left good))
 
     pub turn-again : validAfter 0 s ≡ validAfter 0 (drop at s) → validAfter 0 s ≡ validAfter 0 (drop (at + n) s)
     turn-again now =
-        now ∙ ap (λ (l : List ℕ). validAfter 0 l) (sym (rest-drop s at)) ∙ valid-next (rest s at) n some-left size-left good
-        ∙ ap (λ (l : List ℕ). validAfter 0 l) (ap (λ (l : List ℕ). drop n l) (rest-drop s at) ∙ drop-drop n at s)
+        now ∙ ap (λ (l : List ℕ). validAfter 0 l) (sym (part-to-end s at)) ∙ valid-next (rest s at) n some-left size-left good
+        ∙ ap (λ (l : List ℕ). validAfter 0 l) (ap (λ (l : List ℕ). drop n l) (part-to-end s at) ∙ drop-drop n at s)

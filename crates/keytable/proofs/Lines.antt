@@ -9,9 +9,10 @@ use mathlib.Core.List.{List, [], _∷_}
 use lib.ListN.{length, take, drop, getD, length-drop, drop-of-length-le}
 use lib.Seq.{drop-drop}
 use lib.Dec.{eqb}
+use Rattle.refusal.proofs.Copy.{part-to-end}
 use Rattle.keytable.specs.Table.{lineEnd, colon, before, lines, each, upto, past, identityOf, validIdentity, validKey, validLine, ended}
 use Rattle.keytable.specs.Inner.{part}
-use Rattle.keytable.proofs.Parts.{rest, rest-drop}
+use Rattle.keytable.proofs.Parts.{rest}
 
 pub length-upto : (x : ℕ) (s : List ℕ) → length (upto x s) ≤ length s
 length-upto x [] = omega arith
@@ -29,7 +30,7 @@ take-upto x (b ∷ s) = go (eqb b x) refl (take-upto x s)
     go true e ih = rw e
     go false e ih = rw e (ap (λ (l : List ℕ). b ∷ l) ih)
 
-pub past-drop : (x : ℕ) (s : List ℕ) → past x s ≡ drop (suc (length (upto x s))) s
+past-drop : (x : ℕ) (s : List ℕ) → past x s ≡ drop (suc (length (upto x s))) s
 past-drop x [] = refl
 past-drop x (b ∷ s) = go (eqb b x) refl (past-drop x s)
   where
@@ -90,16 +91,16 @@ no-lines s at h = ap lines (drop-of-length-le s h)
 -- ---- a line: the identity before its colon, and the key after it
 
 module _ (l : List ℕ) (n : ℕ) (e : n ≡ length (upto colon l)) where
-  pub identity-is : take n l ≡ identityOf l
+  identity-is : take n l ≡ identityOf l
   identity-is = rw e (take-upto colon l)
 
   pub colon-within : n ≤ length l
   colon-within = omega (arith, length-upto colon l)
 
   pub key-is : rest l (n + 1) ≡ past colon l
-  key-is = rest-drop l (n + 1) ∙ sym (past-drop colon l ∙ ap (λ (i : ℕ). drop i l) (sym (add-one n ∙ ap suc e)))
+  key-is = part-to-end l (n + 1) ∙ sym (past-drop colon l ∙ ap (λ (i : ℕ). drop i l) (sym (add-one n ∙ ap suc e)))
 
-  pub no-key : n ≡ length l → past colon l ≡ []
+  no-key : n ≡ length l → past colon l ≡ []
   no-key h = past-drop colon l ∙ drop-of-length-le l {i = suc (length (upto colon l))} (omega arith)
 
   pub identity-fails : validIdentity (take n l) ≡ false → false ≡ validLine l

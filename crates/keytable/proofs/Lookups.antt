@@ -6,7 +6,7 @@ use Prim.Native.Nat.{ℕ, _≤_}
 use native.Mathlib.Omega.{arith}
 use mathlib.Core.Bool.{Bool, true, false, cond, true≢false}
 use mathlib.Core.List.{List, [], _∷_, _++_, map}
-use mathlib.Core.Option.{Option, none, some}
+use mathlib.Core.Option.{Option, none, some, Option·none-ne-some}
 use lib.ListN.{length}
 use lib.Dec.{eqb}
 use borrow.Author.Tests.{eq-eqb, ne-eqb, eqb-true}
@@ -80,7 +80,7 @@ listed-other x i k (l ∷ ls) (inl m) d = λ e. d .0 (sym e ∙ m .0)
 listed-other x i k (l ∷ ls) (inr m) d = listed-other x i k ls m (d .1)
 
 found-listed : (i k : List ℕ) (ls : List Line) → Each ValidLine ls → keyOfText (firstHex i ls) ≡ some k → Listed i k ls
-found-listed i k [] v e = let z : _≡_ {A = ℕ} 0 1 = cc in absurd (omega arith)
+found-listed i k [] v e = absurd (Option·none-ne-some k e)
 found-listed i k (l ∷ ls) v e = go (same i (l .identity)) refl (λ r. found-listed i k ls (v .1) r)
   where
     go : (t : Bool) → same i (l .identity) ≡ t → (keyOfText (firstHex i ls) ≡ some k → Listed i k ls) → Listed i k (l ∷ ls)
@@ -128,8 +128,8 @@ key-size t i k e = go (firstText i (lines t)) e
 
     with-text : (s : List ℕ) (t : Bool) → validKey s ≡ t → keyIn s ≡ some k → (1 ≤ length k) × (length k ≤ 64)
     with-text s true v h = sized s (key-sound s v) (cc (key-is s v))
-    with-text s false v h = let z : _≡_ {A = ℕ} 0 1 = cc (rw v at h) in absurd (omega arith)
+    with-text s false v h = absurd (Option·none-ne-some k (rw v at h))
 
     go : (o : Option (List ℕ)) → keyOfText o ≡ some k → (1 ≤ length k) × (length k ≤ 64)
-    go none h = let z : _≡_ {A = ℕ} 0 1 = cc in absurd (omega arith)
+    go none h = absurd (Option·none-ne-some k h)
     go (some s) h = with-text s (validKey s) refl h

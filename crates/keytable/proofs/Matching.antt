@@ -15,7 +15,7 @@ use Rattle.keytable.proofs.Parts.{part-cons, part-empty}
 use Rattle.keytable.proofs.Walks.{left-cons}
 use Rattle.keytable.proofs.Lines.{line-here}
 
-pub no-text : (identity : List ℕ) → keyText identity [] ≡ none
+no-text : (identity : List ℕ) → keyText identity [] ≡ none
 no-text [] = refl
 no-text (i ∷ is) = refl
 

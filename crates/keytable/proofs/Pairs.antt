@@ -15,7 +15,7 @@ use Rattle.keytable.proofs.Flags.{and-left, and-right}
 
 -- ---- each of a list
 
-pub each-at : (p : ℕ → Bool) (s : List ℕ) (i : ℕ) → i < length s → each p s ≡ true → p (getD s i 0) ≡ true
+each-at : (p : ℕ → Bool) (s : List ℕ) (i : ℕ) → i < length s → each p s ≡ true → p (getD s i 0) ≡ true
 each-at p [] i h all = absurd (omega arith)
 each-at p (b ∷ s) zero h all = and-left (p b) (each p s) all
 each-at p (b ∷ s) (suc i) h all = each-at p s i (omega arith) (and-right (p b) (each p s) all)

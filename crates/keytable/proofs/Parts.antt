@@ -6,15 +6,12 @@ use native.Mathlib.Omega.{arith}
 use native.Mathlib.Nat.{add-zero}
 use native.Mathlib.Numerals.{add-one}
 use mathlib.Core.List.{List, [], _∷_}
-use lib.ListN.{length, take, drop, getD, length-drop}
-use lib.Seq.{take-all, getD-drop, drop-cons}
+use lib.ListN.{length, take, drop, getD}
+use lib.Seq.{getD-drop, drop-cons}
 use Rattle.keytable.specs.Inner.{part}
 
 abbrev pub rest : List ℕ → ℕ → List ℕ
 rest s at = take (length s - at) (drop at s)
-
-pub rest-drop : (s : List ℕ) (at : ℕ) → rest s at ≡ drop at s
-rest-drop s at = take-all (length s - at) (drop at s) (simp length-drop (omega arith))
 
 pub first-of-drop : (s : List ℕ) (at : ℕ) → getD (drop at s) 0 0 ≡ getD s at 0
 first-of-drop s at = getD-drop at s 0 0 ∙ ap (λ (i : ℕ). getD s i 0) (add-zero at)

@@ -20,7 +20,7 @@ pub between-sound : (low high n : ℕ) → between low high n ≡ true → (low 
 between-sound low high n h =
     (leb-true low n (and-left (leb low n) (leb n high) h), leb-true n high (and-right (leb low n) (leb n high) h))
 
-pub between-complete : (low high n : ℕ) → low ≤ n → n ≤ high → between low high n ≡ true
+between-complete : (low high n : ℕ) → low ≤ n → n ≤ high → between low high n ≡ true
 between-complete low high n l h = both (le-leb low n l) (le-leb n high h)
 
 between-above : (low high n : ℕ) → high < n → between low high n ≡ false
@@ -29,11 +29,11 @@ between-above low high n h = simp (lt-leb n high h, and-false)
 -- ---- every element
 
 module _ {A : Type 0} (p : A → Bool) (P : A → Type 0) where
-  pub each-sound : ((x : A) → p x ≡ true → P x) → (s : List A) → each p s ≡ true → Each P s
+  each-sound : ((x : A) → p x ≡ true → P x) → (s : List A) → each p s ≡ true → Each P s
   each-sound f [] h = tt
   each-sound f (x ∷ s) h = (f x (and-left (p x) (each p s) h), each-sound f s (and-right (p x) (each p s) h))
 
-  pub each-complete : ((x : A) → P x → p x ≡ true) → (s : List A) → Each P s → each p s ≡ true
+  each-complete : ((x : A) → P x → p x ≡ true) → (s : List A) → Each P s → each p s ≡ true
   each-complete f [] h = refl
   each-complete f (x ∷ s) h = both (f x (h .0)) (each-complete f s (h .1))
 

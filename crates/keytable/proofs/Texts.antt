@@ -40,7 +40,7 @@ past-append x [] r h = rw (eq-eqb x x refl)
 past-append x (b ∷ s) r h = rw (ne-eqb b x (h .0)) (past-append x s r (h .1))
 
 -- a list with something after an x is what stands before it, x, and what stands after it
-pub rejoined : (x : ℕ) (l : List ℕ) → 0 < length (past x l) → upto x l ++ (x ∷ past x l) ≡ l
+rejoined : (x : ℕ) (l : List ℕ) → 0 < length (past x l) → upto x l ++ (x ∷ past x l) ≡ l
 rejoined x [] h = absurd (omega arith)
 rejoined x (b ∷ l) h = go (eqb b x) refl (λ k. rejoined x l k)
   where
@@ -54,7 +54,7 @@ pub lines-end : (s r : List ℕ) → Without lineEnd s → lines (s ++ (lineEnd 
 lines-end [] r h = refl
 lines-end (b ∷ s) r h = rw (lines-end s r (h .1)) (rw (ne-eqb b lineEnd (h .0)))
 
-pub ended-end : (s r : List ℕ) → ended (s ++ (lineEnd ∷ r)) ≡ ended r
+ended-end : (s r : List ℕ) → ended (s ++ (lineEnd ∷ r)) ≡ ended r
 ended-end [] [] = refl
 ended-end [] (c ∷ r) = refl
 ended-end (b ∷ []) r = ended-end [] r
@@ -105,10 +105,10 @@ text-lines t e h = text-parted (lines t) h ∙ joined-lines t e
 
 -- ---- valid lines
 
-pub plain-no-end : (b : ℕ) → Plain b → ¬ (b ≡ lineEnd)
+plain-no-end : (b : ℕ) → Plain b → ¬ (b ≡ lineEnd)
 plain-no-end b h e = omega arith
 
-pub digit-no-end : (b : ℕ) → HexDigit b → ¬ (b ≡ lineEnd)
+digit-no-end : (b : ℕ) → HexDigit b → ¬ (b ≡ lineEnd)
 digit-no-end b (inl h) e = omega arith
 digit-no-end b (inr (inl h)) e = omega arith
 digit-no-end b (inr (inr h)) e = omega arith

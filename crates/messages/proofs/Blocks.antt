@@ -5,9 +5,9 @@ use mathlib.Core.Path.{_≡_, refl, sym, ap, ap₂, _∙_}
 use Prim.Native.Nat.{ℕ, zero, suc, _+_, _^_, _≤_, _<_}
 use native.Mathlib.Omega.{arith}
 use native.Mathlib.Decide.{decLe}
-use mathlib.Core.Bool.{Bool, true, _&&_, cond, and-false}
+use mathlib.Core.Bool.{Bool, true, _&&_, cond, and-false, and-eq-true-iff}
 use mathlib.Core.List.{List, [], _∷_, _++_, append-assoc}
-use mathlib.Core.Option.{Option, none, some}
+use mathlib.Core.Option.{Option, none, some, Option·none-ne-some}
 use lib.ListN.{length, take, drop, length-drop, length-append, take-append-drop, drop-of-length-le}
 use lib.Seq.{drop-drop, length-take-le, take-append-seam, drop-append-seam}
 use lib.Dec.{leb, ltb}
@@ -19,7 +19,6 @@ use Rattle.refusal.specs.declared.Refusal.{Refusal}
 use Rattle.messages.specs.declared.extensions.Step.the-variants.{Extension, End, Refused}
 use Rattle.messages.specs.Place.{endAt}
 use Rattle.messages.specs.Extensions.{Ext, extensionBytes, blockBytes, first, firstEnd, adding, extensionsUpTo, extensionsIn, ticketShape, ticketsShaped, stepAt}
-use Rattle.messages.proofs.Layouts.{and-parts}
 use Rattle.messages.proofs.Places.{vector-at, vector-last}
 
 -- ---- how many are asked for does not matter, once they are no fewer than the bytes
@@ -52,14 +51,14 @@ in-cut (x ∷ xs) h cut = rw (lt-leb (firstEnd (x ∷ xs)) (length (x ∷ xs)) c
 -- ---- the steps
 
 module _ (b : List ℕ) (at : ℕ) where
-  pub at-end : length b ≤ at → extensionsIn (drop at b) ≡ some []
+  at-end : length b ≤ at → extensionsIn (drop at b) ≡ some []
   at-end h = rw (drop-of-length-le b h)
 
   -- the end of the extension that starts at `at`, from there and from the start
   end-from : at < length b → at + firstEnd (drop at b) ≡ endAt 2 b (at + 2)
   end-from h = rw (drop-drop 2 at b) (omega arith)
 
-  pub step-there : at < length b → endAt 2 b (at + 2) ≤ length b
+  step-there : at < length b → endAt 2 b (at + 2) ≤ length b
       → extensionsIn (drop at b)
       ≡ adding (record { kind = number (take 2 (drop at b)); contents = take (stated 2 (drop (at + 2) b)) (drop (at + 4) b) })
       (extensionsIn (drop (at + 4 + stated 2 (drop (at + 2) b)) b))
@@ -74,7 +73,7 @@ module _ (b : List ℕ) (at : ℕ) where
       drop-drop (firstEnd (drop at b)) at b ∙ ap (λ (k : ℕ). drop k b) far in
       in-first (drop at b) some-left whole ∙ ap₂ adding same (ap extensionsIn rest)
 
-  pub step-cut : at < length b → length b < endAt 2 b (at + 2) → extensionsIn (drop at b) ≡ none
+  step-cut : at < length b → length b < endAt 2 b (at + 2) → extensionsIn (drop at b) ≡ none
   step-cut h cut =
       let e = end-from h in
       in-cut (drop at b) (simp length-drop (omega arith)) (simp length-drop (omega arith))
@@ -141,8 +140,8 @@ allWritable (e ∷ es) = writableExt e && allWritable es
 pub in-block : (es : List Ext) → allWritable es ≡ true → extensionsIn (blockBytes es) ≡ some es
 in-block [] h = refl
 in-block (e ∷ es) h =
-    let ok = and-parts (writableExt e) (allWritable es) h in
-    let own = and-parts (ltb (e .kind) (256 ^ 2)) (writable 2 (e .contents)) (ok .0) in
+    let ok = and-eq-true-iff (writableExt e) (allWritable es) .0 h in
+    let own = and-eq-true-iff (ltb (e .kind) (256 ^ 2)) (writable 2 (e .contents)) .0 (ok .0) in
     let b : List ℕ = blockBytes (e ∷ es) in
     let says : stated 2 (drop 2 b) ≡ length (e .contents) = number-be-lt 2 (length (e .contents)) (ltb-true _ _ (own .1)) in
     let size : length b ≡ 4 + length (e .contents) + length (blockBytes es) = simp length-append (omega arith) in
@@ -155,7 +154,7 @@ in-block (e ∷ es) h =
 
 -- an extension was added to what there was
 added : (e : Ext) (o : Option (List Ext)) (es : List Ext) → adding e o ≡ some es → (rest : List Ext) × (o ≡ some rest) × (es ≡ e ∷ rest)
-added e none es h = absurd (let z : _≡_ {A = ℕ} 0 1 = cc in omega arith)
+added e none es h = absurd (Option·none-ne-some es h)
 added e (some rest) es h = (rest, refl, cc)
 
 -- the first extension of bytes is one that can be written, and they begin with it
@@ -184,11 +183,11 @@ block-first b o es h written e = go (decLe (firstEnd b) (length b))
         let own = first-is b h fits in
         let rest = written (parts .0) (parts .1) in
         (own .0 ∙ ap (λ (l : List ℕ). extensionBytes (first b) ++ l) (rest .0) ∙ ap blockBytes (sym (parts .2)), ap allWritable (parts .2) ∙ rw (own .1) (rest .1))
-    go (no cut) = absurd (let z : _≡_ {A = ℕ} 0 1 = cc (rw (lt-leb (firstEnd b) (length b) (omega arith)) at e) in omega arith)
+    go (no cut) = absurd (Option·none-ne-some es (rw (lt-leb (firstEnd b) (length b) (omega arith)) at e))
 
 block-up-to : (n : ℕ) (b : List ℕ) (es : List Ext) → Bytes b → extensionsUpTo n b ≡ some es → Written b es
 block-up-to zero [] es h e = let none-there : es ≡ [] = cc in (rw none-there, rw none-there)
-block-up-to zero (x ∷ xs) es h e = absurd (let z : _≡_ {A = ℕ} 0 1 = cc in omega arith)
+block-up-to zero (x ∷ xs) es h e = absurd (Option·none-ne-some es e)
 block-up-to (suc n) [] es h e = let none-there : es ≡ [] = cc in (rw none-there, rw none-there)
 block-up-to (suc n) (x ∷ xs) es h e =
     let b : List ℕ = x ∷ xs in

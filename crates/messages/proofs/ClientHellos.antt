@@ -1,32 +1,91 @@
--- The reader and the writer of ClientHello are each other's inverse.
+-- Where the parts of a ClientHello stand; its reader and its writer are each other's inverse.
 -- Assumes nothing.
 use mathlib.Core.Path.{_≡_, refl, ap, _∙_}
 use Prim.Native.Nat.{ℕ, _+_, _%_, _≤_}
 use native.Mathlib.Omega.{arith}
-use mathlib.Core.Bool.{Bool, true, _&&_}
+use mathlib.Core.Bool.{Bool, true, _&&_, and-eq-true-iff}
 use mathlib.Core.List.{List, _++_}
-use mathlib.Core.Option.{Option, none, some}
+use mathlib.Core.Option.{some, Option·none-ne-some}
 use lib.ListN.{length, take, drop, length-append, length-drop}
 use lib.Seq.{length-take-le}
 use lib.Dec.{leb, eqb}
 use borrow.Author.Tests.{le-leb, leb-true}
 use Rattle.endian.specs.Number.{Bytes, number}
 use Rattle.endian.specs.Vector.{vector, writable}
+use Rattle.refusal.specs.declared.Refusal.{Refusal}
 use Rattle.messages.specs.declared.Verdict.{Verdict}
 use Rattle.messages.specs.declared.Part.{Part}
 use Rattle.messages.specs.declared.Part.the-variants.{At}
+use Rattle.messages.specs.declared.hello.Block.{Block}
 use Rattle.messages.specs.declared.hello.BlockFound.{BlockFound}
 use Rattle.messages.specs.declared.hello.BlockFound.the-variants.{Found}
+use Rattle.messages.specs.declared.client_hello.Client.{Client}
 use Rattle.messages.specs.declared.client_hello.Client.the-variants.{Read}
 use Rattle.messages.specs.Layout.{bytes, valid, Inverse}
 use Rattle.messages.specs.Header.{header}
 use Rattle.messages.specs.Place.{endAt, partAt, ruled}
 use Rattle.messages.specs.Hello.{frontRules, frontBytes, sessionAt, blockRules, tailBytes, blockAt, blockContents}
-use Rattle.messages.specs.ClientHello.{ClientHello, clientHello, suitesLength, methodsLength, clientBlock, clientMethods, clientSuites, clientSession, clientHeader, clientPlace, clientFields, readClientHello}
-use Rattle.messages.proofs.Layouts.{valid-within, valid-parts, and-parts}
+use Rattle.messages.specs.ClientHello.{ClientHello, clientHello, suitesLength, methodsLength}
+use Rattle.messages.specs.ClientHello.{clientBlock, clientMethods, clientSuites, clientSession, clientBody, clientHeader, clientPlace, clientFields, readClientHello}
+use Rattle.messages.proofs.Layouts.{valid-within, valid-parts}
 use Rattle.messages.proofs.Headers.{header-message, header-read}
-use Rattle.messages.proofs.Places.{part-there, ruled-there, vector-at, part-written}
+use Rattle.messages.proofs.Places.{part-there, ruled-there, ruled-inside, vector-at, part-written}
 use Rattle.messages.proofs.Hellos.{front-written, front-read, front-rules, length-body, block-written, block-read}
+
+-- ---- where the parts stand
+
+-- each behind the one before: the session id at x, the suites at s, the methods at t, and the block
+abbrev Parts : List ℕ → (x n s k t j : ℕ) → Block → Type 0
+Parts m x n s k t j b = (sessionAt m ≡ At x n) × (ruled suitesLength (partAt 2 m (x + n)) ≡ At s k) × (ruled methodsLength (partAt 1 m (s + k)) ≡ At t j)
+    × (blockAt true m (t + j) ≡ Found b)
+
+-- what holds of every refusal and wherever the parts stand so holds of what is found
+module _ (m : List ℕ) (Holds : Client → Type 0) (refused : (r : Refusal) → Holds (Client.Refused r))
+    (read : (x n s k t j : ℕ) (b : Block) → Parts m x n s k t j b → Holds (Read (number (take 2 (drop 4 m))) n s k t j b)) where
+  by-block : (x n s k t j : ℕ) (o : BlockFound) → sessionAt m ≡ At x n → ruled suitesLength (partAt 2 m (x + n)) ≡ At s k
+      → ruled methodsLength (partAt 1 m (s + k)) ≡ At t j → blockAt true m (t + j) ≡ o → Holds (clientBlock m n s k t j o)
+  by-block x n s k t j (Found b) session suites methods block = read x n s k t j b (session, suites, methods, block)
+  by-block x n s k t j (BlockFound.Refused r) session suites methods block = refused r
+
+  by-methods : (x n s k : ℕ) (p : Part) → sessionAt m ≡ At x n → ruled suitesLength (partAt 2 m (x + n)) ≡ At s k
+      → ruled methodsLength (partAt 1 m (s + k)) ≡ p → Holds (clientMethods m n s k p)
+  by-methods x n s k (At t j) session suites methods = by-block x n s k t j (blockAt true m (t + j)) session suites methods refl
+  by-methods x n s k (Part.Refused r) session suites methods = refused r
+
+  by-suites : (x n : ℕ) (p : Part) → sessionAt m ≡ At x n → ruled suitesLength (partAt 2 m (x + n)) ≡ p → Holds (clientSuites m n p)
+  by-suites x n (At s k) session suites = by-methods x n s k (ruled methodsLength (partAt 1 m (s + k))) session suites refl
+  by-suites x n (Part.Refused r) session suites = refused r
+
+  by-session : (p : Part) → sessionAt m ≡ p → Holds (clientSession m p)
+  by-session (At x n) session = by-suites x n (ruled suitesLength (partAt 2 m (x + n))) session refl
+  by-session (Part.Refused r) session = refused r
+
+  by-parts : Holds (clientBody m)
+  by-parts = by-session (sessionAt m) refl
+
+-- the random, which ends at 38, the k bytes of suites from s on and the j bytes of methods from t on lie inside the message
+abbrev pub Inside : List ℕ → ℕ → ℕ → ℕ → ℕ → Type 0
+Inside m s k t j = (38 ≤ length m) × (s + k ≤ length m) × (t + j ≤ length m)
+
+pub parts-inside : (m : List ℕ) (v n s k t j : ℕ) (b : Block) → clientBody m ≡ Read v n s k t j b → Inside m s k t j
+parts-inside m v n s k t j b = by-parts m (λ p. p ≡ Read v n s k t j b → Inside m s k t j) unread inside
+  where
+    unread : (r : Refusal) → Client.Refused r ≡ Read v n s k t j b → Inside m s k t j
+    unread r e = absurd (let z : _≡_ {A = ℕ} 0 1 = cc in omega arith)
+
+    inside : (x n₀ s₀ k₀ t₀ j₀ : ℕ) (b₀ : Block) → Parts m x n₀ s₀ k₀ t₀ j₀ b₀
+        → Read (number (take 2 (drop 4 m))) n₀ s₀ k₀ t₀ j₀ b₀ ≡ Read v n s k t j b → Inside m s k t j
+    inside x n₀ s₀ k₀ t₀ j₀ b₀ (session, suites, methods, block) e =
+        let first = ruled-inside (λ i. leb i 32) 1 m 38 x n₀ session in
+        let second = ruled-inside suitesLength 2 m (x + n₀) s₀ k₀ suites in
+        let third = ruled-inside methodsLength 1 m (s₀ + k₀) t₀ j₀ methods in
+        let suites-at : s₀ ≡ s = cc e in
+        let suites-size : k₀ ≡ k = cc e in
+        let methods-at : t₀ ≡ t = cc e in
+        let methods-size : j₀ ≡ j = cc e in
+        (omega arith, omega arith, omega arith)
+
+-- ---- valid fields
 
 -- what the rules say of valid fields
 module _ (f : ClientHello) (h : valid clientHello f ≡ true) where
@@ -37,12 +96,13 @@ module _ (f : ClientHello) (h : valid clientHello f ≡ true) where
   rules-of =
       let suites : Bool = writable 2 (f .suites) && suitesLength (length (f .suites)) in
       let methods : Bool = writable 1 (f .methods) && methodsLength (length (f .methods)) in
-      let two = and-parts (frontRules (f .version) (f .random) (f .sessionId)) (suites && (methods && blockRules true (f .extensions))) (valid-parts clientHello f h .0) in
-      let three = and-parts suites (methods && blockRules true (f .extensions)) (two .1) in
-      let four = and-parts methods (blockRules true (f .extensions)) (three .1) in (
+      let two = and-eq-true-iff (frontRules (f .version) (f .random) (f .sessionId)) (suites && (methods && blockRules true (f .extensions))) .0
+      (valid-parts clientHello f h .0) in
+      let three = and-eq-true-iff suites (methods && blockRules true (f .extensions)) .0 (two .1) in
+      let four = and-eq-true-iff methods (blockRules true (f .extensions)) .0 (three .1) in (
         two .0,
-        and-parts (writable 2 (f .suites)) (suitesLength (length (f .suites))) (three .0),
-        and-parts (writable 1 (f .methods)) (methodsLength (length (f .methods))) (four .0),
+        and-eq-true-iff (writable 2 (f .suites)) (suitesLength (length (f .suites))) .0 (three .0),
+        and-eq-true-iff (writable 1 (f .methods)) (methodsLength (length (f .methods))) .0 (four .0),
         four .1,
       )
 
@@ -52,7 +112,7 @@ at-least-45 f h =
     let ok = rules-of f h in
     let rest : List ℕ = vector 2 (f .suites) ++ (vector 1 (f .methods) ++ tailBytes (f .extensions)) in
     let front = front-rules (f .version) (f .random) (f .sessionId) (ok .0) in
-    let two = and-parts (leb 2 (length (f .suites))) (eqb (length (f .suites) % 2) 0) (ok .1 .1) .0 in
+    let two = and-eq-true-iff (leb 2 (length (f .suites))) (eqb (length (f .suites) % 2) 0) .0 (ok .1 .1) .0 in
     let total : length rest ≡ 3 + length (f .suites) + length (f .methods) + length (tailBytes (f .extensions)) = simp length-append (omega arith) in
     omega (arith, leb-true 2 (length (f .suites)) two, leb-true 1 (length (f .methods)) (ok .2 .1), total, length-body (f .version) (f .random) (f .sessionId) rest (front .1))
 
@@ -92,9 +152,6 @@ reads f h =
 abbrev Wrote : List ℕ → ClientHello → Type 0
 Wrote m f = (valid clientHello f ≡ true) × (m ≡ bytes clientHello f)
 
-none-there : (f : ClientHello) → _≡_ {A = Option ClientHello} none (some f) → ⊥
-none-there f e = let z : _≡_ {A = ℕ} 0 1 = cc in omega arith
-
 -- a vector with a rule on its length, as the message has it
 vector-read : (rule : ℕ → Bool) (w : ℕ) (m : List ℕ) (at s n : ℕ) → Bytes m → ruled rule (partAt w m at) ≡ At s n
     → (drop at m ≡ vector w (take n (drop s m)) ++ drop (s + n) m) × (writable w (take n (drop s m)) ≡ true) × (rule (length (take n (drop s m))) ≡ true)
@@ -105,10 +162,13 @@ vector-read rule w m at s n b e =
     let long : length (take n (drop s m)) ≡ n = length-take-le n (drop s m) (simp length-drop (omega arith)) in
     (rw (there .1, there .2) (read .0), rw (there .1, there .2) (read .1), rw long (r .1))
 
-module _ (m : List ℕ) (f : ClientHello) (b : Bytes m) (accepted : header 1 m ≡ Verdict.Accepted) where
-  from-block : (x n s k t j : ℕ) (o : BlockFound) → sessionAt m ≡ At x n → ruled suitesLength (partAt 2 m (x + n)) ≡ At s k
-      → ruled methodsLength (partAt 1 m (s + k)) ≡ At t j → blockAt true m (t + j) ≡ o → clientFields m (clientBlock m n s k t j o) ≡ some f → Wrote m f
-  from-block x n s k t j (Found p) session suites methods found e =
+module _ (m : List ℕ) (f : ClientHello) (b : Bytes m) where
+  abbrev Writes : Client → Type 0
+  Writes p = clientFields m p ≡ some f → Wrote m f
+
+  writes-parts : header 1 m ≡ Verdict.Accepted → (x n s k t j : ℕ) (p : Block) → Parts m x n s k t j p
+      → Writes (Read (number (take 2 (drop 4 m))) n s k t j p)
+  writes-parts accepted x n s k t j p (session, suites, methods, found) e =
       let read : ClientHello = record {
         version = number (take 2 (drop 4 m));
         random = take 32 (drop 6 m);
@@ -128,24 +188,10 @@ module _ (m : List ℕ) (f : ClientHello) (b : Bytes m) (accepted : header 1 m �
       let body : drop 4 m ≡ clientHello .body read = front .2 ∙ ap (frontBytes (read .version) (read .random) (read .sessionId)) rest in
       let rules : clientHello .rules read ≡ true = rw (front .3, second .1, second .2, third .1, third .2) (block .1) in
       rw same (valid-within clientHello read rules (rw body at (head .1)), rw body at (head .0))
-  from-block x n s k t j (BlockFound.Refused r) session suites methods found e = absurd (none-there f e)
 
-  from-methods : (x n s k : ℕ) (p : Part) → sessionAt m ≡ At x n → ruled suitesLength (partAt 2 m (x + n)) ≡ At s k
-      → ruled methodsLength (partAt 1 m (s + k)) ≡ p → clientFields m (clientMethods m n s k p) ≡ some f → Wrote m f
-  from-methods x n s k (At t j) session suites methods e = from-block x n s k t j (blockAt true m (t + j)) session suites methods refl e
-  from-methods x n s k (Part.Refused r) session suites methods e = absurd (none-there f e)
-
-  from-suites : (x n : ℕ) (p : Part) → sessionAt m ≡ At x n → ruled suitesLength (partAt 2 m (x + n)) ≡ p → clientFields m (clientSuites m n p) ≡ some f → Wrote m f
-  from-suites x n (At s k) session suites e = from-methods x n s k (ruled methodsLength (partAt 1 m (s + k))) session suites refl e
-  from-suites x n (Part.Refused r) session suites e = absurd (none-there f e)
-
-  from-session : (p : Part) → sessionAt m ≡ p → clientFields m (clientSession m p) ≡ some f → Wrote m f
-  from-session (At x n) session e = from-suites x n (ruled suitesLength (partAt 2 m (x + n))) session refl e
-  from-session (Part.Refused r) session e = absurd (none-there f e)
-
-from-header : (m : List ℕ) (f : ClientHello) (v : Verdict) → Bytes m → header 1 m ≡ v → clientFields m (clientHeader m v) ≡ some f → Wrote m f
-from-header m f Verdict.Accepted b a e = from-session m f b a (sessionAt m) refl e
-from-header m f (Verdict.Refused r) b a e = absurd (none-there f e)
+  writes : (v : Verdict) → header 1 m ≡ v → Writes (clientHeader m v)
+  writes Verdict.Accepted a = by-parts m Writes (λ r e. absurd (Option·none-ne-some f e)) (writes-parts a)
+  writes (Verdict.Refused r) a = λ e. absurd (Option·none-ne-some f e)
 
 pub client-inverse : Inverse clientHello readClientHello
-client-inverse = record { reads-written = reads; writes-read = λ m f b e. from-header m f (header 1 m) b refl e }
+client-inverse = record { reads-written = reads; writes-read = λ m f b. writes m f b (header 1 m) refl }

@@ -1,7 +1,7 @@
 -- The reader and the writer of a message whose body has a fixed length are each other's inverse.
 -- Assumes nothing.
 use mathlib.Core.Path.{_≡_, ap, _∙_}
-use Prim.Native.Nat.{ℕ, _+_}
+use Prim.Native.Nat.{ℕ, _+_, _≤_}
 use native.Mathlib.Omega.{arith}
 use native.Mathlib.Decide.{ℕ-discrete}
 use mathlib.Core.Bool.{true}
@@ -21,13 +21,18 @@ use Rattle.messages.proofs.Layouts.{valid-within, valid-parts}
 use Rattle.messages.proofs.Places.{at-refused, after-header, contents-at}
 use Rattle.messages.proofs.Headers.{header-message, header-read}
 
-filled-there : (k : ℕ) (m : List ℕ) (s n : ℕ) → filledBy k m ≡ At s n → (length m ≡ 4 + k) × (s ≡ 4) × (n ≡ k)
+-- a body that was found has its place
+pub filled-there : (k : ℕ) (m : List ℕ) (s n : ℕ) → filledBy k m ≡ At s n → (length m ≡ 4 + k) × (s ≡ 4) × (n ≡ k)
 filled-there k m s n e = elim (ℕ-discrete (length m) (4 + k)) [
   | yes fills ↦
       let there : filledBy k m ≡ At 4 k = rw (eq-eqb (length m) (4 + k) fills) in
       (fills, cc, cc)
   | no off ↦ absurd (at-refused (filledBy k m) s n DecodeError e (rw (ne-eqb (length m) (4 + k) off)))
 ]
+
+-- every body of the length is one
+pub fixed-valid : (kind size : ℕ) (xs : List ℕ) → length xs ≡ size → size ≤ 16380 → valid (fixedMessage kind size) xs ≡ true
+fixed-valid kind size xs long few = valid-within (fixedMessage kind size) xs (eq-eqb (length xs) size long) (omega arith)
 
 pub fixed-inverse : (kind size : ℕ) → Inverse (fixedMessage kind size) (readFixed kind size)
 fixed-inverse kind size = record { reads-written = there; writes-read = back }
@@ -49,4 +54,4 @@ fixed-inverse kind size = record { reads-written = there; writes-read = back }
         let head = header-read kind m b (split .0) in
         let long : length (drop 4 m) ≡ size = simp length-drop (omega arith) in
         let same : xs ≡ drop 4 m = place .3 ∙ rw (fills .1, fills .2) (take-all size (drop 4 m) (omega arith)) in
-        (valid-within (fixedMessage kind size) xs (eq-eqb (length xs) size (ap length same ∙ long)) (rw same (head .1)), rw same (head .0))
+        (fixed-valid kind size xs (ap length same ∙ long) (omega arith), rw same (head .0))

@@ -5,7 +5,7 @@ use mathlib.Core.Path.{_≡_, refl, sym, ap, _∙_}
 use Prim.Native.Nat.{ℕ, zero, suc, _/_, _%_, _<_, _+_}
 use native.Mathlib.Omega.{arith}
 use native.Mathlib.Decide.{ℕ-discrete}
-use mathlib.Core.Bool.{Bool, true, false, not, _&&_, cond, and-false}
+use mathlib.Core.Bool.{Bool, true, false, not, _&&_, cond, and-false, and-eq-true-iff}
 use mathlib.Core.List.{List, [], _∷_}
 use mathlib.Core.Option.{Option, none, some}
 use mathlib.Core.Logic.{_≢_}
@@ -19,10 +19,9 @@ use Rattle.messages.specs.declared.extensions.Step.the-variants.{Extensi
 use Rattle.messages.specs.Extensions.{Ext, adding, extensionsIn, stepAt, member, distinct, kinds, eachOnce}
 use Rattle.messages.specs.Parts.{inPart, partOnce}
 use Rattle.messages.proofs.Blocks.{writableExt, allWritable, block-in, step-found}
-use Rattle.messages.proofs.Layouts.{and-parts}
 
 -- what a pass does from here on: each type of the part is one whose flag is clear, and sets it
-abbrev pub pass : List ℕ → ℕ → List ℕ → Bool
+abbrev pass : List ℕ → ℕ → List ℕ → Bool
 pass flags p [] = true
 pass flags p (t ∷ ts) =
     cond (eqb (t / 1024) p) (cond (eqb (getD flags (t % 1024) 0) 0) (pass (set flags (t % 1024) 1) p ts) false) (pass flags p ts)
@@ -93,7 +92,7 @@ all-clear : (flags ts : List ℕ) → ((i : ℕ) → i < 1024 → getD flags i 0
 all-clear flags [] h = refl
 all-clear flags (t ∷ ts) h = rw (h (t % 1024) (low t), all-clear flags ts h)
 
-pub pass-distinct : (flags : List ℕ) (p : ℕ) (ts : List ℕ) → length flags ≡ 1024 → ((i : ℕ) → i < 1024 → getD flags i 0 ≡ 0)
+pass-distinct : (flags : List ℕ) (p : ℕ) (ts : List ℕ) → length flags ≡ 1024 → ((i : ℕ) → i < 1024 → getD flags i 0 ≡ 0)
     → pass flags p ts ≡ distinct (inPart p ts)
 pass-distinct flags p ts l h = pass-is flags p ts l ∙ rw (all-clear flags (inPart p ts) h)
 
@@ -150,10 +149,10 @@ member-part p t (u ∷ ts) h = part-next (ℕ-discrete (u / 1024) p) (member-par
     part-next (no hu) ih = rw (ne-eqb (u / 1024) p hu, ne-eqb t u (λ e. hu (ap (λ (k : ℕ). k / 1024) (sym e) ∙ h))) ih
 
 -- a part of what has no repeat has none
-pub part-distinct : (p : ℕ) (ts : List ℕ) → distinct ts ≡ true → distinct (inPart p ts) ≡ true
+part-distinct : (p : ℕ) (ts : List ℕ) → distinct ts ≡ true → distinct (inPart p ts) ≡ true
 part-distinct p [] e = refl
 part-distinct p (t ∷ ts) e =
-    let both = and-parts (not (member t ts)) (distinct ts) e in
+    let both = and-eq-true-iff (not (member t ts)) (distinct ts) .0 e in
     part-next (ℕ-discrete (t / 1024) p) (both .0) (part-distinct p ts (both .1))
   where
     part-next : Dec (t / 1024 ≡ p) → not (member t ts) ≡ true → distinct (inPart p ts) ≡ true → distinct (inPart p (t ∷ ts)) ≡ true
@@ -165,15 +164,16 @@ distinct-tail : (p t : ℕ) (ts : List ℕ) → distinct (inPart p (t ∷ ts)) �
 distinct-tail p t ts e = part-next (ℕ-discrete (t / 1024) p)
   where
     part-next : Dec (t / 1024 ≡ p) → distinct (inPart p ts) ≡ true
-    part-next (yes h) = and-parts (not (member t (inPart p ts))) (distinct (inPart p ts)) (rw (eq-eqb (t / 1024) p h) at e) .1
+    part-next (yes h) = and-eq-true-iff (not (member t (inPart p ts))) (distinct (inPart p ts)) .0 (rw (eq-eqb (t / 1024) p h) at e) .1
     part-next (no h) = rw (ne-eqb (t / 1024) p h) at e
 
-pub distinct-parts : (ts : List ℕ) → ((i : ℕ) → getD ts i 0 < 65536) → ((p : ℕ) → p < 64 → distinct (inPart p ts) ≡ true) → distinct ts ≡ true
+distinct-parts : (ts : List ℕ) → ((i : ℕ) → getD ts i 0 < 65536) → ((p : ℕ) → p < 64 → distinct (inPart p ts) ≡ true) → distinct ts ≡ true
 distinct-parts [] b h = refl
 distinct-parts (t ∷ ts) b h =
     let small : t < 65536 = b zero in
     let own : distinct (inPart (t / 1024) (t ∷ ts)) ≡ true = h (t / 1024) (omega arith) in
-    let first = and-parts (not (member t (inPart (t / 1024) ts))) (distinct (inPart (t / 1024) ts)) (rw (eq-eqb (t / 1024) (t / 1024) refl) at own) .0 in
+    let first = and-eq-true-iff (not (member t (inPart (t / 1024) ts))) (distinct (inPart (t / 1024) ts)) .0
+    (rw (eq-eqb (t / 1024) (t / 1024) refl) at own) .0 in
     let alone : not (member t ts) ≡ true = rw (member-part (t / 1024) t ts refl) at first in
     rw alone (distinct-parts ts (λ i. b (suc i)) (λ p l. distinct-tail p t ts (h p l)))
 
@@ -182,8 +182,8 @@ distinct-parts (t ∷ ts) b h =
 kinds-small : (es : List Ext) → allWritable es ≡ true → (i : ℕ) → getD (kinds es) i 0 < 65536
 kinds-small [] h i = omega arith
 kinds-small (e ∷ es) h zero =
-    ltb-true (e .kind) 65536 (and-parts (ltb (e .kind) 65536) (writable 2 (e .contents)) (and-parts (writableExt e) (allWritable es) h .0) .0)
-kinds-small (e ∷ es) h (suc i) = kinds-small es (and-parts (writableExt e) (allWritable es) h .1) i
+    ltb-true (e .kind) 65536 (and-eq-true-iff (ltb (e .kind) 65536) (writable 2 (e .contents)) .0 (and-eq-true-iff (writableExt e) (allWritable es) .0 h .0) .0)
+kinds-small (e ∷ es) h (suc i) = kinds-small es (and-eq-true-iff (writableExt e) (allWritable es) .0 h .1) i
 
 pub once-parts : (b : List ℕ) (o : Option (List Ext)) → Bytes b → extensionsIn b ≡ o → ((p : ℕ) → p < 64 → partOnce p o ≡ true) → eachOnce o ≡ true
 once-parts b none h e parts = parts 0 (omega arith)

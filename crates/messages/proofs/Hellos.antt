@@ -5,7 +5,7 @@ use Prim.Native.Nat.{ℕ, _+_, _-_, _≤_, _<_}
 use native.Mathlib.Omega.{arith}
 use native.Mathlib.Decide.{ℕ-discrete}
 use mathlib.Core.Option.{Option, none, some}
-use mathlib.Core.Bool.{Bool, true, false, _&&_, cond}
+use mathlib.Core.Bool.{Bool, true, false, _&&_, cond, and-eq-true-iff}
 use mathlib.Core.List.{List, [], _∷_, _++_, append-assoc, append-nil}
 use lib.ListN.{length, take, drop, length-append, length-drop, take-append-drop}
 use lib.Seq.{paste, take-at, drop-at, drop-drop, drop-length, length-take-le}
@@ -24,15 +24,14 @@ use Rattle.messages.specs.Extensions.{blockRule}
 use Rattle.messages.specs.Place.{endAt, partAt, lastAt}
 use Rattle.messages.specs.Layout.{message}
 use Rattle.messages.specs.Hello.{frontRules, frontBytes, sessionAt, blockRules, tailBytes, blockIn, blockAt, blockContents, given}
-use Rattle.messages.proofs.Layouts.{and-parts}
 use Rattle.messages.proofs.Places.{part-there, ruled-there, last-there, vector-at, vector-last, part-written}
 use Rattle.messages.proofs.Puts.{front, behind}
 
 pub front-rules : (version : ℕ) (random id : List ℕ) → frontRules version random id ≡ true
     → (version < 65536) × (length random ≡ 32) × (length id ≤ 32)
 front-rules version random id h =
-    let all = and-parts (ltb version 65536 && eqb (length random) 32) (leb (length id) 32) h in
-    let two = and-parts (ltb version 65536) (eqb (length random) 32) (all .0) in
+    let all = and-eq-true-iff (ltb version 65536 && eqb (length random) 32) (leb (length id) 32) .0 h in
+    let two = and-eq-true-iff (ltb version 65536) (eqb (length random) 32) .0 (all .0) in
     (ltb-true _ _ (two .0), eqb-true _ _ (two .1), leb-true _ _ (all .1))
 
 -- ---- reading what was written, and writing what was read
@@ -90,7 +89,7 @@ block-written client m at none inside h e =
     let over : at ≡ length m = omega arith in
     (Block.Absent, rw (eq-eqb at (length m) over), refl)
 block-written client m at (some b) inside h e =
-    let ok = and-parts (writable 2 b) (blockRule client b) h in
+    let ok = and-eq-true-iff (writable 2 b) (blockRule client b) .0 h in
     let part = part-written 2 m at b [] (omega arith) (ok .0) (e ∙ sym (append-nil (vector 2 b))) in
     let more : ¬ (at ≡ length m) = λ over. absurd (omega arith) in
     let place : lastAt 2 m at ≡ At (at + 2) (length b) = rw (eq-eqb (endAt 2 m at) (length m) (omega arith), part .1) in

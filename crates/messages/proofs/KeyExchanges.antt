@@ -1,14 +1,14 @@
 -- The reader and the writer of a message whose body is one vector are each other's inverse.
 -- Assumes nothing.
 use mathlib.Core.Path.{_≡_}
-use Prim.Native.Nat.{ℕ}
+use Prim.Native.Nat.{ℕ, _≤_}
 use native.Mathlib.Omega.{arith}
 use mathlib.Core.Bool.{true}
 use mathlib.Core.List.{List}
 use mathlib.Core.Option.{some}
 use lib.ListN.{length, take, drop}
 use lib.Seq.{take-length}
-use borrow.Author.Tests.{eq-eqb, ltb-true}
+use borrow.Author.Tests.{eq-eqb, lt-ltb, ltb-true}
 use Rattle.endian.specs.Number.{Bytes}
 use Rattle.endian.specs.Vector.{vector, stated}
 use Rattle.endian.proofs.Numbers.{number-be-lt}
@@ -19,6 +19,10 @@ use Rattle.messages.specs.KeyExchange.{vectorMessage, vectorPlace, readV
 use Rattle.messages.proofs.Layouts.{valid-within, valid-parts}
 use Rattle.messages.proofs.Places.{last-there, after-header, vector-last, contents-at}
 use Rattle.messages.proofs.Headers.{header-message, header-read}
+
+-- contents that leave room for the header and for their length
+pub vector-valid : (kind : ℕ) (xs : List ℕ) → length xs ≤ 16378 → valid (vectorMessage kind) xs ≡ true
+vector-valid kind xs few = valid-within (vectorMessage kind) xs (lt-ltb (length xs) 65536 (omega arith)) (omega arith)
 
 pub vector-inverse : (kind : ℕ) → Inverse (vectorMessage kind) (readVector kind)
 vector-inverse kind = record { reads-written = there; writes-read = back }

@@ -1,23 +1,19 @@
--- The laws that hold of every layout: when fields are valid, and how a writer shows its answer.
+-- The laws that hold of every layout: when fields are valid, how a writer shows its answer, and where a caller finds it.
 -- Assumes nothing.
-use mathlib.Core.Path.{_≡_, refl}
+use mathlib.Core.Path.{_≡_}
 use Prim.Native.Nat.{ℕ, _≤_, _<_}
 use native.Mathlib.Omega.{arith}
-use mathlib.Core.Bool.{Bool, true, false, _&&_, and-false}
-use mathlib.Core.List.{List}
-use lib.ListN.{length}
+use mathlib.Core.Bool.{true, false, and-false, and-eq-true-iff}
+use mathlib.Core.List.{List, _++_}
+use lib.ListN.{length, drop}
 use lib.Dec.{leb}
 use borrow.Author.Tests.{le-leb, lt-leb, leb-true}
 use Rattle.refusal.specs.declared.Refusal.the-variants.{BadValue}
 use Rattle.refusal.specs.declared.Written.{Written}
 use Rattle.refusal.specs.declared.Written.the-variants.{Refused}
 use Rattle.refusal.specs.Lent.{gives, Answers}
-use Rattle.refusal.proofs.Laws.{refused}
+use Rattle.refusal.proofs.Laws.{refused, front}
 use Rattle.messages.specs.Layout.{Layout, bytes, valid, written}
-
-pub and-parts : (a b : Bool) → (a && b) ≡ true → (a ≡ true) × (b ≡ true)
-and-parts true b e = (refl, e)
-and-parts false b e = absurd (let z : _≡_ {A = ℕ} 0 1 = cc in omega arith)
 
 module _ {F : Type 0} (l : Layout F) (f : F) where
   pub valid-within : l .rules f ≡ true → length (l .body f) ≤ 16380 → valid l f ≡ true
@@ -31,7 +27,7 @@ module _ {F : Type 0} (l : Layout F) (f : F) where
 
   pub valid-parts : valid l f ≡ true → (l .rules f ≡ true) × (length (l .body f) ≤ 16380)
   valid-parts h =
-      let both = and-parts (l .rules f) (leb (length (bytes l f)) 16384) h in
+      let both = and-eq-true-iff (l .rules f) (leb (length (bytes l f)) 16384) .0 h in
       (both .0, omega (arith, leb-true (length (bytes l f)) 16384 (both .1)))
 
   -- ---- for a writer
@@ -41,3 +37,10 @@ module _ {F : Type 0} (l : Layout F) (f : F) where
 
   pub writes-none : (out : List ℕ) → valid l f ≡ false → Answers (written l f) out (Refused BadValue) out
   writes-none out h = rw h (refused BadValue out)
+
+  -- ---- for a caller
+
+  -- a valid message that has room stands at the front of the output
+  pub at-front : {out left : List ℕ} {said : Written} → valid l f ≡ true → length (bytes l f) ≤ length out → Answers (written l f) out said left
+      → left ≡ bytes l f ++ drop (length (bytes l f)) out
+  at-front h room a = front (rw h at a) room

@@ -3,9 +3,9 @@
 use mathlib.Core.Path.{_≡_, refl, sym, ap, ap₂, _∙_}
 use Prim.Native.Nat.{ℕ, _^_, _<_}
 use native.Mathlib.Omega.{arith}
-use mathlib.Core.Bool.{true}
+use mathlib.Core.Bool.{true, and-eq-true-iff}
 use mathlib.Core.List.{List, _++_}
-use mathlib.Core.Option.{some}
+use mathlib.Core.Option.{some, Option·none-ne-some}
 use lib.ListN.{length, take, drop, length-drop, take-append-drop}
 use lib.Seq.{take-length, drop-drop, length-take-le}
 use lib.Dec.{ltb}
@@ -19,7 +19,7 @@ use Rattle.messages.specs.Layout.{bytes, valid, Inverse}
 use Rattle.messages.specs.Header.{header}
 use Rattle.messages.specs.Place.{endAt, lastAt, afterHeader}
 use Rattle.messages.specs.NewSessionTicket.{NewSessionTicket, newSessionTicket, withHint, ticketFields, readTicket}
-use Rattle.messages.proofs.Layouts.{valid-within, valid-parts, and-parts}
+use Rattle.messages.proofs.Layouts.{valid-within, valid-parts}
 use Rattle.messages.proofs.Places.{last-there, after-header, vector-last}
 use Rattle.messages.proofs.Headers.{header-message, header-read}
 
@@ -27,7 +27,7 @@ use Rattle.messages.proofs.Headers.{header-message, header-read}
 hint-at : (m : List ℕ) (p : Part) (f : NewSessionTicket) → ticketFields m (withHint m p) ≡ some f
     → (s : ℕ) × (n : ℕ) × (p ≡ At s n) × (f ≡ record { lifetimeHint = number (take 4 (drop 4 m)); ticket = take n (drop s m) })
 hint-at m (At s n) f e = (s, n, refl, cc)
-hint-at m (Refused r) f e = absurd (let z : _≡_ {A = ℕ} 0 1 = cc in omega arith)
+hint-at m (Refused r) f e = absurd (Option·none-ne-some f e)
 
 pub ticket-inverse : Inverse newSessionTicket readTicket
 ticket-inverse = record { reads-written = there; writes-read = back }
@@ -36,7 +36,7 @@ ticket-inverse = record { reads-written = there; writes-read = back }
     there f h =
         let m : List ℕ = bytes newSessionTicket f in
         let ok = valid-parts newSessionTicket f h in
-        let rules = and-parts (ltb (f .lifetimeHint) (256 ^ 4)) (writable 2 (f .ticket)) (ok .0) in
+        let rules = and-eq-true-iff (ltb (f .lifetimeHint) (256 ^ 4)) (writable 2 (f .ticket)) .0 (ok .0) in
         let says : stated 2 (vector 2 (f .ticket)) ≡ length (f .ticket) = number-be-lt 2 (length (f .ticket)) (ltb-true _ _ (rules .1)) in
         let hint : number (be 4 (f .lifetimeHint)) ≡ f .lifetimeHint = number-be-lt 4 (f .lifetimeHint) (ltb-true _ _ (rules .0)) in
         let fills : endAt 2 m 8 ≡ length m = omega arith in

@@ -7,7 +7,7 @@ use native.Mathlib.Decide.{ℕ-discrete, decLe}
 use native.Mathlib.Nat.{add-assoc}
 use mathlib.Core.Bool.{Bool, true, false}
 use mathlib.Core.List.{List, _++_, append-nil, append-assoc}
-use mathlib.Core.Option.{some}
+use mathlib.Core.Option.{some, Option·none-ne-some}
 use lib.ListN.{length, take, drop, length-drop, length-append}
 use lib.Seq.{drop-drop, drop-length, drop-at, take-append-seam, drop-append-seam}
 use borrow.Author.Tests.{eq-eqb, ne-eqb, le-leb, lt-leb}
@@ -31,7 +31,7 @@ at-refused p s n r a b = let z : _≡_ {A = ℕ} 0 1 = cc in omega arith
 pub contents-at : (m : List ℕ) (p : Part) (xs : List ℕ) → contents m p ≡ some xs
     → (s : ℕ) × (n : ℕ) × (p ≡ At s n) × (xs ≡ take n (drop s m))
 contents-at m (At s n) xs e = (s, n, refl, cc)
-contents-at m (Refused r) xs e = absurd (let z : _≡_ {A = ℕ} 0 1 = cc in omega arith)
+contents-at m (Refused r) xs e = absurd (Option·none-ne-some xs e)
 
 -- the vector that starts at `at`
 pub part-there : (w : ℕ) (m : List ℕ) (at s n : ℕ) → partAt w m at ≡ At s n

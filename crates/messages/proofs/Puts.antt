@@ -47,6 +47,12 @@ pub behind : (bs part out before : List ℕ) (place : ℕ) → before ≡ front 
 behind bs part out before place e p =
     rw (e, p, take-append-seam, take-length, drop-append-add, drop-drop, length-append)
 
+-- the same where the loan of what is left comes back with the part at its front
+pub put-behind : (bs part out mid back : List ℕ) (place : ℕ) → mid ≡ front bs out → place ≡ length bs
+    → back ≡ front part (take (length mid - place) (drop place mid))
+    → take place mid ++ (back ++ drop (length mid - place) (drop place mid)) ≡ front (bs ++ part) out
+put-behind bs part out mid back place e p b = lent-part mid part back place (b ∙ rw take-length) ∙ behind bs part out mid place e p
+
 -- the answer after the last part
 pub wrote : (bs out left : List ℕ) (n : ℕ) → length bs ≤ length out → left ≡ front bs out → n ≡ length bs → Answers (gives bs) out (Wrote n) left
 wrote bs out left n room e l = rw (e, l) (gave bs out room)

@@ -4,9 +4,9 @@ use mathlib.Core.Path.{_≡_, refl, sym, ap, ap₂, _∙_}
 use Prim.Native.Nat.{ℕ, suc, _+_, _≤_, _<_}
 use native.Mathlib.Omega.{arith}
 use native.Mathlib.Decide.{decLe}
-use mathlib.Core.Bool.{true, false, _&&_}
+use mathlib.Core.Bool.{true, false, _&&_, and-eq-true-iff}
 use mathlib.Core.List.{List, _∷_, _++_}
-use mathlib.Core.Option.{Option, none, some}
+use mathlib.Core.Option.{some, Option·none-ne-some}
 use lib.ListN.{length, getD, take, drop, length-drop, take-append-drop}
 use lib.Seq.{drop-drop, getD-drop, drop-cons, length-take-le}
 use lib.Dec.{ltb}
@@ -23,7 +23,7 @@ use Rattle.messages.specs.Layout.{bytes, valid, Inverse}
 use Rattle.messages.specs.Header.{header}
 use Rattle.messages.specs.Hello.{frontRules, frontBytes, sessionAt, blockRules, tailBytes, blockAt, blockContents}
 use Rattle.messages.specs.ServerHello.{ServerHello, serverHello, serverBlock, serverSession, serverHeader, serverPlace, serverFields, readServerHello}
-use Rattle.messages.proofs.Layouts.{valid-within, valid-parts, and-parts}
+use Rattle.messages.proofs.Layouts.{valid-within, valid-parts}
 use Rattle.messages.proofs.Headers.{header-message, header-read}
 use Rattle.messages.proofs.Hellos.{front-written, front-read, block-written, block-read, length-body, front-rules}
 
@@ -33,9 +33,10 @@ reads : (f : ServerHello) → valid serverHello f ≡ true → readServerHello (
 reads f h =
     let m : List ℕ = bytes serverHello f in
     let ok = valid-parts serverHello f h in
-    let two = and-parts (frontRules (f .version) (f .random) (f .sessionId)) (ltb (f .suite) 65536 && (ltb (f .compression) 256 && blockRules false (f .extensions))) (ok .0) in
-    let three = and-parts (ltb (f .suite) 65536) (ltb (f .compression) 256 && blockRules false (f .extensions)) (two .1) in
-    let four = and-parts (ltb (f .compression) 256) (blockRules false (f .extensions)) (three .1) in
+    let two = and-eq-true-iff (frontRules (f .version) (f .random) (f .sessionId))
+    (ltb (f .suite) 65536 && (ltb (f .compression) 256 && blockRules false (f .extensions))) .0 (ok .0) in
+    let three = and-eq-true-iff (ltb (f .suite) 65536) (ltb (f .compression) 256 && blockRules false (f .extensions)) .0 (two .1) in
+    let four = and-eq-true-iff (ltb (f .compression) 256) (blockRules false (f .extensions)) .0 (three .1) in
     let tail : List ℕ = tailBytes (f .extensions) in
     let rest : List ℕ = be 2 (f .suite) ++ (f .compression ∷ tail) in
     let n : ℕ = length (f .sessionId) in
@@ -87,9 +88,6 @@ chosen-read m n b fits =
 abbrev Wrote : List ℕ → ServerHello → Type 0
 Wrote m f = (valid serverHello f ≡ true) × (m ≡ bytes serverHello f)
 
-none-there : (f : ServerHello) → _≡_ {A = Option ServerHello} none (some f) → ⊥
-none-there f e = let z : _≡_ {A = ℕ} 0 1 = cc in omega arith
-
 module _ (m : List ℕ) (f : ServerHello) (b : Bytes m) (accepted : header 2 m ≡ Verdict.Accepted) where
   from-block : (s n : ℕ) (o : BlockFound) → sessionAt m ≡ At s n → 42 + n ≤ length m → blockAt false m (42 + n) ≡ o
       → serverFields m (serverBlock m n o) ≡ some f → Wrote m f
@@ -112,20 +110,20 @@ module _ (m : List ℕ) (f : ServerHello) (b : Bytes m) (accepted : header 2 m �
       let rules : serverHello .rules read ≡ true =
       rw (front .3, lt-ltb (read .suite) 65536 (chosen .1), lt-ltb (read .compression) 256 (b (41 + n))) (block .1) in
       rw same (valid-within serverHello read rules (rw body at (head .1)), rw body at (head .0))
-  from-block s n (BlockFound.Refused r) session fits found e = absurd (none-there f e)
+  from-block s n (BlockFound.Refused r) session fits found e = absurd (Option·none-ne-some f e)
 
   from-session : (p : Part) → sessionAt m ≡ p → serverFields m (serverSession m p) ≡ some f → Wrote m f
   from-session (At s n) session e = elim (decLe (42 + n) (length m)) [
     | yes fits ↦ from-block s n (blockAt false m (42 + n)) session fits refl (rw (le-leb (42 + n) (length m) fits) at e)
     | no cut ↦
         let over : length m < 42 + n = omega arith in
-        absurd (none-there f (rw (lt-leb (42 + n) (length m) over) at e))
+        absurd (Option·none-ne-some f (rw (lt-leb (42 + n) (length m) over) at e))
   ]
-  from-session (Part.Refused r) session e = absurd (none-there f e)
+  from-session (Part.Refused r) session e = absurd (Option·none-ne-some f e)
 
 from-header : (m : List ℕ) (f : ServerHello) (v : Verdict) → Bytes m → header 2 m ≡ v → serverFields m (serverHeader m v) ≡ some f → Wrote m f
 from-header m f Verdict.Accepted b a e = from-session m f b a (sessionAt m) refl e
-from-header m f (Verdict.Refused r) b a e = absurd (none-there f e)
+from-header m f (Verdict.Refused r) b a e = absurd (Option·none-ne-some f e)
 
 pub server-inverse : Inverse serverHello readServerHello
 server-inverse = record { reads-written = reads; writes-read = λ m f b e. from-header m f (header 2 m) b refl e }

@@ -1,13 +1,24 @@
--- Parts of a list: the part from a place to the end, and what `bytes::copy` into a part of an array leaves in the whole array.
+-- Parts of a list: element by element, as far as the end, and what `bytes::copy` into a part of an array leaves in the whole array.
 -- Assumes nothing.
 use mathlib.Core.Path.{_≡_, refl}
-use Prim.Native.Nat.{ℕ, _+_, _-_, _≤_}
+use Prim.Native.Nat.{ℕ, zero, suc, _+_, _-_, _≤_, _<_}
 use native.Mathlib.Omega.{arith}
-use mathlib.Core.List.{List, _++_, append-nil, append-assoc}
-use lib.ListN.{length, take, drop, length-append, length-drop, drop-of-length-le}
-use lib.Seq.{take-all, take-at, take-length, length-take-le}
+use mathlib.Core.List.{List, [], _∷_, _++_, append-nil, append-assoc}
+use lib.ListN.{length, getD, take, drop, length-append, length-drop, drop-of-length-le}
+use lib.Seq.{drop-cons, take-all, take-at, take-length, length-take-le}
 use native.Mathlib.Nat.{le-of-eq}
 use borrow.Rule.Slice.PartMut.{midOf, putMid, mid-len, post-is}
+
+-- the w elements from index at on
+abbrev pub window : ℕ → ℕ → List ℕ → List ℕ
+window zero at xs = []
+window (suc w) at xs = getD xs at 0 ∷ window w (suc at) xs
+
+pub take-window : (w at : ℕ) (xs : List ℕ) → at + w ≤ length xs → take w (drop at xs) ≡ window w at xs
+take-window zero at xs h = refl
+take-window (suc w) at xs h =
+    let inside : at < length xs = omega arith in
+    rw (drop-cons xs at 0 inside, take-window w (suc at) xs (omega arith))
 
 pub copied-in : (whole src last : List ℕ) (at end : ℕ) → at + length src ≡ end → end ≤ length whole
     → last ≡ take (length src) src ++ drop (length src) (midOf at (end - at) whole)

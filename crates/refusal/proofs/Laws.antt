@@ -1,19 +1,27 @@
 -- The laws of lent memory: how a writer shows its `Answers`, and what a caller may conclude from an answer.
 -- Assumes nothing.
-use mathlib.Core.Path.{_≡_, refl, _∙_}
+use mathlib.Core.Path.{_≡_, refl, sym, ap, _∙_}
 use Prim.Native.Nat.{ℕ, _≤_, _<_}
 use native.Mathlib.Omega.{arith}
 use native.Mathlib.Decide.{decLe}
 use mathlib.Core.Logic.{_↔_}
 use mathlib.Core.List.{List, _++_, append-nil}
-use lib.ListN.{length, drop, length-append, length-drop, drop-of-length-le}
-use lib.Seq.{drop-append-seam}
+use lib.ListN.{length, take, drop, drop-of-length-le}
+use lib.Seq.{take-append-seam, drop-append-seam}
 use borrow.Author.Tests.{le-leb, lt-leb}
 use Rattle.refusal.specs.declared.Refusal.{Refusal}
 use Rattle.refusal.specs.declared.Refusal.the-variants.{ShortOutput}
 use Rattle.refusal.specs.declared.Written.{Written}
 use Rattle.refusal.specs.declared.Written.the-variants.{Wrote, Refused}
 use Rattle.refusal.specs.Lent.{Outcome, gives, refuses, within, answer, after, Answers}
+
+-- ---- refusals are no answers
+
+pub refuses-gives : {r : Refusal} {bytes : List ℕ} → refuses r ≡ gives bytes → ⊥
+refuses-gives e = let z : _≡_ {A = ℕ} 0 1 = cc in omega arith
+
+refused-wrote : {r : Refusal} {n : ℕ} → Refused r ≡ Wrote n → ⊥
+refused-wrote e = let z : _≡_ {A = ℕ} 0 1 = cc in omega arith
 
 -- ---- for a writer
 
@@ -36,6 +44,47 @@ front a h = a .left ∙ simp (le-leb _ _ h)
 pub whole : {bytes out out' : List ℕ} {said : Written} → Answers (gives bytes) out said out' → length bytes ≡ length out → out' ≡ bytes
 whole {bytes} {out} a e = front a (omega arith) ∙ rw (drop-of-length-le out {i = length bytes} (omega arith), append-nil bytes)
 
+-- it can be read there
+pub first : {bytes out out' : List ℕ} {said : Written} → Answers (gives bytes) out said out' → length bytes ≤ length out → take (length bytes) out' ≡ bytes
+first {bytes} a h = rw (front a h) (take-append-seam bytes _)
+
+-- bytes were written: all that there were
+pub wrote-all : {bytes out out' : List ℕ} {said : Written} {n : ℕ} → Answers (gives bytes) out said out' → said ≡ Wrote n
+    → (length bytes ≤ length out) × (n ≡ length bytes) × (take n out' ≡ bytes)
+wrote-all {bytes} {out} {n = n} a e = elim (decLe (length bytes) (length out)) [
+  | yes h ↦
+      let same : n ≡ length bytes = cc (simp (le-leb _ _ h) at (a .told)) in
+      (h, same, rw same (first a h))
+  | no h ↦ absurd (refused-wrote (sym (simp (lt-leb (length bytes) (length out) (omega arith)) at (a .told)) ∙ e))
+]
+
+-- bytes were there, and there was a refusal: the room was short
+pub refused-short : {bytes out out' : List ℕ} {said : Written} {r : Refusal} → Answers (gives bytes) out said out' → said ≡ Refused r
+    → length out < length bytes
+refused-short {bytes} {out} a e = elim (decLe (length bytes) (length out)) [
+  | yes h ↦ absurd (refused-wrote (sym e ∙ simp (le-leb _ _ h) at (a .told)))
+  | no h ↦ omega arith
+]
+
+-- the same of an outcome that may be either: what was written is what there was to be written
+pub wrote-gives : (o : Outcome) {out out' : List ℕ} {said : Written} {n : ℕ} → Answers o out said out' → said ≡ Wrote n
+    → (n ≤ length out) × (o ≡ gives (take n out'))
+wrote-gives (gives bytes) {out} {n = n} a e =
+    let all = wrote-all a e in
+    (omega arith, ap gives (sym (all .2)))
+wrote-gives (refuses r) a e = absurd (refused-wrote (sym (a .told) ∙ e))
+
+-- a refusal, where there was room for whatever there was to be written
+pub refused-refuses : (o : Outcome) {out out' : List ℕ} {said : Written} {r : Refusal} → ((bytes : List ℕ) → o ≡ gives bytes → length bytes ≤ length out)
+    → Answers o out said out' → said ≡ Refused r → o ≡ refuses r
+refused-refuses (gives bytes) room a e = absurd (omega (arith, room bytes refl, refused-short a e))
+refused-refuses (refuses q) room a e = cc (a .told)
+
+-- the memory was as long as what there was to be written
+pub whole-gives : {o : Outcome} {bytes out out' : List ℕ} {said : Written} → o ≡ gives bytes → length bytes ≡ length out → Answers o out said out'
+    → o ≡ gives out'
+whole-gives e l a = e ∙ ap gives (sym (whole (rw e at a) l))
+
 -- a refusal leaves the memory as it was
 pub refusal-keeps : (o : Outcome) (out : List ℕ) (r : Refusal) → answer o ≡ Refused r → after o out ≡ out
 refusal-keeps (gives bytes) out r e = cc
@@ -48,34 +97,17 @@ answer-keeps-rest (gives bytes) out n e =
     rw (← same) (drop-append-seam bytes (drop (length bytes) out))
 answer-keeps-rest (refuses s) out n e = cc
 
--- nothing makes the memory longer or shorter
-pub length-after : (wanted : Outcome) (out : List ℕ) → length (after (within (length out) wanted) out) ≡ length out
-length-after (refuses r) out = refl
-length-after (gives bytes) out = elim (decLe (length bytes) (length out)) [
-  | yes h ↦ simp (le-leb _ _ h, length-append, length-drop) (omega arith)
-  | no h ↦ simp (lt-leb _ _ (not-le h))
-]
-  where
-    not-le : ¬ (length bytes ≤ length out) → length out < length bytes
-    not-le h = omega arith
-
 -- R1 exactly where the room is short and nothing else refuses
 pub short-exactly : (room : ℕ) (wanted : Outcome) → ¬ (wanted ≡ refuses ShortOutput)
     → (within room wanted ≡ refuses ShortOutput) ↔ ((bytes : List ℕ) × (wanted ≡ gives bytes) × (room < length bytes))
-short-exactly room (refuses r) other = (λ e. absurd (other e), λ s. absurd (never r s))
-  where
-    never : (r : Refusal) → ((bytes : List ℕ) × (refuses r ≡ gives bytes) × (room < length bytes)) → ⊥
-    never r s = let clash : _≡_ {A = ℕ} 0 1 = cc (s .1) in omega arith
+short-exactly room (refuses r) other = (λ e. absurd (other e), λ s. absurd (refuses-gives (s .1)))
 short-exactly room (gives bytes) other = (there, back)
   where
     there : within room (gives bytes) ≡ refuses ShortOutput → (bs : List ℕ) × (gives bytes ≡ gives bs) × (room < length bs)
     there e = elim (decLe (length bytes) room) [
-      | yes h ↦ absurd (clash h)
+      | yes h ↦ absurd (refuses-gives (sym (simp (le-leb _ _ h) at e)))
       | no h ↦ (bytes, refl, omega arith)
     ]
-      where
-        clash : length bytes ≤ room → ⊥
-        clash h = let z : _≡_ {A = ℕ} 0 1 = cc (simp (le-leb _ _ h) at e) in omega arith
 
     back : ((bs : List ℕ) × (gives bytes ≡ gives bs) × (room < length bs)) → within room (gives bytes) ≡ refuses ShortOutput
     back s =

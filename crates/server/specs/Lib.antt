@@ -1,3 +1,4 @@
 pub mod Connection
 pub mod Inner
+pub mod Saved
 pub mod Steps

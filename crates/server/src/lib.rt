@@ -1,10 +1,10 @@
 // The server's side of the handshake: a connection that goes in and comes back by value.
 //
-// specs/Steps.antt has every step as a definition. Start, a change of cipher and an alert are here;
-// they become public together with the message step.
+// specs/Connection.antt has start as a definition, specs/Steps.antt every other call.
 mod finished;
 mod hello;
 mod key_exchange;
+pub mod saved;
 
 use refusal::Refusal;
 use refusal::Written;
@@ -16,7 +16,7 @@ ghost use lib.ListN.{length};
 ghost use Rattle.server.specs.Connection as Conn;
 ghost use Rattle.server.specs.Connection.{badSetting, startAnswer};
 ghost use Rattle.server.specs.Steps as Steps;
-ghost use Rattle.server.specs.Steps.{answered, settled, isOver, alertStep, afterChange, changeStep, unawaited, viewOf, messageCall, messageReply};
+ghost use Rattle.server.specs.Steps.{answered, settled, isOver, alertCall, afterChange, changeCall, viewOf, messageCall, messageReply};
 ghost use Rattle.server.specs.Inner as Inner;
 
 // What a connection does where a client names an identity that isn't listed.
@@ -128,7 +128,7 @@ fn is_over(phase: Phase) -> bool
 
 // A received alert.
 pub fn alert(c: Connection, level: u8, description: u8) -> Answer
-    ensures { λ a. ⌜ a ≡ answered (settled c [] (alertStep c level description)) ⌝ }
+    ensures { λ a. ⌜ a ≡ answered (alertCall c level description) ⌝ }
 {
     let phase = c.phase;
     if is_over(phase) {
@@ -185,7 +185,7 @@ fn after_change(c: Connection) -> Connection
 
 // A change of cipher.
 pub fn change_of_cipher(c: Connection) -> Answer
-    ensures { λ a. ⌜ a ≡ answered (settled c [] (changeStep c (c .phase))) ⌝ }
+    ensures { λ a. ⌜ a ≡ answered (changeCall c) ⌝ }
 {
     let phase = c.phase;
     match phase {

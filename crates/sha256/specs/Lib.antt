@@ -3,3 +3,4 @@ pub mod Constants
 pub mod Message
 pub mod Hash
 pub mod State
+pub mod Saved

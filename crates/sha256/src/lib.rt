@@ -4,6 +4,7 @@
 // specs/ has FIPS 180-4 section by section, and State.antt has what the state means.
 // proofs/Finish.antt has the theorem that joins the two.
 mod block;
+pub mod saved;
 
 use block::next_value;
 use refusal::Refusal;

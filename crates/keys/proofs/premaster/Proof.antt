@@ -5,10 +5,11 @@ use native.Mathlib.Omega.{arith}
 use mathlib.Core.Bool.{and-false}
 use lib.ListN.{length}
 use lib.Seq.{length-take-le}
-use borrow.Author.Tests.{le-leb, lt-leb}
+use borrow.Author.Tests.{lt-leb}
 use Rattle.refusal.specs.declared.Refusal.the-variants.{BadValue}
 use Rattle.refusal.proofs.Laws.{refused}
 use Rattle.keys.specs.Secrets.{premaster}
+use Rattle.keys.proofs.Lengths.{premaster-given}
 use borrow.Author.Needs.{needs}
 use Rattle.keys.proofs.premaster.Statement.{statement}
 use Rattle.keys.proofs.premaster.Tie as tie
@@ -49,12 +50,12 @@ same-length : tie.Need-same-length
 same-length c = search needs
 
 returns-3 : tie.Need-returns-3
-unfolding premaster
 returns-3 c =
     let at-bytes = c .before .before .before .before .before in
     let tests = at-bytes .before in
     let args = tests .before .before .before .before .args in
-    rw (le-leb 1 (length (args .psk .now)) (tests .before .if1 .left), le-leb (length (args .psk .now)) 64 (tests .if2 .left)) (rw (at-bytes .premaster-bytes .ensures) at (c .before .before .put .ensures))
+    rw (premaster-given (args .psk .now) (tests .before .if1 .left) (tests .if2 .left))
+    (rw (at-bytes .premaster-bytes .ensures) at (c .before .before .put .ensures))
 
 pub premaster-spec : {M : Type 1} → statement M
 premaster-spec =

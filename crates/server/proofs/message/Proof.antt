@@ -2,7 +2,8 @@
 -- Assumes nothing.
 use mathlib.Core.Path.{refl}
 use Rattle.server.specs.Steps.{viewOf}
-use Rattle.server.proofs.Secrets.{refusing, silent-unawaited, replied, replied-silently, replied-keys}
+use Rattle.server.proofs.Steps.{refusing, silent-unawaited}
+use Rattle.server.proofs.Replies.{replied, replied-silently, replied-keys}
 use borrow.Author.Needs.{needs}
 use Rattle.server.proofs.message.Statement.{statement}
 use Rattle.server.proofs.message.Tie as tie

@@ -6,9 +6,9 @@ use Prim.Native.Nat.{ℕ, _+_}
 use mathlib.Core.List.{List}
 use denote.Ref.{now}
 use lib.ListN.{length, drop, length-drop}
+use Rattle.refusal.proofs.Copy.{part-to-end}
 use Rattle.keytable.specs.Table.{lineEnd, upto}
 use Rattle.keytable.proofs.Lines.{length-upto}
-use Rattle.keytable.proofs.Parts.{rest-drop}
 use Rattle.keytable.proofs.entries.line_end.Statement.{statement}
 use Rattle.keytable.proofs.entries.line_end.Tie as tie
 
@@ -28,7 +28,7 @@ line-length : (c : tie.After-find)
     → c .find .result ≡ length (upto lineEnd (drop (c .before .before .before .args .at) (now (c .before .before .before .args .table))))
 line-length c =
     c .find .ensures
-    ∙ ap (λ (l : List ℕ). length (upto lineEnd l)) (rest-drop (now (c .before .before .before .args .table)) (c .before .before .before .args .at))
+    ∙ ap (λ (l : List ℕ). length (upto lineEnd l)) (part-to-end (now (c .before .before .before .args .table)) (c .before .before .before .args .at))
 
 add-result : tie.Need-add-result
 add-result c =

@@ -5,7 +5,7 @@ use borrow.Author.Tests.{ltb-true, not-true, not-false}
 use Prim.Native.Nat.{ℕ, _+_, _≤_, _<_}
 use native.Mathlib.Omega.{arith}
 use mathlib.Core.Path.{_≡_, sym, ap, _∙_}
-use mathlib.Core.Bool.{Bool, true, false, _&&_, and-false, and-assoc}
+use mathlib.Core.Bool.{Bool, true, false, _&&_, and-false, and-assoc, and-eq-true-iff}
 use mathlib.Core.List.{List, _++_}
 use lib.ListN.{length, drop, length-append}
 use Rattle.endian.specs.Vector.{vector, writable}
@@ -13,7 +13,7 @@ use Rattle.refusal.proofs.Laws.{short}
 use Rattle.messages.specs.Layout.{bytes, valid}
 use Rattle.messages.specs.Hello.{frontRules, blockRules, tailBytes, given}
 use Rattle.messages.specs.ClientHello.{ClientHello, clientHello, suitesLength, methodsLength, clientGiven}
-use Rattle.messages.proofs.Layouts.{and-parts, valid-within, valid-rules, valid-long, writes, writes-none}
+use Rattle.messages.proofs.Layouts.{valid-within, valid-rules, valid-long, writes, writes-none}
 use Rattle.messages.proofs.Puts.{wrote}
 use Rattle.messages.proofs.Hellos.{front-rules, length-body, tail-bound}
 use Rattle.messages.proofs.client_hello.write.Statement.{statement}
@@ -57,9 +57,10 @@ lists-true c = sym (c .before .lists-valid .ensures) ∙ not-false (c .before .l
 lists-ok : (c : tie.Else2) → (length (c .before .before .before .before .before .before .before .before .before .before .args .suites .now) < 65536) × (length (c .before .before .before .before .before .before .before .before .before .before .args .methods .now) < 256)
 lists-ok c =
     let a = c .before .before .before .before .before .before .before .before .before .before .args in
-    let both = and-parts (writable 2 (a .suites .now) && suitesLength (length (a .suites .now))) (writable 1 (a .methods .now) && methodsLength (length (a .methods .now))) (lists-true c) in (
-      ltb-true (length (a .suites .now)) 65536 (and-parts (writable 2 (a .suites .now)) (suitesLength (length (a .suites .now))) (both .0) .0),
-      ltb-true (length (a .methods .now)) 256 (and-parts (writable 1 (a .methods .now)) (methodsLength (length (a .methods .now))) (both .1) .0),
+    let both = and-eq-true-iff (writable 2 (a .suites .now) && suitesLength (length (a .suites .now)))
+    (writable 1 (a .methods .now) && methodsLength (length (a .methods .now))) .0 (lists-true c) in (
+      ltb-true (length (a .suites .now)) 65536 (and-eq-true-iff (writable 2 (a .suites .now)) (suitesLength (length (a .suites .now))) .0 (both .0) .0),
+      ltb-true (length (a .methods .now)) 256 (and-eq-true-iff (writable 1 (a .methods .now)) (methodsLength (length (a .methods .now))) .0 (both .1) .0),
     )
 
 sized : (c : tie.After-tail-len)

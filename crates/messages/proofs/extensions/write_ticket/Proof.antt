@@ -3,8 +3,7 @@
 use borrow.Author.Tests.{lt-ltb, le-ltb}
 use native.Mathlib.Numerals.{add-two}
 use native.Mathlib.Omega.{arith}
-use mathlib.Core.Path.{_≡_}
-use Prim.Native.Nat.{_+_, _^_, _≤_, _<_}
+use Prim.Native.Nat.{_^_, _≤_, _<_}
 use lib.ListN.{length}
 use Rattle.endian.specs.Vector.{vector}
 use Rattle.endian.proofs.Vectors.{length-vector}

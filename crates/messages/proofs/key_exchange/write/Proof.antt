@@ -1,18 +1,17 @@
 -- `messages::key_exchange::write`: R5 past the limit; else head and contents are the bytes of the layout.
 -- Assumes nothing.
 use borrow.Author.Needs.{needs}
-use borrow.Author.Tests.{lt-ltb}
 use native.Mathlib.Omega.{arith}
 use mathlib.Core.Path.{_≡_}
-use mathlib.Core.Bool.{true}
 use mathlib.Core.List.{List, [], _∷_, _++_}
 use Prim.Native.Nat.{ℕ, _+_}
 use native.Mathlib.Numerals.{add-two}
 use lib.ListN.{length, getD}
 use Rattle.endian.specs.Number.{be}
-use Rattle.messages.specs.Layout.{bytes, valid}
+use Rattle.messages.specs.Layout.{bytes}
 use Rattle.messages.specs.KeyExchange.{vectorMessage}
-use Rattle.messages.proofs.Layouts.{valid-within, valid-long, writes, writes-none}
+use Rattle.messages.proofs.Layouts.{valid-long, writes, writes-none}
+use Rattle.messages.proofs.KeyExchanges.{vector-valid}
 use Rattle.messages.proofs.key_exchange.write.Statement.{statement}
 use Rattle.messages.proofs.key_exchange.write.Tie as tie
 
@@ -66,11 +65,9 @@ returns-2 : tie.Need-returns-2
 returns-2 c =
     let a = c .before .before .before .before .before .before .before .before .before .before .args in
     let xs = a .contents .now in
-    let ok : valid (vectorMessage (a .kind)) xs ≡ true =
-    valid-within (vectorMessage (a .kind)) xs (lt-ltb (length xs) 65536 (omega arith)) (omega arith) in
     let all : bytes (vectorMessage (a .kind)) xs ≡ head (a .kind) (c .before .before .before .before .before .before .bytes24 .result) (c .before .before .before .before .before .bytes16 .result) ++ xs =
     head-is (a .kind) xs _ _ (c .before .before .before .before .before .before .bytes24 .ensures) (c .before .before .before .before .before .bytes16 .ensures) in
-    writes (vectorMessage (a .kind)) xs (a .out .now) _ _ ok (rw all (c .before .before .two .ensures))
+    writes (vectorMessage (a .kind)) xs (a .out .now) _ _ (vector-valid (a .kind) xs (omega arith)) (rw all (c .before .before .two .ensures))
 
 pub write-spec : {M : Type 1} → statement M
 write-spec =

@@ -9,7 +9,9 @@ use lib.Seq.{length-take-le}
 use borrow.Author.Tests.{not-true, not-false}
 use Rattle.messages.specs.declared.Part.the-variants.{At}
 use Rattle.messages.specs.Place.{filledBy}
-use Rattle.server.proofs.Secrets.{filled-there, judged-right, refusing, silent-does}
+use Rattle.messages.proofs.FixedMessages.{filled-there}
+use Rattle.server.proofs.Steps.{refusing, silent-does}
+use Rattle.server.proofs.Secrets.{judged-right}
 use borrow.Author.Needs.{needs}
 use Rattle.server.proofs.finished.body.Statement.{statement}
 use Rattle.server.proofs.finished.body.Tie as tie
@@ -29,7 +31,7 @@ module _ (c : tie.After-known-told) where
   here = sym (c .before .before .before .read-finished-body .ensures) ∙ c .before .start .given .1
 
   there : (length m ≡ 16) × (from ≡ 4) × (size ≡ 12)
-  there = filled-there m from size here
+  there = filled-there 12 m from size here
 
 read-finished-body-requires : tie.Need-read-finished-body-requires
 read-finished-body-requires c κs = search needs

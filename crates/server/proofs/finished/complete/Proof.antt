@@ -1,15 +1,19 @@
 -- `server::finished::complete` meets its contract: no value, a value that was written, or no room for it.
 -- Assumes nothing.
 use mathlib.Core.Path.{_≡_, _∙_}
+use native.Mathlib.Omega.{arith}
+use mathlib.Core.Bool.{true}
 use borrow.Author.Tests.{not-true, not-false}
 use Rattle.refusal.specs.Lent.{Outcome, gives}
 use Rattle.sha256.specs.State.{absorb}
 use Rattle.keys.specs.declared.Side.the-variants.{Server}
-use Rattle.messages.specs.Layout.{bytes, written}
+use Rattle.messages.specs.Layout.{valid}
 use Rattle.messages.specs.Fixed as Fixed
+use Rattle.messages.proofs.FixedMessages.{fixed-valid}
 use Rattle.server.specs.Steps.{finishedOf}
 use Rattle.server.specs.Inner.{asValue}
-use Rattle.server.proofs.Secrets.{made, not-made, finished-written, answered-all, answered-short, refusing, silent-does}
+use Rattle.server.proofs.Steps.{accepted, not-accepted, refusing, silent-does}
+use Rattle.server.proofs.Secrets.{made, not-made}
 use borrow.Author.Needs.{needs}
 use Rattle.server.proofs.finished.complete.Statement.{statement}
 use Rattle.server.proofs.finished.complete.Tie as tie
@@ -25,8 +29,8 @@ module _ (c : tie.After-value-of) where
   value = c .value-of .ensures ∙ rw (c .before .update .ensures)
 
   -- it has twelve bytes, as the message wants it
-  written-value : written Fixed.finished (c .value-of .result .bytes) ≡ gives (bytes Fixed.finished (c .value-of .result .bytes))
-  written-value = finished-written (c .value-of .result .bytes) (search (needs, c .value-of .ok))
+  valid-value : valid Fixed.finished (c .value-of .result .bytes) ≡ true
+  valid-value = fixed-valid 20 12 (c .value-of .result .bytes) (search (needs, c .value-of .ok)) (omega arith)
 
 given : (c : tie.Else1) → wanted (c .before .before) ≡ gives (c .before .before .value-of .result .bytes)
 given c =
@@ -72,7 +76,7 @@ returns-2 c =
     let at-if = write .before .before .before .before in
     let at-value = at-if .before .before in
     rw (given at-if, c .ended .ensures)
-    (answered-all _ _ _ _ (rw (written-value at-value) at (write .write-finished .ensures)) (c .before .enum-told .given .1))
+    (accepted _ _ (rw (valid-value at-value) at (write .write-finished .ensures)) (c .before .enum-told .given .1))
 
 same-length-2 : tie.Need-same-length-2
 same-length-2 c = search needs
@@ -82,7 +86,7 @@ returns-3 c =
     let write = c .before .before .before .before in
     let at-if = write .before .before .before .before in
     let at-value = at-if .before .before in
-    rw (given at-if) (answered-short _ _ _ _ (rw (written-value at-value) at (write .write-finished .ensures)) (c .enum-told2 .given .1))
+    rw (given at-if) (not-accepted _ _ (rw (valid-value at-value) at (write .write-finished .ensures)) (c .enum-told2 .given .1))
 
 pub complete-spec : {M : Type 1} → statement M
 complete-spec =

@@ -1,6 +1,6 @@
 -- `server::finished::step` meets its contract: the header, then the body.
 -- Assumes nothing.
-use Rattle.server.proofs.Secrets.{refusing, silent-does}
+use Rattle.server.proofs.Steps.{refusing, silent-does}
 use borrow.Author.Needs.{needs}
 use Rattle.server.proofs.finished.step.Statement.{statement}
 use Rattle.server.proofs.finished.step.Tie as tie

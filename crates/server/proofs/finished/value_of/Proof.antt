@@ -39,7 +39,7 @@ returns c =
     let of-master : length (start .args .t2) ≡ 48 = search (needs, start .good) in
     let of-hash : length hash ≡ 32 = search needs in
     rw (
-      hash-left (start .args .transcript) _ refl of-hash (at-hash .finish .ensures) (c .before .before .before .before .before .enum-told .given .1),
+      hash-left (start .args .transcript) _ refl (at-hash .finish .ensures) (c .before .before .before .before .before .enum-told .given .1),
       value-left (start .args .side) (start .args .t2) hash _ of-master of-hash refl (c .before .finished .ensures),
     )
 

@@ -1,14 +1,15 @@
 -- `server::hello::answer` meets its contract: what was written is the whole flight, and no flight leaves the connection as it was.
 -- Assumes nothing.
-use mathlib.Core.Path.{_≡_, sym, ap, _∙_}
+use mathlib.Core.Path.{_≡_, refl, sym, ap, _∙_}
 use Prim.Native.Nat.{_≤_}
 use native.Mathlib.Omega.{arith}
 use lib.ListN.{length, take}
 use lib.Seq.{length-take-le}
 use Rattle.refusal.specs.Lent.{gives, Answers}
+use Rattle.refusal.proofs.Laws.{wrote-all}
 use Rattle.server.specs.Steps.{flightFor}
 use Rattle.server.specs.Inner.{afterHelloWith}
-use Rattle.server.proofs.Hellos.{whole-flight, accepted, not-accepted}
+use Rattle.server.proofs.Steps.{accepted, not-accepted}
 use borrow.Author.Needs.{needs}
 use Rattle.server.proofs.hello.answer.Statement.{statement}
 use Rattle.server.proofs.hello.answer.Tie as tie
@@ -59,7 +60,7 @@ written : (c : tie.After-known-told) →
     let n = c .before .said .given .0 .0 in
     let flight = flightFor (a .c) (a .suite) in
     (length flight ≤ length (a .out .now)) × (n ≡ length flight) × (take n (at-write .write-flight .last .1 .1 .1 .0) ≡ flight)
-written c = whole-flight (told (c .before .before .before .before .before)) (c .before .said .given .0 .0) (c .before .said .given .1)
+written c = wrote-all (told (c .before .before .before .before .before)) (c .before .said .given .1)
 
 slice-reshare-prefix-after-hello : tie.Need-slice-reshare-prefix-after-hello
 slice-reshare-prefix-after-hello c = omega (arith, written c)
@@ -83,8 +84,7 @@ returns c =
     let known = c .before .before .before .said .given in
     let next : c .after-hello .result ≡ afterHelloWith (a .c) (a .m .now) (a .suite) (flightFor (a .c) (a .suite)) =
     c .after-hello .ensures ∙ ap (afterHelloWith (a .c) (a .m .now) (a .suite)) (written (c .before .before) .2) in
-    accepted (told at-write) (a .c) (afterHelloWith (a .c) (a .m .now) (a .suite) (flightFor (a .c) (a .suite))) (c .after-hello .result) (known .0 .0)
-    (known .1) next
+    rw next (accepted (a .c) _ (rw (known .1) at (told at-write)) refl)
 
 same-length-2 : tie.Need-same-length-2
 same-length-2 c = search needs
@@ -93,7 +93,7 @@ returns-2 : tie.Need-returns-2
 returns-2 c =
     let at-write = c .before .before .before .before in
     let a = at-write .before .before .before .before .before .before .before .before .before .args in
-    not-accepted (told at-write) (a .c) (afterHelloWith (a .c) (a .m .now) (a .suite) (flightFor (a .c) (a .suite))) _ (c .enum-told .given .1)
+    not-accepted (a .c) (afterHelloWith (a .c) (a .m .now) (a .suite) (flightFor (a .c) (a .suite))) (told at-write) (c .enum-told .given .1)
 
 pub answer-spec : {M : Type 1} → statement M
 answer-spec =

@@ -5,14 +5,15 @@ use native.Mathlib.Nat.{add-sub-cancel-left}
 use native.Mathlib.Omega.{arith}
 use lib.ListN.{take, drop}
 use borrow.Author.Tests.{not-true, not-false}
-use Rattle.refusal.specs.declared.Refusal.the-variants.{HandshakeFailure, IllegalParameter, DecodeError, ProtocolVersion}
 use Rattle.messages.specs.declared.client_hello.Client.{Client}
 use Rattle.messages.specs.declared.client_hello.Client.the-variants.{Read}
 use Rattle.messages.specs.Hello.{blockContents}
 use Rattle.messages.specs.ClientHello.{ClientHello, clientBody, clientFields}
 use Rattle.server.specs.Steps.{suites, chosen, offersNull, helloChosen, helloFields}
 use Rattle.server.specs.Inner.{asChoice}
-use Rattle.server.proofs.Hellos.{none-chosen, one-chosen, Inside, parts-inside, version-old, null-missing, null-there, same-step, refusing}
+use Rattle.messages.proofs.ClientHellos.{Inside, parts-inside}
+use Rattle.server.proofs.Hellos.{none-chosen, one-chosen, version-old, null-missing, null-there}
+use Rattle.server.proofs.Steps.{same-step, refusing, silent-does}
 use borrow.Author.Needs.{needs}
 use Rattle.server.proofs.hello.body.Statement.{statement}
 use Rattle.server.proofs.hello.body.Tie as tie
@@ -67,7 +68,7 @@ returns c =
     let a = known .before .before .before .before .before .before .args in
     let step = read (known .before .before .before) (known .before .version .given .1) in
     same-step (step ∙ version-old (a .c) (a .m .now) (fields known) (c .before .if1 .taken))
-    (refusing (a .c) (a .out .now) ProtocolVersion _ (c .refuse .ensures))
+    (silent-does _ _ refusing (c .refuse .ensures))
 
 add-offers-null : tie.Need-add-offers-null
 add-offers-null c = record { fits = omega (arith, inside (c .before)) }
@@ -99,7 +100,7 @@ returns-2 c =
     let missing = sym (null-found test) ∙ not-true (test .offers-null .result) (c .before .if2 .taken) in
     let step = read (known .before .before .before) (known .before .version .given .1) in
     same-step (step ∙ null-missing (a .c) (a .m .now) (fields known) (test .before .before .if1 .left) missing)
-    (refusing (a .c) (a .out .now) IllegalParameter _ (c .refuse2 .ensures))
+    (silent-does _ _ refusing (c .refuse2 .ensures))
 
 slice-aggregate-choose : tie.Need-slice-aggregate-choose
 slice-aggregate-choose c = search needs
@@ -161,7 +162,7 @@ returns-3 c =
     let a = known .before .before .before .before .before .before .args in
     let none = none-chosen (chosen suites (fields known .suites)) (sym (suite-found at-choice) ∙ c .before .enum-told .given .1) in
     same-step (choice at-choice ∙ ap (helloChosen (a .c) (a .m .now) (fields known)) none)
-    (refusing (a .c) (a .out .now) HandshakeFailure _ (c .refuse3 .ensures))
+    (silent-does _ _ refusing (c .refuse3 .ensures))
 
 same-length : tie.Need-same-length
 same-length c = search needs
@@ -176,9 +177,7 @@ returns-4 c =
 
 returns-5 : tie.Need-returns-5
 returns-5 c =
-    let at-read = c .before .before .before in
-    let a = at-read .before .before .before .args in
-    same-step (read at-read (c .before .enum-told2 .given .1)) (refusing (a .c) (a .out .now) DecodeError _ (c .refuse4 .ensures))
+    same-step (read (c .before .before .before) (c .before .enum-told2 .given .1)) (silent-does _ _ refusing (c .refuse4 .ensures))
 
 pub body-spec : {M : Type 1} → statement M
 body-spec =

@@ -8,7 +8,9 @@ use Rattle.messages.specs.ServerHello.{serverHello}
 use Rattle.messages.specs.Fixed.{serverHelloDone}
 use Rattle.server.specs.Steps.{hintMessage}
 use Rattle.server.specs.Inner.{front}
-use Rattle.server.proofs.Hellos.{hello, length-hello, hello-valid, at-front, put-behind}
+use Rattle.messages.proofs.Layouts.{at-front}
+use Rattle.messages.proofs.Puts.{put-behind}
+use Rattle.server.proofs.Hellos.{hello, length-hello, hello-valid}
 use borrow.Author.Needs.{needs}
 use Rattle.server.proofs.hello.put_flight.Statement.{statement}
 use Rattle.server.proofs.hello.put_flight.Tie as tie

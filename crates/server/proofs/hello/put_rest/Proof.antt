@@ -11,7 +11,10 @@ use Rattle.messages.specs.KeyExchange.{serverKeyExchange}
 use Rattle.messages.specs.Fixed.{serverHelloDone}
 use Rattle.server.specs.Steps.{hintMessage}
 use Rattle.server.specs.Inner.{front}
-use Rattle.server.proofs.Hellos.{hint-absent, hint-present, hint-valid, at-front, put-behind}
+use Rattle.messages.proofs.Layouts.{at-front}
+use Rattle.messages.proofs.Puts.{put-behind}
+use Rattle.messages.proofs.KeyExchanges.{vector-valid}
+use Rattle.server.proofs.Hellos.{hint-absent, hint-present}
 use borrow.Author.Needs.{needs}
 use Rattle.server.proofs.hello.put_rest.Statement.{statement}
 use Rattle.server.proofs.hello.put_rest.Tie as tie
@@ -63,7 +66,7 @@ returns-2 c =
     let first = c .before .before .before .before .before .before .write-hint in
     let second = c .before .before .write-done2 in
     let one : first .last .1 .0 ≡ front (bytes serverKeyExchange hint) out =
-    at-front serverKeyExchange hint (hint-valid hint (start .pre .0)) (omega arith) (first .ensures) in
+    at-front serverKeyExchange hint (vector-valid 12 hint (omega arith)) (omega arith) (first .ensures) in
     let mid = first .last .1 .0 in
     let room : 4 ≤ length (take (length mid - (6 + length hint)) (drop (6 + length hint) mid)) =
     rw (part-to-end mid (6 + length hint)) (simp length-drop (omega arith)) in

@@ -6,7 +6,8 @@ use native.Mathlib.Omega.{arith}
 use lib.ListN.{length}
 use lib.Seq.{length-take-le}
 use Rattle.keys.specs.Secrets.{premasterBytes}
-use Rattle.server.proofs.Secrets.{length-premaster, premaster-given, premaster-left, master-left}
+use Rattle.keys.proofs.Lengths.{length-premaster, premaster-given}
+use Rattle.server.proofs.Secrets.{premaster-left, master-left}
 use borrow.Author.Needs.{needs}
 use Rattle.server.proofs.key_exchange.master_under.Statement.{statement}
 use Rattle.server.proofs.key_exchange.master_under.Tie as tie

@@ -1,0 +1,34 @@
+-- `server::saved::append` meets its contract: a copy behind a front, by `copied-behind`.
+-- Assumes nothing.
+use mathlib.Core.Path.{_≡_}
+use native.Mathlib.Omega.{arith}
+use lib.ListN.{length}
+use Rattle.refusal.proofs.Copy.{copied-behind}
+use borrow.Author.Needs.{needs}
+use Rattle.server.proofs.saved.append.Statement.{statement}
+use Rattle.server.proofs.saved.append.Tie as tie
+
+add-end : tie.Need-add-end
+add-end c = search needs
+
+sub-copy : tie.Need-sub-copy
+sub-copy c = search needs
+
+part-next-start : tie.Need-part-next-start
+part-next-start c = search needs
+
+part-next-end : tie.Need-part-next-end
+part-next-end c = search needs
+
+copy-requires : tie.Need-copy-requires
+copy-requires c κs = search needs
+
+returns : tie.Need-returns
+returns c =
+    let start = c .before .before .before .before in
+    let size : length (start .args .bytes) ≡ 382 = search (needs, start .good) in
+    copied-behind (start .args .bytes) (start .args .part .now) (c .before .copy .last .1 .0) (start .args .at) (omega arith) (c .before .copy .ensures .1)
+
+pub append-spec : {M : Type 1} → statement M
+append-spec =
+    tie.close (tie.spec add-end sub-copy part-next-start part-next-end copy-requires returns)

@@ -1,0 +1,49 @@
+-- `server::saved::transcript` meets its contract: the copy fills the array that the hash is restored from.
+-- Assumes nothing.
+use mathlib.Core.Path.{_≡_, refl, ap, _∙_}
+use native.Mathlib.Omega.{arith}
+use lib.ListN.{length}
+use Rattle.sha256.specs.Saved.{restored}
+use Rattle.sha256.proofs.Saving.{copied-part}
+use borrow.Author.Needs.{needs}
+use Rattle.server.proofs.saved.transcript.Statement.{statement}
+use Rattle.server.proofs.saved.transcript.Tie as tie
+
+sub-copy : tie.Need-sub-copy
+sub-copy c = search needs
+
+part-copy-start : tie.Need-part-copy-start
+part-copy-start c = search needs
+
+part-copy-end : tie.Need-part-copy-end
+part-copy-end c = search needs
+
+slice-aggregate-copy : tie.Need-slice-aggregate-copy
+slice-aggregate-copy c = search needs
+
+copy-requires : tie.Need-copy-requires
+copy-requires c κs = search needs
+
+restore-requires : tie.Need-restore-requires
+restore-requires c κs = search needs
+
+returns : tie.Need-returns
+returns c =
+    let at-copy = c .before .before in
+    let start = at-copy .before .before .before .before in
+    let bytes = start .args .t1 in
+    let size : length bytes ≡ 382 = search (needs, start .good) in
+    c .restore .ensures
+    ∙ ap restored (copied-part bytes (at-copy .copy .last .1 .0) 278 104 104 refl (omega arith) (at-copy .copy .ensures .1))
+
+pub transcript-spec : {M : Type 1} → statement M
+transcript-spec =
+    tie.close
+    (tie.spec
+    sub-copy
+    part-copy-start
+    part-copy-end
+    slice-aggregate-copy
+    copy-requires
+    restore-requires
+    returns)

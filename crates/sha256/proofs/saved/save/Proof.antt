@@ -1,0 +1,85 @@
+-- `sha256::saved::save` meets its contract: three parts, one behind the other.
+-- Assumes nothing.
+use mathlib.Core.Path.{_≡_, refl, sym, ap, _∙_}
+use native.Mathlib.Omega.{arith}
+use lib.ListN.{length, replicate}
+use lib.Seq.{take-all}
+use Rattle.sha256.specs.Hash.{concatenated}
+use Rattle.sha256.specs.Saved.{saved, restored}
+use Rattle.sha256.proofs.Saving.{behind, Fits, restored-saved}
+use borrow.Author.Needs.{needs}
+use Rattle.sha256.proofs.saved.save.Statement.{statement}
+use Rattle.sha256.proofs.saved.save.Tie as tie
+
+-- the fields fit, since each has its type
+fits : (c : tie.Start) → Fits (c .args .state)
+fits c =
+    record {
+      a = search needs;
+      b = search needs;
+      c = search needs;
+      d = search needs;
+      e = search needs;
+      f = search needs;
+      g = search needs;
+      h = search needs;
+      size = search needs;
+      count = search needs;
+    }
+
+concatenation-requires : tie.Need-concatenation-requires
+concatenation-requires c κs = search needs
+
+bytes64-requires : tie.Need-bytes64-requires
+bytes64-requires c κs = search needs
+
+slice-aggregate-append : tie.Need-slice-aggregate-append
+slice-aggregate-append c = search needs
+
+append-requires : tie.Need-append-requires
+append-requires c κs = search needs
+
+slice-aggregate-append-2 : tie.Need-slice-aggregate-append-2
+slice-aggregate-append-2 c = search needs
+
+append-requires-2 : tie.Need-append-requires-2
+append-requires-2 c κs = rw (fits (c .before .before .before .before .before .before) .size) (omega arith)
+
+slice-aggregate-append-3 : tie.Need-slice-aggregate-append-3
+slice-aggregate-append-3 c = search needs
+
+append-requires-3 : tie.Need-append-requires-3
+append-requires-3 c κs = search needs
+
+returns : tie.Need-returns
+unfolding saved concatenated
+returns c =
+    let at-held = c .before .before in
+    let at-front = at-held .before .before in
+    let at-count = at-front .before .before in
+    let at-words = at-count .before .before in
+    let start = at-words .before in
+    let state = start .args .state in
+    let r = c .append3 .result in
+    let size : length r ≡ 104 = search (needs, c .append3 .ok) in
+    let words = at-words .concatenation in
+    let front = behind (replicate 104 0) (words .result) (at-front .append .result) 0 32 (at-front .append .ensures) refl (words .ensures) refl in
+    let held = behind (at-front .append .result) (state .block) (at-held .append2 .result) 32 64 (at-held .append2 .ensures) front refl (fits start .size) in
+    let count = at-count .bytes64 in
+    let all = behind (at-held .append2 .result) (count .result) r 96 8 (c .append3 .ensures) held (count .ensures) refl in
+    let whole : r ≡ saved state = sym (take-all 104 r (omega arith)) ∙ all in
+    (whole, ap restored whole ∙ restored-saved state (fits start))
+
+pub save-spec : {M : Type 1} → statement M
+save-spec =
+    tie.close
+    (tie.spec
+    concatenation-requires
+    bytes64-requires
+    slice-aggregate-append
+    append-requires
+    slice-aggregate-append-2
+    append-requires-2
+    slice-aggregate-append-3
+    append-requires-3
+    returns)
