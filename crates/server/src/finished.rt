@@ -31,7 +31,7 @@ fn value_of(side: Side, master: [u8; 48], transcript: Sha256) -> Value
 {
     let mut hash = [0u8; 32];
     let mut bytes = [0u8; 12];
-    match transcript.finish(&mut hash) {
+    match transcript::hash_of(transcript, &mut hash) {
         Written::Wrote(_) => {
             keys::finished(side, &master, &hash, &mut bytes);
             Value { made: true, bytes }
@@ -79,7 +79,7 @@ fn complete(c: Connection, m: &[u8], out: &mut [u8]) -> Answer
     ensures { λ a. ⌜ Does c (now (out .entry)) (Inner.completion c (now (m .entry))) a (now (out .exit)) ⌝ }
 {
     let master = c.master;
-    let transcript = c.transcript.update(m);
+    let transcript = transcript::with_message(c.transcript, m);
     let value = value_of(Side::Server, master, transcript);
     if !value.made {
         return refuse(c, Refusal::DecryptError);

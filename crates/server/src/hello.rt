@@ -134,8 +134,8 @@ fn after_hello(c: Connection, m: &[u8], suite: u16, flight: &[u8]) -> Connection
     let server_random = c.server_random;
     let client_random = bytes32(&m[6..38]);
     let master = c.master;
-    let heard = c.transcript.update(m);
-    let transcript = heard.update(flight);
+    let heard = transcript::with_message(c.transcript, m);
+    let transcript = transcript::with_message(heard, flight);
     Connection {
         phase: Phase::KeyExchange,
         rule,

@@ -43,7 +43,7 @@ fn after_keys(c: Connection, m: &[u8], key: &[u8], listed: bool) -> Connection
     let server_random = c.server_random;
     let client_random = c.client_random;
     let master = master_under(key, &client_random, &server_random);
-    let transcript = c.transcript.update(m);
+    let transcript = transcript::with_message(c.transcript, m);
     Connection {
         phase: Phase::Change,
         rule,

@@ -26,7 +26,7 @@ module _ (c : tie.After-value-of) where
       finishedOf Server (args .c .master) (absorb (args .c .transcript) (args .m .now))
 
   value : c .value-of .result ≡ asValue wanted
-  value = c .value-of .ensures ∙ rw (c .before .update .ensures)
+  value = c .value-of .ensures ∙ rw (c .before .with-message .ensures)
 
   -- it has twelve bytes, as the message wants it
   valid-value : valid Fixed.finished (c .value-of .result .bytes) ≡ true
@@ -37,8 +37,8 @@ given c =
     let at-value = c .before .before in
     made (wanted at-value) (value at-value) (not-false (at-value .value-of .result .made) (c .if1 .left))
 
-update-requires : tie.Need-update-requires
-update-requires c κs = search needs
+with-message-requires : tie.Need-with-message-requires
+with-message-requires c κs = search needs
 
 value-of-requires : tie.Need-value-of-requires
 value-of-requires c κs = search needs
@@ -92,7 +92,7 @@ pub complete-spec : {M : Type 1} → statement M
 complete-spec =
     tie.close
     (tie.spec
-    update-requires
+    with-message-requires
     value-of-requires
     refuse-requires
     returns

@@ -7,11 +7,11 @@ use borrow.Author.Needs.{needs}
 use Rattle.server.proofs.finished.value_of.Statement.{statement}
 use Rattle.server.proofs.finished.value_of.Tie as tie
 
-slice-aggregate-finish : tie.Need-slice-aggregate-finish
-slice-aggregate-finish c = search needs
+slice-aggregate-hash-of : tie.Need-slice-aggregate-hash-of
+slice-aggregate-hash-of c = search needs
 
-finish-requires : tie.Need-finish-requires
-finish-requires c κs = search needs
+hash-of-requires : tie.Need-hash-of-requires
+hash-of-requires c κs = search needs
 
 enum-told : tie.Need-enum-told
 enum-told c = search needs
@@ -35,25 +35,25 @@ returns : tie.Need-returns
 returns c =
     let start = c .before .before .before .before .before .before .before .before .before .before in
     let at-hash = c .before .before .before .before .before .before .before .before in
-    let hash = at-hash .finish .last .1 .0 in
+    let hash = at-hash .hash-of .last .1 .0 in
     let of-master : length (start .args .t2) ≡ 48 = search (needs, start .good) in
     let of-hash : length hash ≡ 32 = search needs in
     rw (
-      hash-left (start .args .transcript) _ refl (at-hash .finish .ensures) (c .before .before .before .before .before .enum-told .given .1),
+      hash-left (start .args .transcript) _ refl (at-hash .hash-of .ensures) (c .before .before .before .before .before .enum-told .given .1),
       value-left (start .args .side) (start .args .t2) hash _ of-master of-hash refl (c .before .finished .ensures),
     )
 
 returns-2 : tie.Need-returns-2
 returns-2 c =
     let at-hash = c .before .before .before in
-    rw (hash-refused (at-hash .before .before .args .transcript) _ refl (at-hash .finish .ensures) (c .enum-told2 .given .1))
+    rw (hash-refused (at-hash .before .before .args .transcript) _ refl (at-hash .hash-of .ensures) (c .enum-told2 .given .1))
 
 pub value-of-spec : {M : Type 1} → statement M
 value-of-spec =
     tie.close
     (tie.spec
-    slice-aggregate-finish
-    finish-requires
+    slice-aggregate-hash-of
+    hash-of-requires
     enum-told
     slice-aggregate-finished
     slice-aggregate-finished-2

@@ -16,14 +16,14 @@ part-bytes32-end c = search needs
 bytes32-requires : tie.Need-bytes32-requires
 bytes32-requires c κs = search needs
 
-update-requires : tie.Need-update-requires
-update-requires c κs = search needs
+with-message-requires : tie.Need-with-message-requires
+with-message-requires c κs = search needs
 
-update-requires-2 : tie.Need-update-requires-2
-update-requires-2 c κs = search needs
+with-message-requires-2 : tie.Need-with-message-requires-2
+with-message-requires-2 c κs = search needs
 
 returns : tie.Need-returns
-returns c = rw (c .update2 .ensures, c .before .update .ensures, c .before .before .before .bytes32 .ensures)
+returns c = rw (c .with-message2 .ensures, c .before .with-message .ensures, c .before .before .before .bytes32 .ensures)
 
 pub after-hello-spec : {M : Type 1} → statement M
 after-hello-spec =
@@ -33,6 +33,6 @@ after-hello-spec =
     part-bytes32-start
     part-bytes32-end
     bytes32-requires
-    update-requires
-    update-requires-2
+    with-message-requires
+    with-message-requires-2
     returns)

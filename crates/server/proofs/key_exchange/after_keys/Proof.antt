@@ -13,11 +13,11 @@ slice-aggregate-master-under-2 c = search needs
 master-under-requires : tie.Need-master-under-requires
 master-under-requires c κs = search needs
 
-update-requires : tie.Need-update-requires
-update-requires c κs = search needs
+with-message-requires : tie.Need-with-message-requires
+with-message-requires c κs = search needs
 
 returns : tie.Need-returns
-returns c = rw (c .update .ensures, c .before .master-under .ensures)
+returns c = rw (c .with-message .ensures, c .before .master-under .ensures)
 
 pub after-keys-spec : {M : Type 1} → statement M
 after-keys-spec =
@@ -26,5 +26,5 @@ after-keys-spec =
     slice-aggregate-master-under
     slice-aggregate-master-under-2
     master-under-requires
-    update-requires
+    with-message-requires
     returns)
