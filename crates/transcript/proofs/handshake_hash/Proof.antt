@@ -125,8 +125,10 @@ pub handshake-hash-spec : {M : Type 1} → stated.statement M
 unfolding code.routine
 handshake-hash-spec 𝓤 H 𝓜 𝓖 𝓡 =
     let W : Given 𝓤 H (𝓖 .A) = givenOf 𝓤 H 𝓜 𝓖 in
-    proved 𝓤 H 𝓜 𝓖 𝓡 handshake-hash.ended stayed (goes-dropped 𝓤 H (𝓖 .A) W 2 (shrRefTo (0 ∷ []) tt (plain (λ _. T.the-row))) yes (λ κs x f. refl),
-      (goes-gave-slice 𝓤 H (𝓖 .A) W 2 1 tt (plain (λ _. u8)), tt))
+    proved 𝓤 H 𝓜 𝓖 𝓡 handshake-hash.ended stayed (
+      goes-dropped 𝓤 H (𝓖 .A) W 2 (shrRefTo (0 ∷ []) tt (plain (λ _. T.the-row))) yes (λ κs x f. refl),
+      (goes-gave-slice 𝓤 H (𝓖 .A) W 2 1 tt (plain (λ _. u8)), tt),
+    )
     (handshake-hash.clauses 𝓤 H (𝓖 .A) (𝓜 .mem) (𝓡 .run)) code.env #handshake-hash code.function (code.unfolded 𝓤 H 𝓜 𝓡)
     (λ κs. (ptr-vals, (slice-vals, tt))) (λ κs. (shr-tells (named 0) (κs .0) T.the-row, (mut-slice-tells (named 1) (κs .1 .0) u8, tt)))
     (λ fm κs qs bounds a g are. walk 𝓤 H (𝓖 .A) W (𝓜 .mem) (𝓡 .run) (κs .0) (κs .1 .0) (qs .0) (qs .1 .0) (a .0 .ptr .0) (a .0 .ptr .1) (a .0 .name)

@@ -144,8 +144,10 @@ pub with-message-spec : {M : Type 1} → stated.statement M
 unfolding code.routine
 with-message-spec 𝓤 H 𝓜 𝓖 𝓡 =
     let W : Given 𝓤 H (𝓖 .A) = givenOf 𝓤 H 𝓜 𝓖 in
-    proved 𝓤 H 𝓜 𝓖 𝓡 with-message.ended stayed (goes-dropped 𝓤 H (𝓖 .A) W 1 (plain (λ _. S.the-row)) yes (λ κs x f. refl),
-      (goes-dropped 𝓤 H (𝓖 .A) W 1 (shrSliceOf (0 ∷ []) tt (plain (λ _. u8))) yes (λ κs x f. refl), tt))
+    proved 𝓤 H 𝓜 𝓖 𝓡 with-message.ended stayed (
+      goes-dropped 𝓤 H (𝓖 .A) W 1 (plain (λ _. S.the-row)) yes (λ κs x f. refl),
+      (goes-dropped 𝓤 H (𝓖 .A) W 1 (shrSliceOf (0 ∷ []) tt (plain (λ _. u8))) yes (λ κs x f. refl), tt),
+    )
     (with-message.clauses 𝓤 H (𝓖 .A) (𝓜 .mem) (𝓡 .run)) code.env #with-message code.function (code.unfolded 𝓤 H 𝓜 𝓡)
     (λ κs. (LL.vals S.the-type S′.the-laws, (slice-vals, tt))) (λ κs. (LL.tells S.the-type S′.the-laws, (shr-slice-tells (named 0) (κs .0) u8, tt)))
     (λ fm κs qs bounds a g are. walk 𝓤 H (𝓖 .A) W (𝓜 .mem) (𝓡 .run) (κs .0) (qs .0) (a .0) (a .1 .0)
