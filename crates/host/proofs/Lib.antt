@@ -1,0 +1,8 @@
+pub mod Answers
+pub mod Apart
+pub mod Fifty
+pub mod Keeping
+pub mod Places
+pub mod Readings
+pub mod Signed
+pub mod Sizes

@@ -1,0 +1,18 @@
+-- `host::code::below_zero` meets its contract: what it negates has 16 bits, and so the negation fits 32.
+-- Assumes nothing.
+use borrow.Author.Needs.{needs}
+use Rattle.host.proofs.Signed.{minus-fits, minus}
+use Rattle.host.proofs.code.below_zero.Statement.{statement}
+use Rattle.host.proofs.code.below_zero.Tie as tie
+
+cast-result : tie.Need-cast-result
+cast-result c = search needs
+
+sub-result : tie.Need-sub-result
+sub-result c = minus-fits (c .args .n) (search needs)
+
+returns : tie.Need-returns
+returns c = minus (c .args .n) (search needs)
+
+pub below-zero-spec : {M : Type 1} → statement M
+below-zero-spec = tie.close (tie.spec cast-result sub-result returns)

@@ -1,0 +1,59 @@
+-- `host::connection::keep` meets its contract, by each of its three ways: an answer, an alert and an R number.
+-- Assumes nothing.
+use borrow.Author.Needs.{needs}
+use mathlib.Core.Path.{_≡_, sym, ap, _∙_}
+use mathlib.Core.Logic.{⊎-elim}
+use Rattle.server.specs.Saved.{restored}
+use Rattle.host.specs.Codes.{coded}
+use Rattle.host.specs.Inner.{Kept}
+use Rattle.host.proofs.Signed.{handed-on}
+use Rattle.host.proofs.Keeping.{kept-wrote, kept-alert, kept-same}
+use Rattle.host.proofs.connection.keep.Statement.{statement}
+use Rattle.host.proofs.connection.keep.Tie as tie
+
+enum-told : tie.Need-enum-told
+enum-told c = search needs
+
+save-requires : tie.Need-save-requires
+save-requires c κs = search needs
+
+enum-known-said : tie.Need-enum-known-said
+enum-known-said c = search needs
+
+for-client-requires : tie.Need-for-client-requires
+for-client-requires c κs = search needs
+
+save-requires-2 : tie.Need-save-requires-2
+save-requires-2 c κs = search needs
+
+-- where the ways meet
+met : (c : tie.At-match-came)
+    → (c .match .said ≡ c .before .args .said) × Kept (c .before .args .said) (c .before .args .next) (c .before .args .connection .now) (c .match .connection)
+met c =
+    ⊎-elim (λ w. (w .3, kept-wrote (w .1 .given .1) (w .4 ∙ w .2 .ensures .0) (ap restored (w .4) ∙ w .2 .ensures .1)))
+    (⊎-elim
+    (λ w.
+    let alert = sym (w .3 .ensures) ∙ w .4 .taken in
+    (w .6 ∙ sym (w .1 .given .1), kept-alert (w .1 .given .1) alert (w .7 ∙ w .5 .ensures .0) (ap restored (w .7) ∙ w .5 .ensures .1)))
+    (λ w. (w .5 ∙ sym (w .1 .given .1), kept-same (w .1 .given .1) (sym (w .3 .ensures) ∙ w .4 .left) (w .6))))
+    (c .match .came)
+
+of-answer-requires : tie.Need-of-answer-requires
+of-answer-requires c κs = rw (met c .0) (c .before .pre)
+
+returns : tie.Need-returns
+returns c =
+    let all = met (c .before) in
+    (handed-on _ (c .of-answer .ok) ∙ c .of-answer .ensures ∙ ap coded (all .0), all .1)
+
+pub keep-spec : {M : Type 1} → statement M
+keep-spec =
+    tie.close
+    (tie.spec
+    enum-told
+    save-requires
+    enum-known-said
+    for-client-requires
+    save-requires-2
+    of-answer-requires
+    returns)

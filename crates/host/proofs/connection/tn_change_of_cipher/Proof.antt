@@ -1,0 +1,35 @@
+-- `host::connection::tn_change_of_cipher` meets its contract: what `server::change_of_cipher` answered, kept.
+-- Assumes nothing.
+use borrow.Author.Needs.{needs}
+use mathlib.Core.Path.{ap}
+use mathlib.Core.List.{[]}
+use Rattle.server.specs.declared.Connection.{Connection}
+use Rattle.server.specs.declared.Answer.{Answer}
+use Rattle.server.specs.Steps.{changeStep}
+use Rattle.host.proofs.Sizes.{change-brief}
+use Rattle.host.proofs.Keeping.{step-count, keeps}
+use Rattle.host.proofs.connection.tn_change_of_cipher.Statement.{statement}
+use Rattle.host.proofs.connection.tn_change_of_cipher.Tie as tie
+
+restore-requires : tie.Need-restore-requires
+restore-requires c κs = search needs
+
+change-of-cipher-requires : tie.Need-change-of-cipher-requires
+change-of-cipher-requires c κs = search needs
+
+keep-requires : tie.Need-keep-requires
+keep-requires c κs =
+    let x = c .before .before .before .restore .result in
+    let said = ap (λ (y : Answer). y .said) (c .before .before .change-of-cipher .ensures) in
+    step-count x [] (changeStep x (x .phase)) said (change-brief x (x .phase))
+
+returns : tie.Need-returns
+returns c =
+    let a = c .before .before .before .before .before .before .args in
+    let answer = c .before .before .before .change-of-cipher .ensures in
+    keeps (a .connection .now) [] (λ (x : Connection). changeStep x (x .phase)) (c .before .before .before .before .restore .ensures)
+    (ap (λ (y : Answer). y .said) answer) (ap (λ (y : Answer). y .next) answer) (c .keep .ok) (c .keep .ensures .0) (c .keep .ensures .1)
+
+pub tn-change-of-cipher-spec : {M : Type 1} → statement M
+tn-change-of-cipher-spec =
+    tie.close (tie.spec restore-requires change-of-cipher-requires keep-requires returns)

@@ -1,0 +1,44 @@
+-- `host::reading::put_part` meets its contract: what it asks is that start and length fit.
+-- Assumes nothing.
+use borrow.Author.Needs.{needs}
+use mathlib.Core.Path.{refl}
+use Rattle.host.specs.Inner.{Fits}
+use Rattle.host.proofs.Readings.{part-refused}
+use Rattle.host.proofs.reading.put_part.Statement.{statement}
+use Rattle.host.proofs.reading.put_part.Tie as tie
+
+enum-known-part : tie.Need-enum-known-part
+enum-known-part c = search needs
+
+fits : (c : tie.After-known-told) → Fits (c .before .part .given .0 .0) (c .before .part .given .0 .1 .0)
+fits c = rw (c .before .part .given .1) at (c .before .before .before .pre)
+
+cast-t7 : tie.Need-cast-t7
+cast-t7 c = record { fits = fits c .start-fits }
+
+cast-t8 : tie.Need-cast-t8
+cast-t8 c = record { fits = fits c .len-fits }
+
+enum-known-part-2 : tie.Need-enum-known-part-2
+enum-known-part-2 c = search needs
+
+of-refusal-requires : tie.Need-of-refusal-requires
+of-refusal-requires c κs = search needs
+
+returns : tie.Need-returns
+returns c = rw (c .before .before .part .given .1) (record { told = refl; left = refl })
+
+returns-2 : tie.Need-returns-2
+returns-2 c = search (needs, part-refused)
+
+pub put-part-spec : {M : Type 1} → statement M
+put-part-spec =
+    tie.close
+    (tie.spec
+    enum-known-part
+    cast-t7
+    cast-t8
+    enum-known-part-2
+    of-refusal-requires
+    returns
+    returns-2)

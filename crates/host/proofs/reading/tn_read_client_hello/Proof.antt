@@ -1,0 +1,101 @@
+-- `host::reading::tn_read_client_hello` meets its contract: each number and each place that the reader found fits 32 bits.
+-- Assumes nothing.
+use borrow.Author.Needs.{needs}
+use mathlib.Core.Path.{_≡_, refl, sym, _∙_}
+use native.Mathlib.Omega.{arith}
+use Rattle.endian.specs.Number.{Bytes}
+use Rattle.messages.specs.declared.client_hello.Client.{Client}
+use Rattle.messages.specs.ClientHello.{clientPlace}
+use Rattle.host.proofs.Readings.{refusal-read, three-fields}
+use Rattle.host.proofs.Places.{ClientFits, client-fits}
+use Rattle.host.proofs.reading.tn_read_client_hello.Statement.{statement}
+use Rattle.host.proofs.reading.tn_read_client_hello.Tie as tie
+
+read-requires : tie.Need-read-requires
+read-requires c κs = search needs
+
+enum-known-version : tie.Need-enum-known-version
+enum-known-version c = search needs
+
+abbrev said : tie.After-known-told → Client
+said c =
+    let given = c .before .version .given .0 in
+    let lists = given .1 .1 in
+    Client.Read (given .0) (given .1 .0) (lists .0) (lists .1 .0) (lists .1 .1 .0) (lists .1 .1 .1 .0) (lists .1 .1 .1 .1 .0)
+
+found : (c : tie.After-known-told) → clientPlace (c .before .before .before .before .before .args .message .now) ≡ said c
+found c = sym (c .before .before .before .read .ensures) ∙ c .before .version .given .1
+
+fits : (c : tie.After-known-told) → ClientFits (said c)
+fits c =
+    let m = c .before .before .before .before .before .args .message .now in
+    let b : Bytes m = λ i. omega (arith, c .before .before .before .before .shared-slice-known .given i) in
+    rw (found c) at (client-fits m b)
+
+block-fields-requires : tie.Need-block-fields-requires
+block-fields-requires c κs = fits c .block
+
+cast-t15 : tie.Need-cast-t15
+cast-t15 c = record { fits = fits (c .before) .version-fits }
+
+cast-t16 : tie.Need-cast-t16
+cast-t16 c = record { fits = fits (c .before) .session-fits }
+
+cast-t17 : tie.Need-cast-t17
+cast-t17 c = record { fits = fits (c .before) .suites .start-fits }
+
+cast-t18 : tie.Need-cast-t18
+cast-t18 c = record { fits = fits (c .before) .suites .len-fits }
+
+cast-t19 : tie.Need-cast-t19
+cast-t19 c = record { fits = fits (c .before) .methods .start-fits }
+
+cast-t20 : tie.Need-cast-t20
+cast-t20 c = record { fits = fits (c .before) .methods .len-fits }
+
+array-read-t23 : tie.Need-array-read-t23
+array-read-t23 c = search needs
+
+array-read-t26 : tie.Need-array-read-t26
+array-read-t26 c = search needs
+
+array-read-t29 : tie.Need-array-read-t29
+array-read-t29 c = search needs
+
+enum-known-r : tie.Need-enum-known-r
+enum-known-r c = search needs
+
+of-refusal-requires : tie.Need-of-refusal-requires
+of-refusal-requires c κs = search needs
+
+returns : tie.Need-returns
+returns c =
+    let b = c .before .before .before .version .given .0 .1 .1 .1 .1 .1 .1 .0 in
+    let last = c .before .block-fields in
+    rw (found (c .before .before)) (record { told = refl; left = rw (← three-fields b (last .result) (last .ensures)) })
+
+returns-2 : tie.Need-returns-2
+returns-2 c =
+    rw (sym (c .before .before .before .before .read .ensures) ∙ c .before .before .r .given .1)
+    (refusal-read (c .before .before .r .given .0 .0) (c .of-refusal .ok) (c .of-refusal .ensures))
+
+pub tn-read-client-hello-spec : {M : Type 1} → statement M
+tn-read-client-hello-spec =
+    tie.close
+    (tie.spec
+    read-requires
+    enum-known-version
+    block-fields-requires
+    cast-t15
+    cast-t16
+    cast-t17
+    cast-t18
+    cast-t19
+    cast-t20
+    array-read-t23
+    array-read-t26
+    array-read-t29
+    enum-known-r
+    of-refusal-requires
+    returns
+    returns-2)

@@ -1,0 +1,32 @@
+-- `host::reading::tn_read_server_hello_done` meets its contract: 0 where the reader found the empty body, else the refusal's code.
+-- Assumes nothing.
+use borrow.Author.Needs.{needs}
+use mathlib.Core.Path.{sym, _∙_}
+use Rattle.host.proofs.Signed.{handed-on}
+use Rattle.host.proofs.reading.tn_read_server_hello_done.Statement.{statement}
+use Rattle.host.proofs.reading.tn_read_server_hello_done.Tie as tie
+
+read-done-requires : tie.Need-read-done-requires
+read-done-requires c κs = search needs
+
+enum-told : tie.Need-enum-told
+enum-told c = search needs
+
+enum-known-r : tie.Need-enum-known-r
+enum-known-r c = search needs
+
+of-refusal-requires : tie.Need-of-refusal-requires
+of-refusal-requires c κs = search needs
+
+returns : tie.Need-returns
+returns c = rw (sym (c .before .before .read-done .ensures) ∙ c .enum-told .given .1)
+
+returns-2 : tie.Need-returns-2
+returns-2 c =
+    rw (sym (c .before .before .before .before .read-done .ensures) ∙ c .before .before .r .given .1)
+    (handed-on _ (c .of-refusal .ok) ∙ c .of-refusal .ensures)
+
+pub tn-read-server-hello-done-spec : {M : Type 1} → statement M
+tn-read-server-hello-done-spec =
+    tie.close
+    (tie.spec read-done-requires enum-told enum-known-r of-refusal-requires returns returns-2)

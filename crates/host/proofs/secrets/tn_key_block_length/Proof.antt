@@ -1,0 +1,22 @@
+-- `host::secrets::tn_key_block_length` meets its contract: the length is below 97.
+-- Assumes nothing.
+use borrow.Author.Needs.{needs}
+use mathlib.Core.Path.{_∙_, ap}
+use lib.IntN.{pos}
+use Rattle.host.proofs.Signed.{handed-on}
+use Rattle.host.proofs.Sizes.{key-block-few}
+use Rattle.host.proofs.secrets.tn_key_block_length.Statement.{statement}
+use Rattle.host.proofs.secrets.tn_key_block_length.Tie as tie
+
+key-block-length-requires : tie.Need-key-block-length-requires
+key-block-length-requires c κs = search needs
+
+of-answer-requires : tie.Need-of-answer-requires
+of-answer-requires c κs = rw (c .key-block-length .ensures) (key-block-few (c .before .args .suite))
+
+returns : tie.Need-returns
+returns c = handed-on _ (c .of-answer .ok) ∙ c .of-answer .ensures ∙ ap pos (c .before .key-block-length .ensures)
+
+pub tn-key-block-length-spec : {M : Type 1} → statement M
+tn-key-block-length-spec =
+    tie.close (tie.spec key-block-length-requires of-answer-requires returns)

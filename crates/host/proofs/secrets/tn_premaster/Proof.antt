@@ -1,0 +1,22 @@
+-- `host::secrets::tn_premaster` meets its contract: the code of what `keys::premaster` said.
+-- Assumes nothing.
+use borrow.Author.Needs.{needs}
+use Rattle.host.proofs.Answers.{few, codes}
+use Rattle.host.proofs.Sizes.{premaster-small}
+use Rattle.host.proofs.secrets.tn_premaster.Statement.{statement}
+use Rattle.host.proofs.secrets.tn_premaster.Tie as tie
+
+premaster-requires : tie.Need-premaster-requires
+premaster-requires c κs = search needs
+
+of-answer-requires : tie.Need-of-answer-requires
+of-answer-requires c κs = few (c .before .before .premaster .ensures) (premaster-small _)
+
+same-length : tie.Need-same-length
+same-length c = search needs
+
+returns : tie.Need-returns
+returns c = codes (c .before .before .before .premaster .ensures) (c .of-answer .ok) (c .of-answer .ensures)
+
+pub tn-premaster-spec : {M : Type 1} → statement M
+tn-premaster-spec = tie.close (tie.spec premaster-requires of-answer-requires same-length returns)

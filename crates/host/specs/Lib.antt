@@ -1,0 +1,5 @@
+pub mod Codes
+pub mod Connections
+pub mod Fields
+pub mod Inner
+pub mod Numbered
