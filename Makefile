@@ -1,15 +1,20 @@
-# make run   prove the hash and print its digests of the FIPS 180 messages
-# make test  every test: outside vectors made again by an independent program, then every proof,
-#            every must-fail edit and every program (rt ci, whose last line is 'N passed, 0 failed')
+# make run    the gateway on 127.0.0.1:4433, over the proved library (host/host.mk has the targets of the C side)
+# make test   every test: outside vectors made again by an independent program, every proof, every must-fail edit
+#             and every program (rt ci), then the C side; the last line is rt ci's 'N passed, 0 failed'
 
-.PHONY: run test vectors
+SHELL := /bin/bash
+.SHELLFLAGS := -eu -o pipefail -c
 
-run:
-	@rt check hash_vectors
-	@target/bin/hash_vectors
+.PHONY: test vectors
 
+include host/host.mk
+
+# rt ci comes before the C side, which links what it has just proved.
 test: vectors
-	@rt ci
+	@mkdir -p build
+	@rt ci | tee build/ci.log
+	@$(MAKE) --no-print-directory header-test interop
+	@tail -n 1 build/ci.log
 
 vectors:
 	@tests/vectors

@@ -1,0 +1,88 @@
+/*
+ * One client of the gateway, apart from its socket: bytes that came go in, bytes to be sent come out. Joins records to handshake messages, hands these to the
+ * library, changes ciphers, sends and takes alerts, and serves the enrolment lines: each line X is answered with "enrolled X".
+ */
+#ifndef HOST_CONNECTION_H
+#define HOST_CONNECTION_H
+
+#include <stdbool.h>
+#include <stddef.h>
+#include <stdint.h>
+
+#include "records.h"
+#include "turretnail.h"
+
+enum {
+    LINE_LIMIT = 256, /* of an enrolment line, without its line end */
+    OUT_SIZE = 8192
+};
+
+/* What all connections of a gateway share. */
+struct settings {
+    const char *hint; /* empty: none */
+    uint8_t rule;
+    uint8_t stand_in[TN_STAND_IN_SIZE];
+    uint8_t table[TN_TABLE_LIMIT];
+    size_t table_len;
+};
+
+/* How a login, or a connection after it, ended. */
+enum outcome {
+    OUTCOME_NONE, /* not yet */
+    OUTCOME_COMPLETE,
+    OUTCOME_ALERT_SENT,
+    OUTCOME_ALERT_RECEIVED,
+    OUTCOME_CLOSED,
+    OUTCOME_TIME_OUT,
+    OUTCOME_STOPPED
+};
+
+struct connection {
+    uint8_t login[TN_CONNECTION_SIZE]; /* the library's part */
+    uint8_t server_random[TN_RANDOM_SIZE];
+    uint8_t client_random[TN_RANDOM_SIZE];
+    const struct suite *suite; /* NULL until it is chosen */
+    struct protection reading, writing;           /* in force */
+    struct protection next_reading, next_writing; /* after the change of cipher */
+    bool ended;                                   /* nothing more is read; what is in `out` is still sent */
+
+    enum outcome login_outcome; /* of the login; the next is of what came after it */
+    enum outcome later_outcome;
+    uint8_t alert; /* of the last outcome that has one */
+    uint8_t identity[TN_IDENTITY_LIMIT];
+    size_t identity_len; /* as the client named it; only so many bytes as fit are kept */
+    bool identity_known;
+
+    uint8_t in[RECORD_LIMIT]; /* the record that is coming */
+    size_t in_len;
+    size_t lines_at, lines_end; /* application data in `in` that is not yet answered */
+    uint8_t message[TN_MESSAGE_LIMIT];
+    size_t message_len;
+    uint8_t line[LINE_LIMIT];
+    size_t line_len;
+    uint8_t out[OUT_SIZE];
+    size_t out_at, out_end;
+};
+
+/* Makes a connection that awaits a ClientHello; false where the system has no randomness or the library refuses the settings. */
+bool connection_start(struct connection *c, const struct settings *settings);
+
+/* How many bytes may be read into c->in + c->in_len now; 0: none until something was sent, or none at all. */
+size_t connection_wants(const struct connection *c);
+
+/* So many bytes of those came; true where they ended a record. */
+bool connection_received(struct connection *c, const struct settings *settings, size_t n);
+
+/* So many bytes from c->out + c->out_at on were sent. */
+void connection_sent(struct connection *c, size_t n);
+
+/* Ends the connection from our side, with close_notify: a time-out, or the gateway stops. */
+void connection_close(struct connection *c, enum outcome why);
+
+/* The client closed its side, or the transport broke. */
+void connection_lost(struct connection *c);
+
+/* Clears every byte, and with them all secrets. */
+void connection_clear(struct connection *c);
+
+#endif

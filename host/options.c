@@ -1,0 +1,126 @@
+/* The gateway's command line. */
+#include "options.h"
+
+#include <errno.h>
+#include <getopt.h>
+#include <stdbool.h>
+#include <stdio.h>
+#include <stdlib.h>
+#include <string.h>
+
+#include "turretnail.h"
+
+static const char help[] =
+    "usage: gateway --table FILE [OPTION..]\n"
+    "\n"
+    "A TLS 1.2 server with pre-shared keys that answers each line X of a gate with 'enrolled X'.\n"
+    "\n"
+    "  --table FILE             the gates: lines 'identity:key', key in hex (read again on SIGHUP)\n"
+    "  --address ADDRESS        where to listen, IPv4 or IPv6 (default 127.0.0.1)\n"
+    "  --port NUMBER            default 4433; 0: any free one\n"
+    "  --hint TEXT              identity hint for the gates, up to 128 bytes (default none)\n"
+    "  --rule tell|hide         an unknown gate is told so (alert 115), or refused like a wrong key\n"
+    "                           (alert 51); default: the library's own\n"
+    "  --handshake-timeout SEC  for a whole handshake (default 10)\n"
+    "  --idle-timeout SEC       without a record, after the handshake (default 300)\n"
+    "  --once N                 stop after N connections\n"
+    "  --help                   this text\n"
+    "\n"
+    "SIGINT or SIGTERM stops it.\n";
+
+enum { ADDRESS = 1000, PORT, TABLE, HINT, RULE, ONCE, HANDSHAKE, IDLE, HELP };
+
+static const struct option names[] = {
+    {"address", required_argument, NULL, ADDRESS},
+    {"port", required_argument, NULL, PORT},
+    {"table", required_argument, NULL, TABLE},
+    {"hint", required_argument, NULL, HINT},
+    {"rule", required_argument, NULL, RULE},
+    {"once", required_argument, NULL, ONCE},
+    {"handshake-timeout", required_argument, NULL, HANDSHAKE},
+    {"idle-timeout", required_argument, NULL, IDLE},
+    {"help", no_argument, NULL, HELP},
+    {NULL, 0, NULL, 0},
+};
+
+/* A decimal number from least to most, digits only. */
+static bool number(const char *name, const char *text, unsigned long least, unsigned long most, unsigned long *value)
+{
+    char *end;
+    errno = 0;
+    *value = strtoul(text, &end, 10);
+    bool digits = text[0] != '\0' && strspn(text, "0123456789") == strlen(text);
+    if (digits && errno == 0 && *value >= least && *value <= most)
+        return true;
+    fprintf(stderr, "gateway: --%s: '%s' is no number from %lu to %lu\n", name, text, least, most);
+    return false;
+}
+
+static bool rule(const char *text, uint8_t *value)
+{
+    if (strcmp(text, "tell") == 0)
+        *value = TN_RULE_TELL;
+    else if (strcmp(text, "hide") == 0)
+        *value = TN_RULE_HIDE;
+    else {
+        fprintf(stderr, "gateway: --rule: '%s' is neither tell nor hide\n", text);
+        return false;
+    }
+    return true;
+}
+
+static bool seconds(const char *name, const char *text, unsigned *value)
+{
+    unsigned long n;
+    if (!number(name, text, 1, 86400, &n))
+        return false;
+    *value = (unsigned)n;
+    return true;
+}
+
+static bool port(const char *text, uint16_t *value)
+{
+    unsigned long n;
+    if (!number("port", text, 0, 65535, &n))
+        return false;
+    *value = (uint16_t)n;
+    return true;
+}
+
+/* One option with its argument. */
+static bool take(struct options *o, int which, const char *text)
+{
+    switch (which) {
+    case ADDRESS: o->address = text; return true;
+    case TABLE: o->table = text; return true;
+    case HINT: o->hint = text; return true;
+    case PORT: return port(text, &o->port);
+    case RULE: return rule(text, &o->rule);
+    case ONCE: return number("once", text, 1, 1000000000, &o->once);
+    case HANDSHAKE: return seconds("handshake-timeout", text, &o->handshake_seconds);
+    case IDLE: return seconds("idle-timeout", text, &o->idle_seconds);
+    default: return false; /* getopt_long has said why */
+    }
+}
+
+enum reading options_read(struct options *o, int count, char **words)
+{
+    *o = (struct options){.address = "127.0.0.1", .port = 4433, .hint = "", .rule = TN_RULE_NONE, .handshake_seconds = 10, .idle_seconds = 300};
+    for (int which; (which = getopt_long(count, words, "", names, NULL)) != -1;) {
+        if (which == HELP) {
+            fputs(help, stdout);
+            return OPTIONS_HELP;
+        }
+        if (!take(o, which, optarg))
+            return OPTIONS_WRONG;
+    }
+    if (optind < count) {
+        fprintf(stderr, "gateway: '%s' is no option; --help lists them\n", words[optind]);
+        return OPTIONS_WRONG;
+    }
+    if (!o->table) {
+        fprintf(stderr, "gateway: which gates? Give --table FILE; --help says more\n");
+        return OPTIONS_WRONG;
+    }
+    return OPTIONS_READ;
+}

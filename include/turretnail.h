@@ -1,0 +1,385 @@
+/*
+ * turretnail.h: the server side of the TLS 1.2 handshake with pre-shared keys (RFC 4279, RFC 5246), for a host program in C or C++.
+ *
+ * The library is proved: for any bytes in any order each call has one answer, fixed by definitions that follow the RFCs. What the proofs assume of the
+ * caller is on this page and nowhere else.
+ *
+ *   - The host opens sockets, cuts and joins records and protects them. It hands over one whole handshake message a call, header included.
+ *   - The host lends all memory. The library allocates nothing, keeps nothing between two calls, has no global state and calls nothing of the host's.
+ *     Calls from several threads at once are fine where no two of them are lent the same writable memory.
+ *   - The host lends all randomness: 32 fresh bytes for each connection, from a source that never repeats. Two connections with the same 32 bytes can be
+ *     recorded and played again.
+ *
+ * POINTERS AND LENGTHS
+ *
+ * A `const uint8_t *p` with its `size_t p_len` is read and left as it was; a `uint8_t *out` with its `size_t out_len` is lent for the answer. A parameter
+ * written as an array, as `uint32_t fields[9]`, is a pointer to so many elements. The caller sees to it that
+ *
+ *   - each pointer points to as many bytes or elements as its length or its type says, and is not null, also where the length is 0;
+ *   - memory that is lent to be written (`out`, `fields`, `connection`, `master`) overlaps no other argument of the same call;
+ *   - nobody else writes to any of it before the call returns.
+ *
+ * Nothing else is asked: there is no length, no byte and no order of calls that may not be given.
+ *
+ * WHAT COMES BACK
+ *
+ * One `int32_t`, of which three kinds never meet:
+ *
+ *   0 and above   accepted. Of a call that is lent an `out`: so many bytes were written at its front, and the rest of it is as it was.
+ *   -1 .. -5      refused to the host: TN_R1 .. TN_R5. Nothing that was lent is changed.
+ *   -1000 - a     refused to the client: the host sends the fatal alert a. Nothing that was lent is changed, except that the connection is closed.
+ *
+ * So a refusal never writes to `out`, `fields` or `master`. The tests `tn_is_count`, `tn_is_host_refusal` and `tn_is_alert` below tell the kinds apart.
+ */
+#ifndef TURRETNAIL_H
+#define TURRETNAIL_H
+
+#include <stdbool.h>
+#include <stddef.h>
+#include <stdint.h>
+
+#ifdef __cplusplus
+extern "C" {
+#endif
+
+/* ==== Sizes ================================================================================================================================== */
+
+#define TN_RANDOM_SIZE 32       /* a hello's random, and the bytes lent to tn_start */
+#define TN_STAND_IN_SIZE 32     /* the stand-in key lent to tn_start */
+#define TN_HINT_LIMIT 128       /* a hint has at most so many bytes */
+#define TN_MESSAGE_LIMIT 16384  /* a handshake message has at most so many bytes, its header included */
+#define TN_CONNECTION_SIZE 382  /* a connection, see tn_start */
+#define TN_FLIGHT_SIZE 180      /* the longest answer of tn_message */
+#define TN_FINISHED_SIZE 16     /* a Finished message */
+#define TN_HASH_SIZE 32         /* SHA-256 and HMAC-SHA-256 */
+#define TN_PSK_LIMIT 64         /* a pre-shared key has 1 to 64 bytes */
+#define TN_PREMASTER_LIMIT 132  /* the longest premaster secret: 4 + 2 * 64 */
+#define TN_MASTER_SIZE 48       /* a master secret */
+#define TN_KEY_BLOCK_LIMIT 96   /* the longest key block */
+#define TN_VERIFY_DATA_SIZE 12  /* the value in a Finished message */
+#define TN_PRF_LIMIT 256        /* the PRF gives at most so many bytes */
+#define TN_PRF_INPUT_LIMIT 65536 /* secret and seed of the PRF have at most so many bytes each */
+#define TN_IDENTITY_LIMIT 128   /* a listed identity has 1 to 128 bytes */
+#define TN_TABLE_LIMIT 65536    /* a key table has at most so many bytes */
+#define TN_TABLE_LINES 256      /* and so many lines */
+
+/* ==== Results ================================================================================================================================ */
+
+/* Refusals to the host. The client is told nothing, and a connection stays as it was. */
+#define TN_R1 (-1) /* the lent output is shorter than the answer */
+#define TN_R2 (-2) /* the key table is not well formed */
+#define TN_R3 (-3) /* a bad setting at tn_start; no connection was made */
+#define TN_R4 (-4) /* the connection is complete or closed */
+#define TN_R5 (-5) /* a value to be written that its layout forbids, or a length outside its limit */
+
+/*
+ * The alerts that the library gives (RFC 5246 section 7.2, RFC 4279 section 6). The library sends nothing: where a call on a connection gives an alert, the
+ * host sends an alert record with the bytes 2 (fatal) and this number, under the write protection of the moment, and closes the transport. A layout reader
+ * or the table used alone gives the same numbers and touches no connection.
+ *
+ *   alert                          given by
+ *   10 unexpected_message          tn_message: another message than the one awaited. tn_change_of_cipher: none awaited.
+ *   40 handshake_failure           tn_message: the ClientHello lists none of our suites.
+ *   47 illegal_parameter           tn_message: the ClientHello lists no null compression. tn_alert: a level other than 1 and 2.
+ *   50 decode_error                tn_message: a wrong layout, or a message over 16,384 bytes. Every tn_read_ function and tn_next_extension.
+ *   51 decrypt_error               tn_message: a wrong Finished, or any Finished after an identity that is not listed.
+ *   70 protocol_version            tn_message: a ClientHello below TLS 1.2.
+ *   115 unknown_psk_identity       tn_message under the rule tell: the identity is not listed. tn_table_lookup.
+ *
+ * Alerts on records (bad_record_mac, record_overflow) and close_notify are the host's own.
+ */
+#define TN_ALERT_UNEXPECTED_MESSAGE 10
+#define TN_ALERT_HANDSHAKE_FAILURE 40
+#define TN_ALERT_ILLEGAL_PARAMETER 47
+#define TN_ALERT_DECODE_ERROR 50
+#define TN_ALERT_DECRYPT_ERROR 51
+#define TN_ALERT_PROTOCOL_VERSION 70
+#define TN_ALERT_UNKNOWN_PSK_IDENTITY 115
+
+/* The result that stands for an alert, to compare with: `result == TN_ALERT_RESULT(TN_ALERT_DECODE_ERROR)`. */
+#define TN_ALERT_RESULT(alert) (-1000 - (alert))
+
+/* Whether the call was accepted. */
+static inline bool tn_is_count(int32_t result)
+{
+    return result >= 0;
+}
+
+/* Whether it was refused to the host, with one of TN_R1 to TN_R5. */
+static inline bool tn_is_host_refusal(int32_t result)
+{
+    return result < 0 && result > -1000;
+}
+
+/* Whether it was refused to the client, with an alert. */
+static inline bool tn_is_alert(int32_t result)
+{
+    return result <= -1000;
+}
+
+/* The alert's number, as it goes over the wire, of a result for which tn_is_alert holds. */
+static inline uint8_t tn_alert_number(int32_t result)
+{
+    return (uint8_t)((-1000 - result) & 0xff);
+}
+
+/* ==== Numbers of the protocol ================================================================================================================ */
+
+/* The cipher suites, in the order in which the server chooses. Key block, cut by the host as RFC 5246 section 6.3 says: client's and server's MAC keys,
+ * then client's and server's cipher keys. */
+#define TN_SUITE_PSK_AES_128_CBC_SHA256 0x00AE /* 96 bytes: 32, 32, 16, 16 */
+#define TN_SUITE_PSK_AES_128_CBC_SHA 0x008C    /* 72 bytes: 20, 20, 16, 16 */
+#define TN_SUITE_PSK_NULL_SHA256 0x00B0        /* 64 bytes: 32, 32 */
+
+/* What tn_start does about an identity that is not listed. */
+#define TN_RULE_NONE 0 /* none named: tell */
+#define TN_RULE_TELL 1 /* alert 115 at once */
+#define TN_RULE_HIDE 2 /* go on with the stand-in key, alert 51 at the Finished */
+
+/* What tn_phase answers. */
+#define TN_PHASE_CLOSED 0
+#define TN_PHASE_CLIENT_HELLO 1        /* awaits it */
+#define TN_PHASE_CLIENT_KEY_EXCHANGE 2 /* awaits it */
+#define TN_PHASE_CHANGE_OF_CIPHER 3    /* awaits it */
+#define TN_PHASE_FINISHED 4            /* awaits it */
+#define TN_PHASE_COMPLETE 5
+
+/* tn_prf's labels, which stand in the library as text. */
+#define TN_LABEL_MASTER_SECRET 0
+#define TN_LABEL_KEY_EXPANSION 1
+#define TN_LABEL_CLIENT_FINISHED 2
+#define TN_LABEL_SERVER_FINISHED 3
+
+/* tn_finished's sides. */
+#define TN_SIDE_CLIENT 0
+#define TN_SIDE_SERVER 1
+
+/* In a ClientHello or ServerHello that was accepted the random stands at 6, and the session id at 39. */
+#define TN_HELLO_RANDOM_AT 6
+#define TN_HELLO_SESSION_ID_AT 39
+
+/* ==== The server ============================================================================================================================= */
+
+/*
+ * A connection is TN_CONNECTION_SIZE bytes of the host's, which the calls read and write whole. Their meaning is the library's own; no alignment is needed.
+ *
+ *   - Cleared bytes are a closed connection, and so are bytes that no call has written: they are answered with TN_R4.
+ *   - Bytes may be moved and copied between calls. They hold secrets until the connection is complete or closed; then they hold no secret and no trace of
+ *     the client. A host that drops a connection earlier clears them.
+ *
+ * The way of a login:
+ *
+ *   tn_start                                               phase 1
+ *   ClientHello            tn_message, send its answer      phase 2
+ *   ClientKeyExchange      tn_message, keep the master      phase 3    tn_key_block makes the keys of both directions
+ *   a change of cipher     tn_change_of_cipher              phase 4    from here on records of the client are protected
+ *   Finished               tn_message                       phase 5    send a change of cipher, then its answer under the server's keys
+ *
+ * An alert of the client goes to tn_alert whenever it comes before phase 5. Records after phase 5, alerts among them, are the host's alone.
+ *
+ * THE FIRST PROTECTED RECORD. Under an unlisted identity, or with a wrong key, the client's Finished does not even decrypt, and tn_message never sees it.
+ * The host then sends alert 51 (decrypt_error), clears the connection and closes the transport; in later records a bad MAC is alert 20, as usual. With 20
+ * for the first one the handshake would still fail, but with another alert than where the library judges.
+ */
+
+/*
+ * Starts a connection.
+ *
+ *   random     TN_RANDOM_SIZE bytes that no other connection was or will be started with
+ *   hint       0 to TN_HINT_LIMIT bytes of UTF-8, sent to each client; none: no ServerKeyExchange is sent
+ *   stand_in   TN_STAND_IN_SIZE bytes that nobody else knows, drawn once when the host starts: the key of unlisted identities under TN_RULE_HIDE
+ *   rule       TN_RULE_NONE, TN_RULE_TELL or TN_RULE_HIDE
+ *
+ *   0          `connection` awaits a ClientHello
+ *   TN_R3      another length, a hint that is not UTF-8, or another rule; `connection` as it was
+ */
+int32_t tn_start(uint8_t connection[TN_CONNECTION_SIZE], const uint8_t *random, size_t random_len, const uint8_t *hint, size_t hint_len,
+                 const uint8_t *stand_in, size_t stand_in_len, uint8_t rule);
+
+/*
+ * Hands over one handshake message, header included, without its record. A refused message is not added to the transcript.
+ *
+ *   table      the key table (tn_table_test says its form), read where a ClientKeyExchange comes
+ *   out        room for the answer: TN_FLIGHT_SIZE bytes are always enough
+ *
+ *   result                 when                                            out                                 master            connection
+ *   46, or 52 + hint_len   ClientHello accepted                            ServerHello, ServerKeyExchange      as it was         phase 2
+ *                                                                          where there is a hint, and
+ *                                                                          ServerHelloDone
+ *   0                      ClientKeyExchange accepted                      as it was                           master secret     phase 3
+ *   16                     Finished accepted                               the server's Finished               as it was         phase 5, complete
+ *   TN_R1                  all is right, and out is shorter than that      as it was                           as it was         as it was
+ *   TN_R2                  a ClientKeyExchange, table not well formed      as it was                           as it was         as it was
+ *   TN_R4                  the connection is complete or closed            as it was                           as it was         as it was
+ *   an alert               10, 40, 47, 50, 51, 70, 115 as listed above     as it was                           as it was         closed
+ *
+ * After TN_R1 or TN_R2 the connection still awaits the same message, and the call may be made again with more room or a better table.
+ *
+ * Order of the tests: TN_R4; fewer than 4 bytes 50; another type than the one awaited 10; the length in the header not that of the rest 50; over
+ * TN_MESSAGE_LIMIT bytes 50; TN_R2; the body's; TN_R1. So a header that promises too much can be handed over alone, and is refused with 10 or 50.
+ *
+ * Under TN_RULE_HIDE the master secret after an unlisted identity comes from the stand-in key. It is for the records only.
+ */
+int32_t tn_message(uint8_t connection[TN_CONNECTION_SIZE], const uint8_t *table, size_t table_len, const uint8_t *message, size_t message_len,
+                   uint8_t *out, size_t out_len, uint8_t master[TN_MASTER_SIZE]);
+
+/*
+ * A change of cipher came from the client.
+ *
+ *   0                      it was awaited; the connection awaits a Finished
+ *   TN_R4                  the connection is complete or closed, and stays as it was
+ *   alert 10               it was not awaited; the connection is closed
+ */
+int32_t tn_change_of_cipher(uint8_t connection[TN_CONNECTION_SIZE]);
+
+/*
+ * An alert came from the client.
+ *
+ *   0                      level 2, or description 0 (close_notify): the connection is closed, and nothing is to be sent.
+ *                          Another description with level 1: a warning, and the connection stays as it was. tn_phase tells the two apart.
+ *   TN_R4                  the connection is complete or closed, and stays as it was
+ *   alert 47               a level other than 1 and 2; the connection is closed
+ */
+int32_t tn_alert(uint8_t connection[TN_CONNECTION_SIZE], uint8_t level, uint8_t description);
+
+/* What the connection awaits, or how it ended: one of the TN_PHASE_ numbers. TN_PHASE_CLOSED also for bytes that no call has written. */
+int32_t tn_phase(const uint8_t connection[TN_CONNECTION_SIZE]);
+
+/* ==== Secrets ================================================================================================================================ */
+
+/*
+ * Each writes its value at the front of `out` and returns the value's length. Each tests TN_R5 first, as said at the function, and then TN_R1: `out` is
+ * shorter than the value. Refused, `out` stays as it was.
+ */
+
+/* SHA-256 (FIPS 180-4), 32 bytes. TN_R5: over 2^61 - 1 bytes. */
+int32_t tn_sha256(const uint8_t *message, size_t message_len, uint8_t *out, size_t out_len);
+
+/* HMAC-SHA-256 (RFC 2104), 32 bytes. TN_R5: a key over 2^61 - 1 bytes, or a message over 64 fewer. */
+int32_t tn_hmac(const uint8_t *key, size_t key_len, const uint8_t *message, size_t message_len, uint8_t *out, size_t out_len);
+
+/*
+ * n bytes of the PRF of TLS 1.2 (RFC 5246 section 5, P_SHA256), which serves all three suites.
+ * TN_R5: a label that is none of TN_LABEL_.., secret or seed over TN_PRF_INPUT_LIMIT bytes, n over TN_PRF_LIMIT.
+ */
+int32_t tn_prf(const uint8_t *secret, size_t secret_len, uint8_t label, const uint8_t *seed, size_t seed_len, size_t n, uint8_t *out, size_t out_len);
+
+/* The premaster secret of a pre-shared key (RFC 4279 section 2), 4 + 2 * psk_len bytes. TN_R5: no key, or over TN_PSK_LIMIT bytes. */
+int32_t tn_premaster(const uint8_t *psk, size_t psk_len, uint8_t *out, size_t out_len);
+
+/* The master secret, TN_MASTER_SIZE bytes, from the premaster secret and the two hellos' randoms (RFC 5246 section 8.1).
+ * TN_R5: a random of other than 32 bytes, or a premaster secret over TN_PRF_INPUT_LIMIT. */
+int32_t tn_master(const uint8_t *premaster, size_t premaster_len, const uint8_t *client, size_t client_len, const uint8_t *server, size_t server_len,
+                  uint8_t *out, size_t out_len);
+
+/* The key block without IVs (RFC 5246 section 6.3), as long as tn_key_block_length says. Mind the order of the randoms: server, then client.
+ * TN_R5: a master secret of other than 48 bytes, a random of other than 32, or a suite that is none of ours. */
+int32_t tn_key_block(const uint8_t *master, size_t master_len, const uint8_t *server, size_t server_len, const uint8_t *client, size_t client_len,
+                     uint16_t suite, uint8_t *out, size_t out_len);
+
+/* 96, 72 or 64 for the three suites, 0 for another. */
+int32_t tn_key_block_length(uint16_t suite);
+
+/* The verify_data of a Finished (RFC 5246 section 7.4.9), 12 bytes; `hash` is SHA-256 of all handshake messages before it.
+ * TN_R5: a side that is none of TN_SIDE_.., a master secret of other than 48 bytes, or a hash of other than 32. */
+int32_t tn_finished(uint8_t side, const uint8_t *master, size_t master_len, const uint8_t *hash, size_t hash_len, uint8_t *out, size_t out_len);
+
+/* ==== Messages: writing ====================================================================================================================== */
+
+/*
+ * Each writes one whole message, or one extension, at the front of `out` and returns its length. TN_R5 comes first: a value that the layout forbids, or a
+ * message over TN_MESSAGE_LIMIT bytes. Then TN_R1: `out` is shorter. Refused, `out` stays as it was.
+ */
+
+/*
+ * ClientHello. TN_R5: version over 65,535; a random of other than 32 bytes; a session id over 32; suites of an odd length, fewer than 2 bytes or over 65,535;
+ * no method or over 255; a block that is no sequence of extensions, has one type twice or SessionTicket data that is no ticket vector.
+ * Without `present` there is no extension block, and `block` is not looked at; with it and no bytes there is an empty one. These are different messages.
+ */
+int32_t tn_write_client_hello(uint32_t version, const uint8_t *random, size_t random_len, const uint8_t *session_id, size_t session_id_len,
+                              const uint8_t *suites, size_t suites_len, const uint8_t *methods, size_t methods_len, bool present, const uint8_t *block,
+                              size_t block_len, uint8_t *out, size_t out_len);
+
+/* ServerHello. TN_R5: as above where it applies, and a suite over 65,535; SessionTicket data may have any shape. */
+int32_t tn_write_server_hello(uint32_t version, const uint8_t *random, size_t random_len, const uint8_t *session_id, size_t session_id_len, uint32_t suite,
+                              uint8_t compression, bool present, const uint8_t *block, size_t block_len, uint8_t *out, size_t out_len);
+
+/* ServerKeyExchange with a hint, and ClientKeyExchange with an identity. TN_R5: over 16,378 bytes. */
+int32_t tn_write_server_key_exchange(const uint8_t *hint, size_t hint_len, uint8_t *out, size_t out_len);
+int32_t tn_write_client_key_exchange(const uint8_t *identity, size_t identity_len, uint8_t *out, size_t out_len);
+
+/* ServerHelloDone, 4 bytes. */
+int32_t tn_write_server_hello_done(uint8_t *out, size_t out_len);
+
+/* Finished, 16 bytes. TN_R5: verify_data of other than 12 bytes. */
+int32_t tn_write_finished(const uint8_t *verify_data, size_t verify_data_len, uint8_t *out, size_t out_len);
+
+/* NewSessionTicket. TN_R5: a ticket over 16,374 bytes. */
+int32_t tn_write_new_session_ticket(uint32_t lifetime_hint, const uint8_t *ticket, size_t ticket_len, uint8_t *out, size_t out_len);
+
+/* One extension, to be put in a block: type and data with a 2-byte length. TN_R5: a type or a length over 65,535. */
+int32_t tn_write_extension(uint32_t kind, const uint8_t *contents, size_t contents_len, uint8_t *out, size_t out_len);
+
+/* A SessionTicket extension, type 35, whose data is a ticket with a 2-byte length of its own. TN_R5: a ticket over 65,533 bytes. */
+int32_t tn_write_ticket_extension(const uint8_t *ticket, size_t ticket_len, uint8_t *out, size_t out_len);
+
+/* ==== Messages: reading ====================================================================================================================== */
+
+/*
+ * Each says where the fields of one whole message stand. 0: all of `fields` was written. Alert 50: the layout is wrong, or it is another message's type;
+ * `fields` stays as it was. A start counts from the first byte of what was handed over; nothing is copied.
+ */
+
+/*
+ * ClientHello: fields[0] version, [1] length of the session id (it stands at 39), [2] and [3] start and length of the suites, [4] and [5] of the compression
+ * methods, [6] whether there is an extension block (0 or 1), [7] and [8] start and length of what is in it (0 and 0 without one). The random stands at 6.
+ */
+int32_t tn_read_client_hello(const uint8_t *message, size_t message_len, uint32_t fields[9]);
+
+/* ServerHello: fields[0] version, [1] length of the session id, [2] suite, [3] compression, [4] whether there is a block, [5] and [6] its start and length. */
+int32_t tn_read_server_hello(const uint8_t *message, size_t message_len, uint32_t fields[7]);
+
+/* ServerKeyExchange and ClientKeyExchange: start and length of hint and identity. Finished: of the verify_data. */
+int32_t tn_read_server_key_exchange(const uint8_t *message, size_t message_len, uint32_t fields[2]);
+int32_t tn_read_client_key_exchange(const uint8_t *message, size_t message_len, uint32_t fields[2]);
+int32_t tn_read_finished(const uint8_t *message, size_t message_len, uint32_t fields[2]);
+
+/* ServerHelloDone, which has no fields. */
+int32_t tn_read_server_hello_done(const uint8_t *message, size_t message_len);
+
+/* NewSessionTicket: lifetime hint, start and length of the ticket. */
+int32_t tn_read_new_session_ticket(const uint8_t *message, size_t message_len, uint32_t fields[3]);
+
+/*
+ * The extension that starts at `at` of a block: 1 and fields[0] its type, [1] and [2] start and length of its data; 0 at the block's end or past it; alert 50
+ * where the extension is cut short, or the block has over 65,535 bytes. Without a 1 `fields` stays as it was. To go through a block begin at 0, and go on
+ * at fields[1] + fields[2].
+ */
+int32_t tn_next_extension(const uint8_t *block, size_t block_len, size_t at, uint32_t fields[3]);
+
+/* The ticket in the data of a SessionTicket extension: start and length. */
+int32_t tn_read_ticket_extension(const uint8_t *contents, size_t contents_len, uint32_t fields[2]);
+
+/* ==== The key table ========================================================================================================================== */
+
+/*
+ * The text of a psk.passwd file: lines `identity:key`, each ended by one byte 0A, the last one too. An identity has 1 to 128 bytes of UTF-8 without control
+ * characters and colons; a key has 1 to 64 bytes as pairs of hex digits. At most TN_TABLE_LINES lines and TN_TABLE_LIMIT bytes; no identity twice. No bytes
+ * at all are a table without gates.
+ */
+
+/* 0 where the table is well formed, else TN_R2. */
+int32_t tn_table_test(const uint8_t *table, size_t table_len);
+
+/* The identity's key at the front of `out`, and its length, 1 to 64. Alert 115: not listed. TN_R1: `out` is shorter than the key.
+ * The table is not tested: in one that is not well formed the first line that begins with the identity and a colon decides. */
+int32_t tn_table_lookup(const uint8_t *table, size_t table_len, const uint8_t *identity, size_t identity_len, uint8_t *out, size_t out_len);
+
+/* 1 where the bytes are valid UTF-8 (RFC 3629), else 0. */
+int32_t tn_valid_utf8(const uint8_t *bytes, size_t bytes_len);
+
+#ifdef __cplusplus
+}
+#endif
+
+#endif

@@ -1,0 +1,100 @@
+"""What the gateway's tests share: a gateway under test, programs whose output is read as it comes, and the list of cases. Every wait is bounded."""
+import contextlib
+import os
+import pathlib
+import re
+import signal
+import subprocess
+import sys
+import threading
+import time
+
+GATEWAY = sys.argv[1]
+TABLE = pathlib.Path(__file__).resolve().parent.parent / "host/gates.psk"
+KEYS = dict(line.split(":") for line in TABLE.read_text().split())
+KEY = KEYS["gate7"]
+LIMIT = 20  # seconds, for anything that is waited for
+NAMES = {10: "unexpected_message", 20: "bad_record_mac", 22: "record_overflow", 40: "handshake_failure", 47: "illegal_parameter", 50: "decode_error",
+         51: "decrypt_error", 70: "protocol_version", 115: "unknown gate"}
+def until(holds, what):
+    end = time.monotonic() + LIMIT
+    while not holds():
+        assert time.monotonic() < end, f"waited {LIMIT} seconds for {what}"
+        time.sleep(0.005)
+
+
+class Program:
+    """A program whose output is read as it comes."""
+
+    def __init__(self, words):
+        self.process = subprocess.Popen([str(w) for w in words], stdin=subprocess.PIPE, stdout=subprocess.PIPE, stderr=subprocess.STDOUT)
+        self.text = ""
+        self.reader = threading.Thread(target=self.read, daemon=True)
+        self.reader.start()
+
+    def read(self):
+        for data in iter(lambda: os.read(self.process.stdout.fileno(), 65536), b""):
+            self.text += data.decode(errors="replace")
+
+    def over(self):
+        return self.process.poll() is not None
+
+    def end(self):
+        """Waits for its end; its exit status."""
+        try:
+            return self.process.wait(LIMIT)
+        except subprocess.TimeoutExpired:
+            self.process.kill()
+            raise AssertionError(f"did not end: {self.text}") from None
+        finally:
+            self.reader.join(LIMIT)
+
+
+class Gateway(Program):
+    def __init__(self, *options):
+        super().__init__([GATEWAY, "--port", 0, *(options if "--table" in options else ("--table", TABLE, *options))])
+        until(lambda: "listening on" in self.text or self.over(), "the gateway")
+        found = re.search(r"listening on \S+:(\d+),", self.text)
+        assert found, self.text
+        self.port = int(found[1])
+        self.seen = self.text.index("\n") + 1
+
+    def line(self, outcome, gate=None, suite=None):
+        """The next line is of a connection that ended so."""
+        until(lambda: "\n" in self.text[self.seen :], f"a line that ends in '{outcome}'")
+        line, _, _ = self.text[self.seen :].partition("\n")
+        self.seen += len(line) + 1
+        wanted = f"""gate {'-' if gate is None else f'"{gate}"'} suite {suite or '-'}: {outcome}"""
+        assert re.fullmatch(r"127\.0\.0\.1:\d+ " + re.escape(wanted), line), f"the gateway says '{line}', not '{wanted}'"
+
+    def stop(self, number=signal.SIGTERM):
+        """Ends it; nothing was left to be said, and no sanitizer spoke."""
+        if number:
+            self.process.send_signal(number)
+        status = self.end()
+        rest = self.text[self.seen :]
+        assert status == 0 and "Sanitizer" not in self.text and "runtime error" not in self.text, f"status {status}\n{self.text}"
+        return rest
+
+
+@contextlib.contextmanager
+def gateway(*options):
+    g = Gateway(*options)
+    try:
+        yield g
+    except BaseException:
+        g.process.kill()
+        raise
+    rest = g.stop() if not g.over() else g.stop(None)
+    assert rest == "", f"lines that no case asked for: {rest}"
+
+
+# the cases, (name, function), run one after the other
+CASES = []
+
+
+def case(name):
+    def keep(function):
+        CASES.append((name, function))
+        return function
+    return keep

@@ -1,0 +1,110 @@
+/*
+ * A first program over the installed library, valid as C and as C++: document 01's worked bytes (V1 to V12) through the C interface, and the way that the
+ * three kinds of results are told apart. Run by tests/installed.
+ */
+#include <stdio.h>
+#include <stdlib.h>
+#include <string.h>
+#include <turretnail.h>
+
+static int failures;
+
+static void expect(const char *name, bool holds)
+{
+    if (holds)
+        return;
+    failures++;
+    fprintf(stderr, "tests/installed.c: %s\n", name);
+}
+
+static const uint8_t *bytes(const char *text)
+{
+    return (const uint8_t *)text;
+}
+
+/* Whether n bytes were written, those of the text, and the byte behind them is as it was. */
+static bool wrote(int32_t result, const uint8_t *out, const char *text, size_t n)
+{
+    return result == (int32_t)n && memcmp(out, text, n) == 0 && out[n] == 0xEE;
+}
+
+static void secrets(void)
+{
+    uint8_t out[224];
+    memset(out, 0xEE, sizeof out);
+    expect("V1", wrote(tn_premaster(bytes("\xAB\xCD"), 2, out, sizeof out), out, "\x00\x02\x00\x00\x00\x02\xAB\xCD", 8));
+    memset(out, 0xEE, sizeof out);
+    expect("V2", tn_premaster(out, 1, out + 80, 6) == 6 && tn_premaster(out, 64, out + 80, 132) == 132 && tn_premaster(out, 0, out + 80, 144) == TN_R5
+                     && tn_premaster(out, 65, out + 80, 144) == TN_R5);
+    expect("R1", tn_premaster(out, 1, out + 80, 5) == TN_R1);
+    memset(out, 0xEE, sizeof out);
+    expect("SHA-256 of abc",
+           wrote(tn_sha256(bytes("abc"), 3, out, sizeof out), out,
+                 "\xBA\x78\x16\xBF\x8F\x01\xCF\xEA\x41\x41\x40\xDE\x5D\xAE\x22\x23\xB0\x03\x61\xA3\x96\x17\x7A\x9C\xB4\x10\xFF\x61\xF2\x00\x15\xAD", 32));
+    expect("key block lengths", tn_key_block_length(TN_SUITE_PSK_AES_128_CBC_SHA256) == 96 && tn_key_block_length(TN_SUITE_PSK_AES_128_CBC_SHA) == 72
+                                    && tn_key_block_length(TN_SUITE_PSK_NULL_SHA256) == 64 && tn_key_block_length(0x00AF) == 0);
+}
+
+static void messages(void)
+{
+    uint8_t out[64];
+    uint32_t fields[2] = {7, 7};
+    memset(out, 0xEE, sizeof out);
+    expect("V3", wrote(tn_write_client_key_exchange(bytes("gate7"), 5, out, sizeof out), out, "\x10\x00\x00\x07\x00\x05gate7", 11));
+    expect("reading V3", tn_read_client_key_exchange(out, 11, fields) == 0 && fields[0] == 6 && fields[1] == 5);
+    memset(out, 0xEE, sizeof out);
+    expect("V4", wrote(tn_write_client_key_exchange(bytes(""), 0, out, sizeof out), out, "\x10\x00\x00\x02\x00\x00", 6));
+    expect("reading V4", tn_read_client_key_exchange(out, 6, fields) == 0 && fields[0] == 6 && fields[1] == 0);
+    int32_t result = tn_read_client_key_exchange(out, 5, fields);
+    expect("alert 50", tn_is_alert(result) && !tn_is_host_refusal(result) && !tn_is_count(result) && tn_alert_number(result) == TN_ALERT_DECODE_ERROR);
+    expect("alert 50 writes nothing", fields[0] == 6 && fields[1] == 0);
+    memset(out, 0xEE, sizeof out);
+    expect("V5", wrote(tn_write_server_key_exchange(bytes("barn"), 4, out, sizeof out), out, "\x0C\x00\x00\x06\x00\x04" "barn", 10));
+    memset(out, 0xEE, sizeof out);
+    expect("V6", wrote(tn_write_server_hello_done(out, sizeof out), out, "\x0E\x00\x00\x00", 4));
+    memset(out, 0xEE, sizeof out);
+    expect("V8", wrote(tn_write_new_session_ticket(3600, bytes("\xAA\xBB"), 2, out, sizeof out), out, "\x04\x00\x00\x08\x00\x00\x0E\x10\x00\x02\xAA\xBB", 12));
+}
+
+static void table(void)
+{
+    uint8_t out[8];
+    const uint8_t *text = bytes("gate7:abcd\n");
+    memset(out, 0xEE, sizeof out);
+    expect("V9", tn_table_test(text, 11) == 0 && wrote(tn_table_lookup(text, 11, bytes("gate7"), 5, out, sizeof out), out, "\xAB\xCD", 2));
+    expect("V9, not listed", tn_table_lookup(text, 11, bytes("gate"), 4, out, sizeof out) == TN_ALERT_RESULT(TN_ALERT_UNKNOWN_PSK_IDENTITY)
+                                 && tn_table_lookup(text, 11, bytes("gate71"), 6, out, sizeof out) == TN_ALERT_RESULT(TN_ALERT_UNKNOWN_PSK_IDENTITY));
+    expect("V10", tn_table_test(text, 10) == TN_R2 && tn_table_test(bytes("gate7:abc\n"), 10) == TN_R2);
+    expect("V11", tn_valid_utf8(bytes("\xC0\x80"), 2) == 0 && tn_valid_utf8(bytes("\xED\xA0\x80"), 3) == 0 && tn_valid_utf8(bytes("\xF4\x90\x80\x80"), 4) == 0
+                      && tn_valid_utf8(bytes("\xF4\x8F\xBF\xBF"), 4) == 1);
+}
+
+/* V7 and V12: the smallest ClientHello of a version, and the server's answer to it. */
+static int32_t hello(uint32_t version, uint8_t *answer)
+{
+    uint8_t connection[TN_CONNECTION_SIZE], message[45], master[TN_MASTER_SIZE], random[TN_RANDOM_SIZE] = {1};
+    int32_t n = tn_write_client_hello(version, random, sizeof random, random, 0, bytes("\x00\xB0"), 2, bytes("\x00"), 1, false, random, 0, message,
+                                      sizeof message);
+    expect("V7", n == 45 && memcmp(message, "\x01\x00\x00\x29", 4) == 0);
+    expect("start", tn_start(connection, random, sizeof random, random, 0, random, sizeof random, TN_RULE_NONE) == 0);
+    expect("phase 1", tn_phase(connection) == TN_PHASE_CLIENT_HELLO);
+    expect("another rule is R3", tn_start(connection, random, sizeof random, random, 0, random, sizeof random, 3) == TN_R3);
+    int32_t result = tn_message(connection, bytes(""), 0, message, sizeof message, answer, TN_FLIGHT_SIZE, master);
+    expect("phase 2 or closed", tn_phase(connection) == (tn_is_count(result) ? TN_PHASE_CLIENT_KEY_EXCHANGE : TN_PHASE_CLOSED));
+    expect("a change of cipher here", tn_change_of_cipher(connection) == (tn_is_count(result) ? TN_ALERT_RESULT(TN_ALERT_UNEXPECTED_MESSAGE) : TN_R4));
+    expect("an alert to what is closed", tn_alert(connection, 2, 40) == TN_R4);
+    return result;
+}
+
+int main(void)
+{
+    uint8_t answer[TN_FLIGHT_SIZE];
+    secrets();
+    messages();
+    table();
+    expect("V12, 0x0302", hello(0x0302, answer) == TN_ALERT_RESULT(TN_ALERT_PROTOCOL_VERSION));
+    expect("V12, 0x0304", hello(0x0304, answer) == 46 && answer[4] == 3 && answer[5] == 3);
+    if (failures == 0)
+        printf("tests/installed.c: all as expected\n");
+    return failures != 0;
+}
