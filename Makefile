@@ -1,4 +1,5 @@
 # make run    the gateway on 127.0.0.1:4433, over the proved library (host/host.mk has the targets of the C side)
+# make bench  speed against OpenSSL, mbed TLS and GnuTLS, as ratios; docs/BENCHMARKS.md has the figures
 # make test   every test: outside vectors made again by an independent program, every proof, every must-fail edit
 #             and every program (rt ci), then the C side; the last line is rt ci's 'N passed, 0 failed'
 
@@ -8,6 +9,7 @@ SHELL := /bin/bash
 .PHONY: test vectors
 
 include host/host.mk
+include bench/bench.mk
 
 # rt ci comes before the C side, which links what it has just proved.
 test: vectors

@@ -1,0 +1,95 @@
+/* A client of the library's own kind. Hashes of the transcript are OpenSSL's. */
+#include "login.h"
+
+#include <openssl/sha.h>
+#include <string.h>
+
+#include "measure.h"
+
+enum { FIRST_TYPE = 100, MESSAGES = 4, CLIENT = 3 /* messages before the client's Finished */ };
+
+static const uint8_t stand_in[TN_STAND_IN_SIZE] = {1};
+
+void login_plain_hello(struct login *l, size_t block_len)
+{
+    static uint8_t block[TN_MESSAGE_LIMIT];
+    static const uint8_t random[TN_RANDOM_SIZE] = {2}, suites[] = {0x00, 0xAE}, methods[] = {0};
+    for (size_t i = 0; i < block_len / 4; i++) {
+        block[4 * i] = (uint8_t)((FIRST_TYPE + i) >> 8);
+        block[4 * i + 1] = (uint8_t)(FIRST_TYPE + i);
+    }
+    int32_t n = tn_write_client_hello(0x0303, random, sizeof random, random, 0, suites, sizeof suites, methods, sizeof methods, block_len > 0, block, block_len,
+                                      l->hello, sizeof l->hello);
+    must(n > 0, "the hello can't be written");
+    l->hello_len = (size_t)n;
+}
+
+void login_name(struct login *l, const char *identity)
+{
+    int32_t n = tn_write_client_key_exchange((const uint8_t *)identity, strlen(identity), l->key_exchange, sizeof l->key_exchange);
+    must(n > 0, "the key exchange can't be written");
+    l->key_exchange_len = (size_t)n;
+}
+
+int login_open(struct login *l, uint8_t rule)
+{
+    if (tn_start(l->connection, l->random, sizeof l->random, stand_in, 0, stand_in, sizeof stand_in, rule) != 0)
+        return 0;
+    int32_t n = tn_message(l->connection, stand_in, 0, l->hello, l->hello_len, l->flight, sizeof l->flight, l->master);
+    l->flight_len = n > 0 ? (size_t)n : 0;
+    return n > 0;
+}
+
+int login_close(struct login *l, const char *table, size_t table_len)
+{
+    const uint8_t *lines = (const uint8_t *)table, *client_random = l->hello + TN_HELLO_RANDOM_AT;
+    return tn_message(l->connection, lines, table_len, l->key_exchange, l->key_exchange_len, l->answer, sizeof l->answer, l->master) == 0
+           && tn_key_block(l->master, sizeof l->master, l->random, sizeof l->random, client_random, TN_RANDOM_SIZE, TN_SUITE_PSK_AES_128_CBC_SHA256, l->keys,
+                           sizeof l->keys)
+                  == TN_KEY_BLOCK_LIMIT
+           && tn_change_of_cipher(l->connection) == 0
+           && tn_message(l->connection, lines, table_len, l->finished, sizeof l->finished, l->answer, sizeof l->answer, l->master) == TN_FINISHED_SIZE;
+}
+
+/* The Finished of a side, over the first so many messages. */
+static void finished_of(const struct login *l, uint8_t side, size_t messages, const uint8_t *master, uint8_t out[TN_FINISHED_SIZE])
+{
+    const uint8_t *parts[MESSAGES] = {l->hello, l->flight, l->key_exchange, l->finished};
+    const size_t sizes[MESSAGES] = {l->hello_len, l->flight_len, l->key_exchange_len, sizeof l->finished};
+    uint8_t hash[TN_HASH_SIZE], value[TN_VERIFY_DATA_SIZE];
+    static uint8_t all[TN_MESSAGE_LIMIT + TN_FLIGHT_SIZE + KEY_EXCHANGE_LIMIT + TN_FINISHED_SIZE];
+    size_t n = 0;
+    for (size_t i = 0; i < messages; i++) {
+        memcpy(all + n, parts[i], sizes[i]);
+        n += sizes[i];
+    }
+    SHA256(all, n, hash);
+    must(tn_finished(side, master, TN_MASTER_SIZE, hash, sizeof hash, value, sizeof value) == TN_VERIFY_DATA_SIZE
+             && tn_write_finished(value, sizeof value, out, TN_FINISHED_SIZE) == TN_FINISHED_SIZE,
+         "no Finished");
+}
+
+static void master_of(const struct login *l, const uint8_t *key, size_t key_len, uint8_t master[TN_MASTER_SIZE])
+{
+    uint8_t premaster[TN_PREMASTER_LIMIT];
+    int32_t n = tn_premaster(key, key_len, premaster, sizeof premaster);
+    must(n > 0
+             && tn_master(premaster, (size_t)n, l->hello + TN_HELLO_RANDOM_AT, TN_RANDOM_SIZE, l->random, sizeof l->random, master, TN_MASTER_SIZE)
+                    == TN_MASTER_SIZE,
+         "no master secret");
+}
+
+void login_finish(struct login *l, const uint8_t *key, size_t key_len)
+{
+    uint8_t master[TN_MASTER_SIZE];
+    master_of(l, key, key_len, master);
+    finished_of(l, TN_SIDE_CLIENT, CLIENT, master, l->finished);
+}
+
+int login_agrees(const struct login *l, const uint8_t *key, size_t key_len)
+{
+    uint8_t master[TN_MASTER_SIZE], answer[TN_FINISHED_SIZE];
+    master_of(l, key, key_len, master);
+    finished_of(l, TN_SIDE_SERVER, MESSAGES, master, answer);
+    return memcmp(master, l->master, sizeof master) == 0 && memcmp(answer, l->answer, sizeof answer) == 0;
+}

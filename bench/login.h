@@ -1,0 +1,41 @@
+/* A client of the library's own kind, over messages without records: what it sends in one login, and what the server's answers have to be. */
+#ifndef BENCH_LOGIN_H
+#define BENCH_LOGIN_H
+
+#include <stddef.h>
+#include <stdint.h>
+
+#include "turretnail.h"
+
+enum { KEY_EXCHANGE_LIMIT = 6 + TN_IDENTITY_LIMIT };
+
+struct login {
+    uint8_t connection[TN_CONNECTION_SIZE]; /* the server's */
+    uint8_t random[TN_RANDOM_SIZE];         /* the server's */
+    uint8_t master[TN_MASTER_SIZE];         /* the server's */
+    uint8_t keys[TN_KEY_BLOCK_LIMIT];       /* the server's */
+    uint8_t hello[TN_MESSAGE_LIMIT];
+    size_t hello_len;
+    uint8_t flight[TN_FLIGHT_SIZE];
+    size_t flight_len;
+    uint8_t key_exchange[KEY_EXCHANGE_LIMIT];
+    size_t key_exchange_len;
+    uint8_t finished[TN_FINISHED_SIZE];
+    uint8_t answer[TN_FLIGHT_SIZE]; /* to the Finished */
+};
+
+/* Sets a hello with our first suite and an extension block of so many bytes, none for 0, of four-byte extensions with distinct types. */
+void login_plain_hello(struct login *l, size_t block_len);
+
+/* Sets the ClientKeyExchange of an identity. */
+void login_name(struct login *l, const char *identity);
+
+/* The server's calls of one login, each true where it was accepted. Between the two groups the client finds its Finished. */
+int login_open(struct login *l, uint8_t rule);
+int login_close(struct login *l, const char *table, size_t table_len);
+
+/* The client's Finished, under the key; and whether the server's secrets and its answer are those of the client. */
+void login_finish(struct login *l, const uint8_t *key, size_t key_len);
+int login_agrees(const struct login *l, const uint8_t *key, size_t key_len);
+
+#endif

@@ -1,0 +1,68 @@
+/*
+ * The stack that the library's calls touch: a thread paints its own stack below the frame that makes the call, makes it, and looks how far down the paint is
+ * gone. The frames of this program between the two, under 256 bytes, are in the figures.
+ */
+#include <pthread.h>
+#include <stdio.h>
+#include <sys/mman.h>
+
+#include "cases.h"
+#include "login.h"
+#include "measure.h"
+#include "parts.h"
+
+enum { STACK = 1 << 20, PAINT = 0xA5, OWN = 256 /* bytes below the painter's frame that it needs itself */, LARGE = PARTS, NOTHING, MEASURED };
+
+static uint8_t *stack;
+static struct login large;
+
+static int32_t call_large_hello(void)
+{
+    return login_open(&large, TN_RULE_TELL) - 1;
+}
+
+static int32_t call_nothing(void)
+{
+    return 0;
+}
+
+/* Bytes below the frame of this function that the call wrote to. */
+__attribute__((noinline)) static size_t touched(int32_t (*call)(void))
+{
+    volatile uint8_t *top = __builtin_frame_address(0), *p;
+    for (p = stack; p < top - OWN; p++)
+        *p = PAINT;
+    must(call() >= 0, "a call of our handshake is refused");
+    for (p = stack; p < top - OWN && *p == PAINT; p++)
+        continue;
+    return (size_t)(top - p);
+}
+
+static void *run_calls(void *state)
+{
+    size_t *sizes = state;
+    for (size_t i = 0; i < PARTS; i++) {
+        part_ready(&parts[i]);
+        sizes[i] = touched(parts[i].call);
+    }
+    sizes[LARGE] = touched(call_large_hello);
+    sizes[NOTHING] = touched(call_nothing);
+    return NULL;
+}
+
+void bench_stack(void)
+{
+    size_t sizes[MEASURED];
+    pthread_attr_t attributes;
+    pthread_t thread;
+    parts_prepare();
+    login_plain_hello(&large, TN_MESSAGE_LIMIT - 48);
+    stack = mmap(NULL, STACK, PROT_READ | PROT_WRITE, MAP_PRIVATE | MAP_ANONYMOUS, -1, 0);
+    must(stack != MAP_FAILED && pthread_attr_init(&attributes) == 0 && pthread_attr_setstack(&attributes, stack, STACK) == 0
+             && pthread_create(&thread, &attributes, run_calls, sizes) == 0 && pthread_join(thread, NULL) == 0,
+         "no thread");
+    munmap(stack, STACK);
+    printf("\nStack, bytes below the calling frame\n");
+    for (size_t i = 0; i < MEASURED; i++)
+        printf("  %-52s %9zu\n", i < PARTS ? parts[i].name : i == LARGE ? "start and a ClientHello of 16 KiB" : "no call", sizes[i]);
+}
