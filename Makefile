@@ -10,12 +10,13 @@ SHELL := /bin/bash
 
 include host/host.mk
 include bench/bench.mk
+include tests/fuzz/fuzz.mk
 
 # rt ci comes before the C side, which links what it has just proved.
 test: vectors
 	@mkdir -p build
 	@rt ci | tee build/ci.log
-	@$(MAKE) --no-print-directory header-test interop
+	@$(MAKE) --no-print-directory header-test interop differential
 	@tail -n 1 build/ci.log
 
 vectors:

@@ -1,0 +1,59 @@
+/* Each export against its model, on bytes that are given (by the fuzz target) or drawn (by the differential test). */
+#ifndef COMPARE_H
+#define COMPARE_H
+
+#include "model.h"
+
+/* ---- drawn bytes (drawn.c); each slot holds one piece, until it is drawn again */
+
+enum { DAMAGED = 8, MESSAGE = 9 }; /* the slots of `damaged` and of whole messages; 0 to 4 hold a hello's fields, 7 a line's text */
+
+struct bytes drawn(size_t slot, size_t n);
+struct bytes clean_text(size_t slot, size_t n);               /* of UTF-8 */
+struct bytes drawn_text(size_t slot, size_t n);               /* the same, now and then damaged */
+struct bytes drawn_block(size_t slot, size_t most);           /* extensions, now and then damaged */
+struct bytes drawn_hello(struct hello *h, bool of_client);    /* fields and the whole message, allowed or not */
+struct bytes drawn_login(void);                               /* mostly a hello that the server accepts */
+struct bytes drawn_table(size_t slot);
+struct bytes drawn_identity(size_t slot, struct bytes table); /* mostly one that the table has */
+struct bytes damaged(struct bytes b);                         /* a copy, changed in a few places; its length may be another */
+struct bytes copied(size_t slot, struct bytes b);
+size_t drawn_room(int32_t said);                              /* mostly enough, often one short */
+
+/* ---- one call each, compared */
+
+void compare_readers(struct bytes message);
+void compare_extensions(struct bytes block);
+void compare_table(struct bytes table, struct bytes identity);
+void compare_utf8(struct bytes text);
+
+/* ---- a connection and its model */
+
+struct pair {
+    uint8_t connection[TN_CONNECTION_SIZE];
+    struct server model;
+};
+
+void pair_start(struct pair *p, struct bytes random, struct bytes hint, struct bytes stand_in, uint8_t rule);
+void pair_message(struct pair *p, struct bytes table, struct bytes message, size_t room);
+void pair_change(struct pair *p);
+void pair_alert(struct pair *p, uint8_t level, uint8_t description);
+
+/* Bytes of any kind as a connection: one call of each kind, of which no more is known than the header says. */
+void probe(const uint8_t connection[TN_CONNECTION_SIZE], struct bytes table, struct bytes message, size_t room);
+
+/* ---- one round of drawn calls each */
+
+void secrets_round(void);
+void layouts_round(void);
+void table_round(void);
+void server_round(void);
+
+/* ---- sweeps, the same in every run */
+
+void every_suite(void);
+void every_character(void);
+void every_alert(void);
+void every_bit(void);
+
+#endif

@@ -1,0 +1,85 @@
+/*
+ * The library's functions a second time, written from document 01 and the RFCs alone, over libcrypto. Nothing here was taken from the library; each gives
+ * what the export of its name has to come to, the test of the room (R1) left out where it says "answer".
+ */
+#ifndef MODEL_H
+#define MODEL_H
+
+#include "lent.h"
+#include "turretnail.h"
+
+/* ---- secrets (model_secrets.c) */
+
+void model_sha256(struct bytes message, struct answer *a);
+void model_hmac(struct bytes key, struct bytes message, struct answer *a);
+void model_prf(struct bytes secret, uint8_t label, struct bytes seed, size_t n, struct answer *a);
+void model_premaster(struct bytes psk, struct answer *a);
+void model_master(struct bytes premaster, struct bytes client, struct bytes server, struct answer *a);
+void model_key_block(struct bytes master, struct bytes server, struct bytes client, uint16_t suite, struct answer *a);
+void model_finished(uint8_t side, struct bytes master, struct bytes hash, struct answer *a);
+int32_t model_key_block_length(uint16_t suite);
+
+/* ---- layouts (model_layouts.c) */
+
+/* The fields of a hello; suites and methods are the client's, suite and compression the server's. */
+struct hello {
+    uint32_t version;
+    struct bytes random, session_id, suites, methods;
+    uint32_t suite;
+    uint8_t compression;
+    bool present;
+    struct bytes block;
+};
+
+/* The bytes of these fields, also where no layout allows them; false where they are too many. */
+bool compose_client_hello(const struct hello *h, struct answer *a);
+bool compose_server_hello(const struct hello *h, struct answer *a);
+void compose_message(uint8_t type, struct bytes body, struct answer *a);
+
+void model_write_client_hello(const struct hello *h, struct answer *a);
+void model_write_server_hello(const struct hello *h, struct answer *a);
+void model_write_key_exchange(uint8_t type, struct bytes contents, struct answer *a); /* 12 with a hint, 16 with an identity */
+void model_write_server_hello_done(struct answer *a);
+void model_write_finished(struct bytes verify_data, struct answer *a);
+void model_write_new_session_ticket(uint32_t lifetime_hint, struct bytes ticket, struct answer *a);
+void model_write_extension(uint32_t kind, struct bytes contents, struct answer *a);
+void model_write_ticket_extension(struct bytes ticket, struct answer *a);
+
+/* Whether the layout is right; then the fields are written. */
+bool model_read_client_hello(struct bytes message, uint32_t fields[9]);
+bool model_read_server_hello(struct bytes message, uint32_t fields[7]);
+bool model_read_key_exchange(uint8_t type, struct bytes message, uint32_t fields[2]);
+bool model_read_server_hello_done(struct bytes message);
+bool model_read_finished(struct bytes message, uint32_t fields[2]);
+bool model_read_new_session_ticket(struct bytes message, uint32_t fields[3]);
+bool model_read_ticket_extension(struct bytes contents, uint32_t fields[2]);
+int32_t model_next_extension(struct bytes block, size_t at, uint32_t fields[3]);
+
+/* ---- the key table (model_table.c) */
+
+bool model_utf8(struct bytes text);
+bool model_table_test(struct bytes table);
+void model_lookup(struct bytes table, struct bytes identity, struct answer *a);
+
+/* ---- the server (model_server.c) */
+
+#define HEARD_LIMIT 40000
+
+struct server {
+    int32_t phase;
+    uint8_t random[32], hint[128], stand_in[32];
+    size_t hint_n;
+    bool hides;
+    uint8_t client[32], master[48];
+    bool listed;
+    uint8_t heard[HEARD_LIMIT];
+    size_t heard_n;
+};
+
+int32_t model_start(struct server *s, struct bytes random, struct bytes hint, struct bytes stand_in, uint8_t rule);
+void model_message(struct server *s, struct bytes table, struct bytes message, size_t room, struct answer *a); /* R1 included */
+int32_t model_change(struct server *s);
+int32_t model_alert(struct server *s, uint8_t level, uint8_t description);
+void model_verify_data(const struct server *s, uint8_t side, struct answer *a); /* of a Finished after what was heard */
+
+#endif

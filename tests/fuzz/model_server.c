@@ -1,0 +1,200 @@
+/* The server a second time, written from document 01, "The server's steps" and "Numbers that come back". It keeps the handshake's messages themselves and
+ * no running hash. */
+#include "model.h"
+
+#include <string.h>
+
+static bool over(const struct server *s)
+{
+    return s->phase == TN_PHASE_CLOSED || s->phase == TN_PHASE_COMPLETE;
+}
+
+static int32_t closing(struct server *s, uint8_t alert)
+{
+    s->phase = TN_PHASE_CLOSED;
+    return TN_ALERT_RESULT(alert);
+}
+
+static void hear(struct server *s, struct bytes b)
+{
+    if (b.n > HEARD_LIMIT - s->heard_n)
+        fail("the model hears too much");
+    memcpy(s->heard + s->heard_n, b.at, b.n);
+    s->heard_n += b.n;
+}
+
+int32_t model_start(struct server *s, struct bytes random, struct bytes hint, struct bytes stand_in, uint8_t rule)
+{
+    if (random.n != 32 || stand_in.n != 32 || hint.n > 128 || !model_utf8(hint) || rule > 2)
+        return TN_R3;
+    memset(s, 0, sizeof *s);
+    s->phase = TN_PHASE_CLIENT_HELLO;
+    memcpy(s->random, random.at, 32);
+    memcpy(s->stand_in, stand_in.at, 32);
+    memcpy(s->hint, hint.at, hint.n);
+    s->hint_n = hint.n;
+    s->hides = rule == TN_RULE_HIDE;
+    return 0;
+}
+
+static uint32_t two(const uint8_t *at)
+{
+    return (uint32_t)at[0] << 8 | at[1];
+}
+
+/* The first of ours that the client lists, 0 where there is none. */
+static uint32_t chosen(const uint8_t *suites, size_t n)
+{
+    static const uint32_t ours[] = {0x00AE, 0x008C, 0x00B0};
+    for (size_t k = 0; k < 3; k++)
+        for (size_t i = 0; i + 1 < n; i += 2)
+            if (two(suites + i) == ours[k])
+                return ours[k];
+    return 0;
+}
+
+/* The flight after an accepted hello. */
+static void flight(const struct server *s, uint32_t suite, struct answer *a)
+{
+    static struct answer part;
+    const uint8_t null = 0;
+    struct hello h = {.version = 0x0303, .random = {s->random, 32}, .session_id = {&null, 0}, .suite = suite};
+    compose_server_hello(&h, a);
+    if (s->hint_n > 0) {
+        model_write_key_exchange(12, (struct bytes){s->hint, s->hint_n}, &part);
+        memcpy(a->bytes + a->said, part.bytes, (size_t)part.said);
+        a->said += part.said;
+    }
+    compose_message(14, (struct bytes){&null, 0}, &part);
+    memcpy(a->bytes + a->said, part.bytes, (size_t)part.said);
+    a->said += part.said;
+}
+
+static void hello_step(struct server *s, struct bytes m, size_t room, struct answer *a)
+{
+    uint32_t f[9];
+    if (!model_read_client_hello(m, f)) {
+        a->said = closing(s, 50);
+        return;
+    }
+    uint32_t suite = chosen(m.at + f[2], f[3]);
+    if (f[0] < 0x0303)
+        a->said = closing(s, 70);
+    else if (!memchr(m.at + f[4], 0, f[5]))
+        a->said = closing(s, 47);
+    else if (suite == 0)
+        a->said = closing(s, 40);
+    else {
+        flight(s, suite, a);
+        if ((size_t)a->said > room) {
+            a->said = TN_R1;
+            return;
+        }
+        memcpy(s->client, m.at + 6, 32);
+        hear(s, m);
+        hear(s, (struct bytes){a->bytes, (size_t)a->said});
+        s->phase = TN_PHASE_CLIENT_KEY_EXCHANGE;
+    }
+}
+
+static void key_exchange_step(struct server *s, struct bytes table, struct bytes m, struct answer *a)
+{
+    static struct answer key, premaster;
+    uint32_t f[2];
+    if (!model_table_test(table)) {
+        a->said = TN_R2;
+        return;
+    }
+    if (!model_read_key_exchange(16, m, f)) {
+        a->said = closing(s, 50);
+        return;
+    }
+    model_lookup(table, (struct bytes){m.at + f[0], f[1]}, &key);
+    s->listed = key.said > 0;
+    if (!s->listed && !s->hides) {
+        a->said = closing(s, 115);
+        return;
+    }
+    model_premaster(s->listed ? (struct bytes){key.bytes, (size_t)key.said} : (struct bytes){s->stand_in, 32}, &premaster);
+    model_master((struct bytes){premaster.bytes, (size_t)premaster.said}, (struct bytes){s->client, 32}, (struct bytes){s->random, 32}, a);
+    memcpy(s->master, a->bytes, 48);
+    hear(s, m);
+    s->phase = TN_PHASE_CHANGE_OF_CIPHER;
+    a->said = 0;
+}
+
+void model_verify_data(const struct server *s, uint8_t side, struct answer *a)
+{
+    static struct answer hash;
+    model_sha256((struct bytes){s->heard, s->heard_n}, &hash);
+    model_finished(side, (struct bytes){s->master, 48}, (struct bytes){hash.bytes, 32}, a);
+}
+
+static void finished_step(struct server *s, struct bytes m, size_t room, struct answer *a)
+{
+    uint32_t f[2];
+    if (!model_read_finished(m, f)) {
+        a->said = closing(s, 50);
+        return;
+    }
+    model_verify_data(s, TN_SIDE_CLIENT, a);
+    if (!s->listed || memcmp(a->bytes, m.at + f[0], 12) != 0) {
+        a->said = closing(s, 51);
+        return;
+    }
+    if (room < 16) {
+        a->said = TN_R1;
+        return;
+    }
+    uint8_t value[12];
+    hear(s, m);
+    model_verify_data(s, TN_SIDE_SERVER, a);
+    memcpy(value, a->bytes, 12);
+    compose_message(20, (struct bytes){value, 12}, a);
+    s->phase = TN_PHASE_COMPLETE;
+}
+
+/* The type of the message that is awaited, none where a change of cipher is. */
+static int awaited(const struct server *s)
+{
+    return s->phase == TN_PHASE_CLIENT_HELLO ? 1 : s->phase == TN_PHASE_CLIENT_KEY_EXCHANGE ? 16 : s->phase == TN_PHASE_FINISHED ? 20 : -1;
+}
+
+void model_message(struct server *s, struct bytes table, struct bytes m, size_t room, struct answer *a)
+{
+    if (over(s))
+        a->said = TN_R4;
+    else if (m.n < 4)
+        a->said = closing(s, 50);
+    else if (m.at[0] != awaited(s))
+        a->said = closing(s, 10);
+    else if ((two(m.at + 1) << 8 | m.at[3]) != m.n - 4 || m.n > 16384)
+        a->said = closing(s, 50);
+    else if (m.at[0] == 1)
+        hello_step(s, m, room, a);
+    else if (m.at[0] == 16)
+        key_exchange_step(s, table, m, a);
+    else
+        finished_step(s, m, room, a);
+}
+
+int32_t model_change(struct server *s)
+{
+    if (over(s))
+        return TN_R4;
+    if (s->phase != TN_PHASE_CHANGE_OF_CIPHER)
+        return closing(s, 10);
+    s->phase = TN_PHASE_FINISHED;
+    return 0;
+}
+
+int32_t model_alert(struct server *s, uint8_t level, uint8_t description)
+{
+    if (over(s))
+        return TN_R4;
+    if (level != 1 && level != 2)
+        return closing(s, 47);
+    if (level == 2 || description == 0)
+        s->phase = TN_PHASE_CLOSED;
+    return 0;
+}

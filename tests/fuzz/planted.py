@@ -1,0 +1,164 @@
+#!/usr/bin/env python3
+"""Whether the differential test finds faults: planted.py LIBRARY.
+
+Each fault is planted in a copy of a model, or in what the test does with lent memory in the library's
+stead; then the test has to fail and to print the seed. Where model and library differ it does not
+matter which of the two has the fault.
+"""
+import os
+import pathlib
+import subprocess
+import sys
+import tempfile
+
+ROUNDS = "4000"
+HERE = pathlib.Path(__file__).resolve().parent
+FLAGS = "-std=c11 -D_GNU_SOURCE -g -O1 -fsanitize=address,undefined -fno-sanitize-recover=all".split()
+INCLUDES = [f"-I{HERE}", f"-I{HERE.parent.parent / 'include'}"]
+
+# the places in server.c where tn_message has just been called, on a connection and on damaged bytes
+PROBE_MADE = "    expect_result_of_message(result, room);\n    size_t written"
+MESSAGE_MADE = "m->bytes, m->n, out->bytes, out->n, master->bytes);\n    settle_connection(c, result, false);\n"
+
+PLANTED = [
+    # secrets
+    ("randoms swapped in the master secret", "model_secrets.c", "LABEL_MASTER_SECRET, client, server", "LABEL_MASTER_SECRET, server, client"),
+    ("randoms swapped in the key block", "model_secrets.c", "LABEL_KEY_EXPANSION, server, client", "LABEL_KEY_EXPANSION, client, server"),
+    ("a PRF of 255 bytes at most", "model_secrets.c", "n > 256", "n > 255"),
+    ("a seed of 65,537 bytes", "model_secrets.c", "seed.n > 65536", "seed.n > 65537"),
+    ("no zeros in the premaster secret", "model_secrets.c", "memset(a->bytes, 0, 4 + psk.n)", "memset(a->bytes, 1, 4 + psk.n)"),
+    ("a key of 65 bytes", "model_secrets.c", "psk.n > 64", "psk.n > 65"),
+    ("the client's label for the server's Finished", "model_secrets.c",
+     "side == 0 ? TN_LABEL_CLIENT_FINISHED : TN_LABEL_SERVER",
+     "side <= 1 ? TN_LABEL_CLIENT_FINISHED : TN_LABEL_SERVER"),
+    # layouts
+    ("suites of an odd length", "model_layouts.c", " || suites.n % 2 != 0 ||", " ||"),
+    ("no suite", "model_layouts.c", "suites.n < 2 ||", ""),
+    ("no method", "model_layouts.c", "methods.n < 1)", "false)"),
+    ("a session id of 33 bytes read", "model_layouts.c", "e.bad || session_id.n > 32", "e.bad || session_id.n > 33"),
+    ("a session id of 33 bytes written", "model_layouts.c", "h->session_id.n > 32", "h->session_id.n > 33"),
+    ("one type twice", "model_layouts.c", "!seen[type] && ", ""),
+    ("a ticket of any shape", "model_layouts.c", "of_client && type == 35", "false && type == 35"),
+    ("a ticket's shape in a ServerHello", "model_layouts.c", "of_client && type == 35", "type == 35"),
+    ("an empty block as none", "model_layouts.c", "    fields[0] = 1;\n", "    fields[0] = block.n > 0;\n"),
+    ("bytes after a body", "model_layouts.c",
+     "place(message, eat(&e, 12), fields);\n    return at_end(&e);",
+     "place(message, eat(&e, 12), fields);\n    return !e.bad;"),
+    ("a message of 16,385 bytes read", "model_layouts.c", "message.n > 16384}", "message.n > 16385}"),
+    ("a message of 16,385 bytes written", "model_layouts.c", "g->n > 16384", "g->n > 16385"),
+    ("the end of a block as cut short", "model_layouts.c", "if (at >= block.n)", "if (at > block.n)"),
+    # table
+    ("a surrogate", "model_table.c", "{{0xed, 0xed}, {0x80, 0x9f}, 3}", "{{0xed, 0xed}, {0x80, 0xbf}, 3}"),
+    ("an overlong character", "model_table.c", "{{0xe0, 0xe0}, {0xa0, 0xbf}, 3}", "{{0xe0, 0xe0}, {0x80, 0xbf}, 3}"),
+    ("a character past the last", "model_table.c", "{{0xf4, 0xf4}, {0x80, 0x8f}, 4}", "{{0xf4, 0xf4}, {0x80, 0x90}, 4}"),
+    ("255 lines at most", "model_table.c", "n == 256 ||", "n == 255 ||"),
+    ("a table of 65,537 bytes", "model_table.c", "table.n > 65536", "table.n > 65537"),
+    ("an identity twice", "model_table.c", "if (same(lines[i].identity, l.identity))", "if (false)"),
+    ("an identity of 129 bytes", "model_table.c", "text.n <= 128 && model_utf8", "text.n <= 129 && model_utf8"),
+    ("a key of 65 bytes in the table", "model_table.c", "text.n <= 128 && text.n % 2", "text.n <= 130 && text.n % 2"),
+    ("7F in an identity", "model_table.c", " && text.at[i] != 0x7f", ""),
+    ("no 0A at the end", "model_table.c", "!take_line(&table, &text)", "(take_line(&table, &text), false)"),
+    ("lookup past the first line that matches", "model_table.c",
+     "if (!is_key(key))\n            return;",
+     "if (!is_key(key))\n            continue;"),
+    ("lookup of a prefix", "model_table.c", "line.n <= identity.n || line.at[identity.n] != ':' ||", "line.n <= identity.n ||"),
+    # server
+    ("51 for an identity that is not listed", "model_server.c", "closing(s, 115)", "closing(s, 51)"),
+    ("a Finished right under the stand-in key", "model_server.c", "!s->listed || memcmp", "memcmp"),
+    ("R1 before 51", "model_server.c",
+     "    model_verify_data(s, TN_SIDE_CLIENT, a);\n",
+     "    if (room < 16) {\n        a->said = TN_R1;\n        return;\n    }\n    model_verify_data(s, TN_SIDE_CLIENT, a);\n"),
+    ("an empty ServerKeyExchange", "model_server.c", "if (s->hint_n > 0)", "if (true)"),
+    ("the flight not heard", "model_server.c", "        hear(s, (struct bytes){a->bytes, (size_t)a->said});\n", ""),
+    ("the server's Finished without the client's", "model_server.c", "    hear(s, m);\n    model_verify_data", "    model_verify_data"),
+    ("another order of suites", "model_server.c", "{0x00AE, 0x008C, 0x00B0}", "{0x008C, 0x00AE, 0x00B0}"),
+    ("TLS 1.1", "model_server.c", "f[0] < 0x0303", "f[0] < 0x0302"),
+    ("40 before 47", "model_server.c", "else if (!memchr(m.at + f[4], 0, f[5]))", "else if (suite != 0 && !memchr(m.at + f[4], 0, f[5]))"),
+    ("R2 after the layout", "model_server.c",
+     "if (!model_table_test(table)) {",
+     "if (model_read_key_exchange(16, m, f) && !model_table_test(table)) {"),
+    ("50 before 10", "model_server.c", "m.at[0] != awaited(s)", "m.n < 6 ? false : m.at[0] != awaited(s)"),
+    ("no rule hides", "model_server.c", "rule == TN_RULE_HIDE", "rule != TN_RULE_TELL"),
+    ("a hint of 129 bytes", "model_server.c", "hint.n > 128 ||", "hint.n > 129 ||"),
+    ("a hint that is not UTF-8", "model_server.c", "|| !model_utf8(hint)", ""),
+    ("a fourth rule", "model_server.c", "rule > 2", "rule > 3"),
+    ("a warning that closes", "model_server.c", "if (level == 2 || description == 0)", "if (true)"),
+    ("a change of cipher at any time", "model_server.c", "s->phase != TN_PHASE_CHANGE_OF_CIPHER", "false"),
+    # what the library might do with lent memory
+    ("a byte beside lent memory", "lent.c",
+     "void finish(void)\n{\n",
+     "void finish(void)\n{\n    if (calls == 70000)\n        around(&pieces[0])[AROUND - 1] ^= 1;\n"),
+    ("a byte behind the answer", "lent.c",
+     "    if (said > 0)\n        becomes",
+     "    if (said > 0 && (size_t)said < out->n)\n        out->bytes[said] ^= 1;\n    if (said > 0)\n        becomes"),
+    ("a byte written by a refusal", "lent.c",
+     "    if (said > 0)\n        becomes",
+     "    if (said < 0 && out->n > 0)\n        out->bytes[0] ^= 1;\n    if (said > 0)\n        becomes"),
+    ("a byte of what was lent to be read", "table.c",
+     "    expect_number(tn_valid_utf8(",
+     "    if (t->n > 2)\n        t->bytes[2] ^= 1;\n    expect_number(tn_valid_utf8("),
+    ("a byte read past the end", "secrets.c", "tn_hmac(k->bytes, k->n, m->bytes, m->n,", "tn_hmac(k->bytes, k->n, m->bytes, m->n + 1,"),
+    ("the fields written by a refusal", "layouts.c",
+     "    if (said >= 0 && model)\n",
+     "    if (said < 0 && fields->n > 0)\n        fields->bytes[0] ^= 1;\n    if (said >= 0 && model)\n"),
+    ("the master written beside a flight", "server.c", MESSAGE_MADE, MESSAGE_MADE + "    if (result > 0)\n        master->bytes[0] ^= 1;\n"),
+    ("a connection changed by R1", "server.c", MESSAGE_MADE, MESSAGE_MADE + "    if (result == TN_R1)\n        c->bytes[381] ^= 1;\n"),
+    ("a trace in a closed connection", "server.c",
+     MESSAGE_MADE,
+     MESSAGE_MADE + "    if (tn_is_alert(result))\n        c->bytes[200] = m->n > 0 ? m->bytes[0] : 7;\n"),
+    ("a damaged connection changed by R4", "server.c", PROBE_MADE, "    if (result == TN_R4)\n        c->bytes[9] ^= 1;\n" + PROBE_MADE),
+    ("a damaged connection answered with another number", "server.c",
+     PROBE_MADE,
+     "    result = result == TN_ALERT_RESULT(51) ? TN_ALERT_RESULT(20) : result;\n" + PROBE_MADE),
+    ("another master for the same call", "server.c", PROBE_MADE, "    if (result == 0)\n        master->bytes[0] = (uint8_t)calls_made();\n" + PROBE_MADE),
+    ("R4 for a damaged connection that is not over", "server.c", PROBE_MADE, "    result = result == TN_R2 ? TN_R4 : result;\n" + PROBE_MADE),
+    ("a result that is never met", "layouts.c", "default: compose_message(14,", "default: compose_message(99,"),
+]
+
+
+def compile_to(source, made):
+    subprocess.run([os.environ.get("CC", "cc"), *FLAGS, *INCLUDES, "-c", source, "-o", made], check=True)
+
+
+def found(objects, library, program):
+    """The last words of a run that failed and told its seed, None of one that passed."""
+    subprocess.run([os.environ.get("CC", "cc"), *FLAGS, *objects, library, "-lcrypto", "-o", program], check=True)
+    run = subprocess.run([program, ROUNDS], capture_output=True, text=True, errors="replace")
+    if run.returncode == 0:
+        return None
+    where = [line for line in run.stderr.splitlines() if "Again: " in line]
+    if not where:
+        raise SystemExit(f"planted: a run failed without its seed:\n{run.stderr}")
+    return next((line for line in run.stderr.splitlines() if "ERROR: " in line), run.stderr.splitlines()[0])
+
+
+def planted(directory, objects, library):
+    missed = 0
+    for name, file, old, new in PLANTED:
+        text = (HERE / file).read_text()
+        if text.count(old) != 1:
+            raise SystemExit(f"planted: {name}: {file} has {text.count(old)} places for it")
+        (directory / file).write_text(text.replace(old, new))
+        compile_to(directory / file, directory / "planted.o")
+        others = [made for source, made in objects.items() if source != file]
+        said = found([directory / "planted.o", *others], library, directory / "program")
+        print(f"{name}: {said or 'NOT FOUND'}", flush=True)
+        missed += said is None
+    return missed
+
+
+def main():
+    with tempfile.TemporaryDirectory() as name:
+        directory = pathlib.Path(name)
+        objects = {p.name: directory / (p.stem + ".o") for p in sorted(HERE.glob("*.c")) if p.name != "target.c"}
+        for source, made in objects.items():
+            compile_to(HERE / source, made)
+        if found(objects.values(), sys.argv[1], directory / "program"):
+            raise SystemExit("planted: the test fails with nothing planted")
+        missed = planted(directory, objects, sys.argv[1])
+    print(f"planted: {len(PLANTED) - missed} of {len(PLANTED)} faults found")
+    sys.exit(missed != 0)
+
+
+if __name__ == "__main__":
+    main()

@@ -1,0 +1,117 @@
+#!/usr/bin/env python3
+"""The fuzzer's first inputs, in the form that target.c gives: seeds.py DIRECTORY.
+
+Whole handshakes for each suite, hint and rule, refusals of each kind, one message of each layout, key
+tables and the recorded messages of other programs.
+"""
+import pathlib
+import sys
+
+sys.dont_write_bytecode = True
+TESTS = pathlib.Path(__file__).resolve().parent.parent
+sys.path.insert(0, str(TESTS))
+from handshakes import EVERY, TABLE, drawn, exchange, extension, hello, message, vector
+
+ENOUGH = 180
+
+
+def table(text=TABLE):
+    return b"\0" + vector(2, text)
+
+
+def start(rule=0, hint=b""):
+    return bytes([1, rule]) + vector(1, drawn("server")) + vector(1, hint) + vector(1, drawn("stand-in"))
+
+
+def send(m, room=ENOUGH):
+    return bytes([2, room]) + vector(2, m)
+
+
+def finished(room=ENOUGH, place=0, bits=0):
+    return bytes([5, room, place, bits])
+
+
+def probe(place, over):
+    return b"\6" + place.to_bytes(2, "big") + vector(1, over)
+
+
+CHANGE = b"\3"
+WARNING = b"\4\1\x5a"
+FATAL = b"\4\2\x28"
+HELLO = hello(drawn("client"))
+ODD = message(1, b"\3\3" + drawn("client") + b"\0" + vector(2, b"\0\xae\0") + vector(1, b"\0"))
+
+
+def login(suites=EVERY, hint=b"", rule=0, identity=b"gate7", end=finished()):
+    return table() + start(rule, hint) + send(hello(drawn("client"), suites)) + send(exchange(identity)) + CHANGE + end
+
+
+def logins():
+    for suite in EVERY:
+        for rule in (0, 1, 2):
+            yield login((suite,), rule=rule)
+            yield login((0x1301, suite), hint="Stall Ä".encode(), rule=rule)
+            yield login(hint=b"h" * 128, rule=rule, identity=b"nobody")
+    yield login(end=finished(15) + finished(16) + finished())
+    yield login(end=finished(16, 3, 1))
+    yield login(end=WARNING + finished() + WARNING + FATAL)
+
+
+def hellos():
+    for m in (HELLO, hello(drawn("client"), block=b""), hello(drawn("client"), block=extension(23) + extension(35, b"\0\2ab")),
+              hello(drawn("client"), block=extension(35)), hello(drawn("client"), block=extension(1) + extension(1)),
+              hello(drawn("client"), version=0x0302), hello(drawn("client"), version=0x0304, session=bytes(32)),
+              hello(drawn("client"), methods=b"\1"), hello(drawn("client"), suites=(1,)), hello(drawn("client"), suites=range(3000)),
+              hello(drawn("client"), session=bytes(33)), hello(drawn("client"), methods=b""), hello(drawn("client"), suites=()), ODD,
+              hello(drawn("client"), block=bytes(3)), hello(drawn("client"), block=extension(35, b"\0\1")), HELLO + b"\0", HELLO[:-1]):
+        yield start() + send(m) + probe(0, b"\2")
+        yield start(hint=b"barn") + send(m, 10) + WARNING + send(m)
+
+
+def messages():
+    for m in (message(2, b"\3\3" + bytes(32) + b"\0\0\xae\0"), message(2, b"\3\3" + bytes(32) + b"\0\0\xae\0" + vector(2, extension(35))),
+              message(12, vector(2, b"barn")), message(14, b""), message(4, bytes(4) + vector(2, b"ticket")), message(20, bytes(12)),
+              exchange(b""), exchange(b"gate7"), vector(2, b"ticket")):
+        yield send(m)
+        yield start() + send(m) + start(2) + send(HELLO) + send(m) + CHANGE + send(m)
+    yield b"\7" + vector(2, extension(23) + extension(35, b"\0\0") + extension(0, b"name"))
+
+
+def lines(count):
+    return b"".join(b"%d:00\n" % i for i in range(count))
+
+
+def tables():
+    good = (b"", TABLE, "é€😀:AbCd\n".encode(), b"a:" + b"00" * 64 + b"\n", b"b" * 128 + b":00\n", lines(256))
+    bad = (TABLE[:-1], TABLE + TABLE, b"a:00\n\n", b"a\n", b"a:0\n", b"a:0g\n", b":00\n", b"a\x7f:00\n", b"a\x1f:00\n", b"a:" + b"00" * 65 + b"\n",
+           b"b" * 129 + b":00\n", lines(257), b"\xed\xa0\x80:00\n", b"\xe0\x9f\xbf:00\n", b"\xf4\x90\x80\x80:00\n")
+    for text in good + bad:
+        yield start() + send(HELLO) + table(text) + send(exchange(b"a")) + send(exchange(b"gate7"))
+
+
+def starts():
+    for hint in (b"h" * 129, b"\xc0\x80", b"\xed\xa0\x80", b"\xf4\x8f\xbf\xbf", "é€😀".encode()):
+        yield start(hint=hint) + send(HELLO)
+    yield start(rule=3) + send(HELLO)
+    yield start()[:-1] + send(HELLO)
+
+
+def longest():
+    for n in (16378, 16379):
+        yield start(2) + send(HELLO) + send(exchange(b"y" * n)) + CHANGE + finished()
+        yield send(message(12, vector(2, bytes(n))))
+        yield send(message(4, bytes(4) + vector(2, bytes(n - 4))))
+
+
+def recorded():
+    for file in sorted((TESTS / "recorded").glob("*.hex")):
+        sent = [send(bytes.fromhex(line)) for line in file.read_text().split()]
+        yield table() + start() + b"".join(sent)
+        yield table() + b"".join(start() + m for m in sent)
+
+
+if __name__ == "__main__":
+    directory = pathlib.Path(sys.argv[1])
+    for make in (logins, hellos, messages, tables, starts, longest, recorded):
+        for i, contents in enumerate(make()):
+            (directory / f"{make.__name__}-{i:02}").write_bytes(contents)
