@@ -164,6 +164,7 @@ static inline uint8_t tn_alert_number(int32_t result)
  * A connection is TN_CONNECTION_SIZE bytes of the host's, which the calls read and write whole. Their meaning is the library's own; no alignment is needed.
  *
  *   - Cleared bytes are a closed connection, and so are bytes that no call has written: they are answered with TN_R4.
+ *     A connection that a call closed is not all zeros: ask tn_phase, and do not compare bytes.
  *   - Bytes may be moved and copied between calls. They hold secrets until the connection is complete or closed; then they hold no secret and no trace of
  *     the client. A host that drops a connection earlier clears them.
  *
@@ -351,9 +352,9 @@ int32_t tn_read_server_hello_done(const uint8_t *message, size_t message_len);
 int32_t tn_read_new_session_ticket(const uint8_t *message, size_t message_len, uint32_t fields[3]);
 
 /*
- * The extension that starts at `at` of a block: 1 and fields[0] its type, [1] and [2] start and length of its data; 0 at the block's end or past it; alert 50
- * where the extension is cut short, or the block has over 65,535 bytes. Without a 1 `fields` stays as it was. To go through a block begin at 0, and go on
- * at fields[1] + fields[2].
+ * The extension that starts at `at` of a block: alert 50 where the block has over 65,535 bytes, wherever `at` is; else 1 and fields[0] its type, [1] and [2]
+ * start and length of its data; 0 at the block's end or past it; alert 50 where the extension is cut short. Without a 1 `fields` stays as it was. To go
+ * through a block begin at 0, and go on at fields[1] + fields[2].
  */
 int32_t tn_next_extension(const uint8_t *block, size_t block_len, size_t at, uint32_t fields[3]);
 
