@@ -5,14 +5,8 @@ use native.Mathlib.Nat.{div-one}
 use Rattle.endian.proofs.bytes16.Statement.{statement}
 use Rattle.endian.proofs.bytes16.Tie as tie
 
-cast-t4 : tie.Need-cast-t4
-cast-t4 c = search needs
-
-cast-t6 : tie.Need-cast-t6
-cast-t6 c = search needs
-
 returns : tie.Need-returns
 returns c = simp (div-one (c .args .n))
 
 pub bytes16-spec : {M : Type 1} → statement M
-bytes16-spec = tie.close (tie.spec cast-t4 cast-t6 returns)
+bytes16-spec = tie.close (tie.spec (λ c. search needs) (λ c. search needs) returns)

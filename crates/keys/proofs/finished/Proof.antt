@@ -22,15 +22,6 @@ returns-2 c =
     let args = c .before .before .before .before .before .args in
     rw (ne-eqb (length (args .hash .now)) 32 (c .if2 .taken), and-false) (refused BadValue (args .out .now))
 
-finished-label-requires : tie.Need-finished-label-requires
-finished-label-requires c κs = search needs
-
-prf-requires : tie.Need-prf-requires
-prf-requires c κs = search needs
-
-same-length : tie.Need-same-length
-same-length c = search needs
-
 returns-3 : tie.Need-returns-3
 unfolding verifyData
 returns-3 c =
@@ -42,4 +33,4 @@ returns-3 c =
 pub finished-spec : {M : Type 1} → statement M
 finished-spec =
     tie.close
-    (tie.spec returns returns-2 finished-label-requires prf-requires same-length returns-3)
+    (tie.spec returns returns-2 (λ c κs. search needs) (λ c κs. search needs) (λ c. search needs) returns-3)

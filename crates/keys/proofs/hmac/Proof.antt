@@ -20,18 +20,6 @@ returns-2 c =
     let args = c .before .before .before .before .before .args in
     rw (long-key-refused (args .key .now) (args .message .now) (c .if2 .taken)) (refused BadValue (args .out .now))
 
-value-requires : tie.Need-value-requires
-value-requires c κs = search needs
-
-slice-aggregate-put : tie.Need-slice-aggregate-put
-slice-aggregate-put c = search needs
-
-put-requires : tie.Need-put-requires
-put-requires c κs = search needs
-
-same-length : tie.Need-same-length
-same-length c = search needs
-
 returns-3 : tie.Need-returns-3
 returns-3 c =
     let at-value = c .before .before .before .before .before in
@@ -47,8 +35,8 @@ hmac-spec =
     (tie.spec
     returns
     returns-2
-    value-requires
-    slice-aggregate-put
-    put-requires
-    same-length
+    (λ c κs. search needs)
+    (λ c. search needs)
+    (λ c κs. search needs)
+    (λ c. search needs)
     returns-3)

@@ -6,12 +6,6 @@ use borrow.Author.Needs.{needs}
 use Rattle.keys.proofs.joined.Statement.{statement}
 use Rattle.keys.proofs.joined.Tie as tie
 
-append-requires : tie.Need-append-requires
-append-requires c κs = search needs
-
-append-requires-2 : tie.Need-append-requires-2
-append-requires-2 c κs = search needs
-
 returns : tie.Need-returns
 returns c =
     let args = c .before .before .before .before .args in
@@ -21,4 +15,4 @@ returns c =
     (rw two at (c .append2 .ensures)) ∙ rw (rw one at first)
 
 pub joined-spec : {M : Type 1} → statement M
-joined-spec = tie.close (tie.spec append-requires append-requires-2 returns)
+joined-spec = tie.close (tie.spec (λ c κs. search needs) (λ c κs. search needs) returns)

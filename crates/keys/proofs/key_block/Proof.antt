@@ -32,9 +32,6 @@ returns-3 c =
     let args = c .before .before .before .before .before .before .before .args in
     rw (ne-eqb (length (args .client .now)) 32 (c .if3 .taken), and-false) (refused BadValue (args .out .now))
 
-key-block-length-requires : tie.Need-key-block-length-requires
-key-block-length-requires c κs = search needs
-
 returns-4 : tie.Need-returns-4
 unfolding keys
 returns-4 c =
@@ -42,22 +39,10 @@ returns-4 c =
     let none : keyBlockLength (args .suite) < 1 = rw (c .before .key-block-length .ensures) at (c .if4 .taken) in
     rw (lt-leb 1 (keyBlockLength (args .suite)) none, and-false) (refused BadValue (args .out .now))
 
-joined-requires : tie.Need-joined-requires
-joined-requires c κs = search needs
-
-array-share-prefix-seed : tie.Need-array-share-prefix-seed
-array-share-prefix-seed c = search needs
-
 slice-aggregate-prf : tie.Need-slice-aggregate-prf
 slice-aggregate-prf c =
     let size : length (c .before .joined .result) ≡ 256 = search (needs, c .before .joined .ok) in
     sym (length-take-le 64 (c .before .joined .result) (omega arith))
-
-prf-requires : tie.Need-prf-requires
-prf-requires c κs = search needs
-
-same-length : tie.Need-same-length
-same-length c = search needs
 
 returns-5 : tie.Need-returns-5
 unfolding keys
@@ -77,11 +62,11 @@ key-block-spec =
     returns
     returns-2
     returns-3
-    key-block-length-requires
+    (λ c κs. search needs)
     returns-4
-    joined-requires
-    array-share-prefix-seed
+    (λ c κs. search needs)
+    (λ c. search needs)
     slice-aggregate-prf
-    prf-requires
-    same-length
+    (λ c κs. search needs)
+    (λ c. search needs)
     returns-5)

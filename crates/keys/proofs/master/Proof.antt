@@ -25,22 +25,10 @@ returns-2 c =
     let args = c .before .before .before .before .before .before .args in
     rw (ne-eqb (length (args .server .now)) 32 (c .if2 .taken), and-false) (refused BadValue (args .out .now))
 
-joined-requires : tie.Need-joined-requires
-joined-requires c κs = search needs
-
-array-share-prefix-seed : tie.Need-array-share-prefix-seed
-array-share-prefix-seed c = search needs
-
 slice-aggregate-prf : tie.Need-slice-aggregate-prf
 slice-aggregate-prf c =
     let size : length (c .before .joined .result) ≡ 256 = search (needs, c .before .joined .ok) in
     sym (length-take-le 64 (c .before .joined .result) (omega arith))
-
-prf-requires : tie.Need-prf-requires
-prf-requires c κs = search needs
-
-same-length : tie.Need-same-length
-same-length c = search needs
 
 returns-3 : tie.Need-returns-3
 unfolding master
@@ -56,9 +44,9 @@ master-spec =
     (tie.spec
     returns
     returns-2
-    joined-requires
-    array-share-prefix-seed
+    (λ c κs. search needs)
+    (λ c. search needs)
     slice-aggregate-prf
-    prf-requires
-    same-length
+    (λ c κs. search needs)
+    (λ c. search needs)
     returns-3)

@@ -26,28 +26,10 @@ returns-2 c =
     let args = c .before .before .before .before .args in
     rw (lt-leb (length (args .psk .now)) 64 (c .if2 .taken), and-false) (refused BadValue (args .out .now))
 
-premaster-bytes-requires : tie.Need-premaster-bytes-requires
-premaster-bytes-requires c κs = search needs
-
-mul-bytes : tie.Need-mul-bytes
-mul-bytes c = search needs
-
-add-bytes : tie.Need-add-bytes
-add-bytes c = search needs
-
-array-share-prefix-bytes : tie.Need-array-share-prefix-bytes
-array-share-prefix-bytes c = search needs
-
 slice-aggregate-put : tie.Need-slice-aggregate-put
 slice-aggregate-put c =
     let size : length (c .before .premaster-bytes .result) ≡ 256 = search (needs, c .before .premaster-bytes .ok) in
     sym (length-take-le _ _ (omega arith))
-
-put-requires : tie.Need-put-requires
-put-requires c κs = search needs
-
-same-length : tie.Need-same-length
-same-length c = search needs
 
 returns-3 : tie.Need-returns-3
 returns-3 c =
@@ -63,11 +45,11 @@ premaster-spec =
     (tie.spec
     returns
     returns-2
-    premaster-bytes-requires
-    mul-bytes
-    add-bytes
-    array-share-prefix-bytes
+    (λ c κs. search needs)
+    (λ c. search needs)
+    (λ c. search needs)
+    (λ c. search needs)
     slice-aggregate-put
-    put-requires
-    same-length
+    (λ c κs. search needs)
+    (λ c. search needs)
     returns-3)

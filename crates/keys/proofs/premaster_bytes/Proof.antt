@@ -10,18 +10,6 @@ use borrow.Author.Needs.{needs}
 use Rattle.keys.proofs.premaster_bytes.Statement.{statement}
 use Rattle.keys.proofs.premaster_bytes.Tie as tie
 
-bytes16-requires : tie.Need-bytes16-requires
-bytes16-requires c κs = search needs
-
-slice-aggregate-append : tie.Need-slice-aggregate-append
-slice-aggregate-append c = search needs
-
-append-requires : tie.Need-append-requires
-append-requires c κs = search needs
-
-array-share-prefix-zeros : tie.Need-array-share-prefix-zeros
-array-share-prefix-zeros c = search needs
-
 slice-aggregate-append-2 : tie.Need-slice-aggregate-append-2
 slice-aggregate-append-2 c =
     let start = c .before .before .before .before .before in
@@ -31,21 +19,6 @@ append-requires-2 : tie.Need-append-requires-2
 append-requires-2 c κs =
     let start = c .before .before .before .before .before in
     rw (length-take-le {A = ℕ} (length (start .args .psk .now)) (replicate 64 0) (start .pre)) (omega arith)
-
-add-append : tie.Need-add-append
-add-append c = search needs
-
-slice-aggregate-append-3 : tie.Need-slice-aggregate-append-3
-slice-aggregate-append-3 c = search needs
-
-append-requires-3 : tie.Need-append-requires-3
-append-requires-3 c κs = search needs
-
-add-append-2 : tie.Need-add-append-2
-add-append-2 c = search needs
-
-append-requires-4 : tie.Need-append-requires-4
-append-requires-4 c κs = search needs
 
 returns : tie.Need-returns
 returns c =
@@ -61,15 +34,15 @@ pub premaster-bytes-spec : {M : Type 1} → statement M
 premaster-bytes-spec =
     tie.close
     (tie.spec
-    bytes16-requires
-    slice-aggregate-append
-    append-requires
-    array-share-prefix-zeros
+    (λ c κs. search needs)
+    (λ c. search needs)
+    (λ c κs. search needs)
+    (λ c. search needs)
     slice-aggregate-append-2
     append-requires-2
-    add-append
-    slice-aggregate-append-3
-    append-requires-3
-    add-append-2
-    append-requires-4
+    (λ c. search needs)
+    (λ c. search needs)
+    (λ c κs. search needs)
+    (λ c. search needs)
+    (λ c κs. search needs)
     returns)

@@ -28,22 +28,10 @@ returns-3 c =
     let args = c .before .before .before .before .before .before .args in
     rw (long-output-refused (args .secret .now) (args .label) (args .seed .now) (args .n) (c .if3 .taken)) (refused BadValue (args .out .now))
 
-expand-requires : tie.Need-expand-requires
-expand-requires c κs = search needs
-
-array-share-prefix-bytes : tie.Need-array-share-prefix-bytes
-array-share-prefix-bytes c = search needs
-
 slice-aggregate-put : tie.Need-slice-aggregate-put
 slice-aggregate-put c =
     let size : length (c .before .expand .result) ≡ 256 = search (needs, c .before .expand .ok) in
     sym (length-take-le _ _ (omega arith))
-
-put-requires : tie.Need-put-requires
-put-requires c κs = search needs
-
-same-length : tie.Need-same-length
-same-length c = search needs
 
 returns-4 : tie.Need-returns-4
 returns-4 c =
@@ -61,9 +49,9 @@ prf-spec =
     returns
     returns-2
     returns-3
-    expand-requires
-    array-share-prefix-bytes
+    (λ c κs. search needs)
+    (λ c. search needs)
     slice-aggregate-put
-    put-requires
-    same-length
+    (λ c κs. search needs)
+    (λ c. search needs)
     returns-4)

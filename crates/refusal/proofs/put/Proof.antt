@@ -14,12 +14,6 @@ use Rattle.refusal.proofs.put.Tie as tie
 returns : tie.Need-returns
 returns c = short _ _ (c .if1 .taken)
 
-copy-requires : tie.Need-copy-requires
-copy-requires c κs = search needs
-
-same-length : tie.Need-same-length
-same-length c = search needs
-
 returns-2 : tie.Need-returns-2
 returns-2 c =
     let copied = c .before .before .copy .ensures in
@@ -31,4 +25,4 @@ returns-2 c =
     }
 
 pub put-spec : {M : Type 1} → statement M
-put-spec = tie.close (tie.spec returns copy-requires same-length returns-2)
+put-spec = tie.close (tie.spec returns (λ c κs. search needs) (λ c. search needs) returns-2)

@@ -5,31 +5,16 @@ use borrow.Author.Needs.{needs}
 use Rattle.server.proofs.alert.Statement.{statement}
 use Rattle.server.proofs.alert.Tie as tie
 
-is-over-requires : tie.Need-is-over-requires
-is-over-requires c κs = search needs
-
-refuse-requires : tie.Need-refuse-requires
-refuse-requires c κs = search needs
-
 returns : tie.Need-returns
 returns c = rw (← c .before .before .is-over .ensures, c .before .if1 .taken) (c .refuse .ensures)
 
-ended-requires : tie.Need-ended-requires
-ended-requires c κs = search needs
-
 returns-2 : tie.Need-returns-2
 returns-2 c = rw (← c .before .before .before .is-over .ensures, c .before .before .if1 .left, c .before .if2 .taken, c .ended .ensures)
-
-refuse-requires-2 : tie.Need-refuse-requires-2
-refuse-requires-2 c κs = search needs
 
 returns-3 : tie.Need-returns-3
 returns-3 c =
     let level = c .before .before .before .before .before .args .level in
     rw (← c .before .before .before .before .is-over .ensures, c .before .before .before .if1 .left, ne-eqb level 1 (c .before .if3 .taken), ne-eqb level 2 (c .before .before .if2 .left)) (c .refuse2 .ensures)
-
-ended-requires-2 : tie.Need-ended-requires-2
-ended-requires-2 c κs = search needs
 
 returns-4 : tie.Need-returns-4
 returns-4 c = rw (← c .before .before .before .before .before .is-over .ensures, c .before .before .before .before .if1 .left, c .before .before .if3 .left, c .before .if4 .taken, c .ended2 .ensures)
@@ -43,13 +28,13 @@ pub alert-spec : {M : Type 1} → statement M
 alert-spec =
     tie.close
     (tie.spec
-    is-over-requires
-    refuse-requires
+    (λ c κs. search needs)
+    (λ c κs. search needs)
     returns
-    ended-requires
+    (λ c κs. search needs)
     returns-2
-    refuse-requires-2
+    (λ c κs. search needs)
     returns-3
-    ended-requires-2
+    (λ c κs. search needs)
     returns-4
     returns-5)

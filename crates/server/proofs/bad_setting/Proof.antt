@@ -4,11 +4,8 @@ use borrow.Author.Needs.{needs}
 use Rattle.server.proofs.bad_setting.Statement.{statement}
 use Rattle.server.proofs.bad_setting.Tie as tie
 
-ended-requires : tie.Need-ended-requires
-ended-requires c κs = search needs
-
 returns : tie.Need-returns
 returns c = rw (c .ended .ensures)
 
 pub bad-setting-spec : {M : Type 1} → statement M
-bad-setting-spec = tie.close (tie.spec ended-requires returns)
+bad-setting-spec = tie.close (tie.spec (λ c κs. search needs) returns)

@@ -7,12 +7,6 @@ use borrow.Author.Needs.{needs}
 use Rattle.server.proofs.bytes32.Statement.{statement}
 use Rattle.server.proofs.bytes32.Tie as tie
 
-slice-aggregate-copy : tie.Need-slice-aggregate-copy
-slice-aggregate-copy c = search needs
-
-copy-requires : tie.Need-copy-requires
-copy-requires c κs = search needs
-
 returns : tie.Need-returns
 returns c =
     let start = c .before .before .before .before in
@@ -20,4 +14,4 @@ returns c =
     c .before .copy .ensures .1 ∙ rw (take-length xs, start .pre, append-nil xs)
 
 pub bytes32-spec : {M : Type 1} → statement M
-bytes32-spec = tie.close (tie.spec slice-aggregate-copy copy-requires returns)
+bytes32-spec = tie.close (tie.spec (λ c. search needs) (λ c κs. search needs) returns)

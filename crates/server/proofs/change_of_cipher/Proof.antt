@@ -13,42 +13,6 @@ use Rattle.server.proofs.change_of_cipher.Tie as tie
 over : (c : Connection) {p : Phase} → c .phase ≡ p → answered (settled c [] (changeStep c p)) ≡ answered (settled c [] (changeStep c (c .phase)))
 over c e = ap (λ (q : Phase). answered (settled c [] (changeStep c q))) (sym e)
 
-enum-told : tie.Need-enum-told
-enum-told c = search needs
-
-refuse-requires : tie.Need-refuse-requires
-refuse-requires c κs = search needs
-
-enum-told-2 : tie.Need-enum-told-2
-enum-told-2 c = search needs
-
-refuse-requires-2 : tie.Need-refuse-requires-2
-refuse-requires-2 c κs = search needs
-
-enum-told-3 : tie.Need-enum-told-3
-enum-told-3 c = search needs
-
-after-change-requires : tie.Need-after-change-requires
-after-change-requires c κs = search needs
-
-enum-told-4 : tie.Need-enum-told-4
-enum-told-4 c = search needs
-
-refuse-requires-3 : tie.Need-refuse-requires-3
-refuse-requires-3 c κs = search needs
-
-enum-told-5 : tie.Need-enum-told-5
-enum-told-5 c = search needs
-
-refuse-requires-4 : tie.Need-refuse-requires-4
-refuse-requires-4 c κs = search needs
-
-enum-told-6 : tie.Need-enum-told-6
-enum-told-6 c = search needs
-
-refuse-requires-5 : tie.Need-refuse-requires-5
-refuse-requires-5 c κs = search needs
-
 returns : tie.Need-returns
 returns c = rw (c .before .enum-told .given .1) (c .refuse .ensures)
 
@@ -71,18 +35,18 @@ pub change-of-cipher-spec : {M : Type 1} → statement M
 change-of-cipher-spec =
     tie.close
     (tie.spec
-    enum-told
-    refuse-requires
-    enum-told-2
-    refuse-requires-2
-    enum-told-3
-    after-change-requires
-    enum-told-4
-    refuse-requires-3
-    enum-told-5
-    refuse-requires-4
-    enum-told-6
-    refuse-requires-5
+    (λ c. search needs)
+    (λ c κs. search needs)
+    (λ c. search needs)
+    (λ c κs. search needs)
+    (λ c. search needs)
+    (λ c κs. search needs)
+    (λ c. search needs)
+    (λ c κs. search needs)
+    (λ c. search needs)
+    (λ c κs. search needs)
+    (λ c. search needs)
+    (λ c κs. search needs)
     returns
     returns-2
     returns-3

@@ -4,11 +4,8 @@ use borrow.Author.Needs.{needs}
 use Rattle.server.proofs.ended.Statement.{statement}
 use Rattle.server.proofs.ended.Tie as tie
 
-new-requires : tie.Need-new-requires
-new-requires c κs = search needs
-
 returns : tie.Need-returns
 returns c = rw (c .new .ensures)
 
 pub ended-spec : {M : Type 1} → statement M
-ended-spec = tie.close (tie.spec new-requires returns)
+ended-spec = tie.close (tie.spec (λ c κs. search needs) returns)

@@ -8,16 +8,10 @@ use borrow.Author.Needs.{needs}
 use Rattle.server.proofs.hint_field.Statement.{statement}
 use Rattle.server.proofs.hint_field.Tie as tie
 
-slice-aggregate-copy : tie.Need-slice-aggregate-copy
-slice-aggregate-copy c = search needs
-
-copy-requires : tie.Need-copy-requires
-copy-requires c κs = search needs
-
 returns : tie.Need-returns
 returns c =
     let hint = c .before .before .before .before .args .hint .now in
     c .before .copy .ensures .1 ∙ rw (take-length hint, drop-replicate 128 (length hint) 0)
 
 pub hint-field-spec : {M : Type 1} → statement M
-hint-field-spec = tie.close (tie.spec slice-aggregate-copy copy-requires returns)
+hint-field-spec = tie.close (tie.spec (λ c. search needs) (λ c κs. search needs) returns)

@@ -8,63 +8,6 @@ use borrow.Author.Needs.{needs}
 use Rattle.server.proofs.message.Statement.{statement}
 use Rattle.server.proofs.message.Tie as tie
 
-enum-told : tie.Need-enum-told
-enum-told c = search needs
-
-step-requires : tie.Need-step-requires
-step-requires c κs = search needs
-
-without-master-requires : tie.Need-without-master-requires
-without-master-requires c κs = search needs
-
-enum-told-2 : tie.Need-enum-told-2
-enum-told-2 c = search needs
-
-step-requires-2 : tie.Need-step-requires-2
-step-requires-2 c κs = search needs
-
-with-master-requires : tie.Need-with-master-requires
-with-master-requires c κs = search needs
-
-enum-told-3 : tie.Need-enum-told-3
-enum-told-3 c = search needs
-
-unawaited-requires : tie.Need-unawaited-requires
-unawaited-requires c κs = search needs
-
-without-master-requires-2 : tie.Need-without-master-requires-2
-without-master-requires-2 c κs = search needs
-
-enum-told-4 : tie.Need-enum-told-4
-enum-told-4 c = search needs
-
-step-requires-3 : tie.Need-step-requires-3
-step-requires-3 c κs = search needs
-
-without-master-requires-3 : tie.Need-without-master-requires-3
-without-master-requires-3 c κs = search needs
-
-enum-told-5 : tie.Need-enum-told-5
-enum-told-5 c = search needs
-
-refuse-requires : tie.Need-refuse-requires
-refuse-requires c κs = search needs
-
-without-master-requires-4 : tie.Need-without-master-requires-4
-without-master-requires-4 c κs = search needs
-
-enum-told-6 : tie.Need-enum-told-6
-enum-told-6 c = search needs
-
-refuse-requires-2 : tie.Need-refuse-requires-2
-refuse-requires-2 c κs = search needs
-
-without-master-requires-5 : tie.Need-without-master-requires-5
-without-master-requires-5 c κs = search needs
-
-same-length : tie.Need-same-length
-same-length c = search needs
-
 returns : tie.Need-returns
 returns c =
     let args = c .before .before .before .before .before .before .before .before .before .before .args in
@@ -82,9 +25,6 @@ returns-3 c =
     let args = c .before .before .before .before .before .before .before .args in
     replied-silently (viewOf (args .table .now)) (args .c) (args .m .now) (args .out .now)
     (c .before .before .enum-told3 .given .1) (λ s. refl) (silent-unawaited (args .m .now)) (c .before .unawaited .ensures) (c .without-master2 .ensures)
-
-same-length-2 : tie.Need-same-length-2
-same-length-2 c = search needs
 
 returns-4 : tie.Need-returns-4
 returns-4 c =
@@ -108,29 +48,29 @@ pub message-spec : {M : Type 1} → statement M
 message-spec =
     tie.close
     (tie.spec
-    enum-told
-    step-requires
-    without-master-requires
-    enum-told-2
-    step-requires-2
-    with-master-requires
-    enum-told-3
-    unawaited-requires
-    without-master-requires-2
-    enum-told-4
-    step-requires-3
-    without-master-requires-3
-    enum-told-5
-    refuse-requires
-    without-master-requires-4
-    enum-told-6
-    refuse-requires-2
-    without-master-requires-5
-    same-length
+    (λ c. search needs)
+    (λ c κs. search needs)
+    (λ c κs. search needs)
+    (λ c. search needs)
+    (λ c κs. search needs)
+    (λ c κs. search needs)
+    (λ c. search needs)
+    (λ c κs. search needs)
+    (λ c κs. search needs)
+    (λ c. search needs)
+    (λ c κs. search needs)
+    (λ c κs. search needs)
+    (λ c. search needs)
+    (λ c κs. search needs)
+    (λ c κs. search needs)
+    (λ c. search needs)
+    (λ c κs. search needs)
+    (λ c κs. search needs)
+    (λ c. search needs)
     returns
     returns-2
     returns-3
-    same-length-2
+    (λ c. search needs)
     returns-4
     returns-5
     returns-6)

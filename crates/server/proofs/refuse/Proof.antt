@@ -5,12 +5,6 @@ use borrow.Author.Needs.{needs}
 use Rattle.server.proofs.refuse.Statement.{statement}
 use Rattle.server.proofs.refuse.Tie as tie
 
-for-client-requires : tie.Need-for-client-requires
-for-client-requires c κs = search needs
-
-ended-requires : tie.Need-ended-requires
-ended-requires c κs = search needs
-
 returns : tie.Need-returns
 returns c =
     let args = c .before .before .before .args in
@@ -22,4 +16,4 @@ returns-2 c =
     rw (alerts-close (args .r) (args .c), ← c .before .for-client .ensures, c .if1 .left)
 
 pub refuse-spec : {M : Type 1} → statement M
-refuse-spec = tie.close (tie.spec for-client-requires ended-requires returns returns-2)
+refuse-spec = tie.close (tie.spec (λ c κs. search needs) (λ c κs. search needs) returns returns-2)

@@ -7,42 +7,24 @@ use borrow.Author.Needs.{needs}
 use Rattle.server.proofs.start.Statement.{statement}
 use Rattle.server.proofs.start.Tie as tie
 
-bad-setting-requires : tie.Need-bad-setting-requires
-bad-setting-requires c κs = search needs
-
 returns : tie.Need-returns
 returns c =
     let args = c .before .before .before .before .before .args in
     rw (ne-eqb (length (args .random .now)) 32 (c .before .if1 .taken)) (c .bad-setting .ensures)
-
-bad-setting-requires-2 : tie.Need-bad-setting-requires-2
-bad-setting-requires-2 c κs = search needs
 
 returns-2 : tie.Need-returns-2
 returns-2 c =
     let args = c .before .before .before .before .before .before .args in
     rw (lt-leb (length (args .hint .now)) 128 (c .before .if2 .taken), and-false) (c .bad-setting2 .ensures)
 
-valid-utf8-requires : tie.Need-valid-utf8-requires
-valid-utf8-requires c κs = search needs
-
-bad-setting-requires-3 : tie.Need-bad-setting-requires-3
-bad-setting-requires-3 c κs = search needs
-
 returns-3 : tie.Need-returns-3
 returns-3 c =
     rw (← c .before .before .valid-utf8 .ensures, not-true (c .before .before .valid-utf8 .result) (c .before .if3 .taken), and-false) (c .bad-setting3 .ensures)
-
-bad-setting-requires-4 : tie.Need-bad-setting-requires-4
-bad-setting-requires-4 c κs = search needs
 
 returns-4 : tie.Need-returns-4
 returns-4 c =
     let args = c .before .before .before .before .before .before .before .before .before .args in
     rw (ne-eqb (length (args .stand-in .now)) 32 (c .before .if4 .taken), and-false) (c .bad-setting4 .ensures)
-
-started-requires : tie.Need-started-requires
-started-requires c κs = search needs
 
 returns-5 : tie.Need-returns-5
 returns-5 c =
@@ -55,14 +37,14 @@ pub start-spec : {M : Type 1} → statement M
 start-spec =
     tie.close
     (tie.spec
-    bad-setting-requires
+    (λ c κs. search needs)
     returns
-    bad-setting-requires-2
+    (λ c κs. search needs)
     returns-2
-    valid-utf8-requires
-    bad-setting-requires-3
+    (λ c κs. search needs)
+    (λ c κs. search needs)
     returns-3
-    bad-setting-requires-4
+    (λ c κs. search needs)
     returns-4
-    started-requires
+    (λ c κs. search needs)
     returns-5)

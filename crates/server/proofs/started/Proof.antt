@@ -6,21 +6,6 @@ use borrow.Author.Needs.{needs}
 use Rattle.server.proofs.started.Statement.{statement}
 use Rattle.server.proofs.started.Tie as tie
 
-rule-of-requires : tie.Need-rule-of-requires
-rule-of-requires c κs = search needs
-
-hint-field-requires : tie.Need-hint-field-requires
-hint-field-requires c κs = search needs
-
-bytes32-requires : tie.Need-bytes32-requires
-bytes32-requires c κs = search needs
-
-bytes32-requires-2 : tie.Need-bytes32-requires-2
-bytes32-requires-2 c κs = search needs
-
-new-requires : tie.Need-new-requires
-new-requires c κs = search needs
-
 cast-t12 : tie.Need-cast-t12
 cast-t12 c = omega arith
 
@@ -36,10 +21,10 @@ pub started-spec : {M : Type 1} → statement M
 started-spec =
     tie.close
     (tie.spec
-    rule-of-requires
-    hint-field-requires
-    bytes32-requires
-    bytes32-requires-2
-    new-requires
+    (λ c κs. search needs)
+    (λ c κs. search needs)
+    (λ c κs. search needs)
+    (λ c κs. search needs)
+    (λ c κs. search needs)
     cast-t12
     returns)

@@ -7,15 +7,6 @@ use borrow.Author.Needs.{needs}
 use Rattle.server.proofs.with_master.Statement.{statement}
 use Rattle.server.proofs.with_master.Tie as tie
 
-enum-told : tie.Need-enum-told
-enum-told c = search needs
-
-enum-told-2 : tie.Need-enum-told-2
-enum-told-2 c = search needs
-
-without-master-requires : tie.Need-without-master-requires
-without-master-requires c κs = search needs
-
 returns : tie.Need-returns
 returns c = rw (c .before .enum-told .given .1)
 
@@ -26,4 +17,4 @@ returns-2 c =
 
 pub with-master-spec : {M : Type 1} → statement M
 with-master-spec =
-    tie.close (tie.spec enum-told enum-told-2 without-master-requires returns returns-2)
+    tie.close (tie.spec (λ c. search needs) (λ c. search needs) (λ c κs. search needs) returns returns-2)

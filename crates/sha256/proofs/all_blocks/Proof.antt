@@ -20,30 +20,6 @@ abbrev μ-loop : tie.MeasureT-loop
 loop-holds : tie.Need-loop-holds Inv-loop μ-loop
 loop-holds c = (search needs, refl)
 
-sub-loop : tie.Need-sub-loop Inv-loop μ-loop
-sub-loop c = search needs
-
-add-next-value : tie.Need-add-next-value Inv-loop μ-loop
-add-next-value c = search needs
-
-sub-next-value : tie.Need-sub-next-value Inv-loop μ-loop
-sub-next-value c = search needs
-
-part-next-value-start : tie.Need-part-next-value-start Inv-loop μ-loop
-part-next-value-start c = search needs
-
-part-next-value-end : tie.Need-part-next-value-end Inv-loop μ-loop
-part-next-value-end c = search needs
-
-next-value-requires : tie.Need-next-value-requires Inv-loop μ-loop
-next-value-requires c κs = search needs
-
-add-at : tie.Need-add-at Inv-loop μ-loop
-add-at c = search needs
-
-loop-less : tie.Need-loop-less Inv-loop μ-loop
-loop-less c = search needs
-
 loop-again : tie.Need-loop-again Inv-loop μ-loop
 loop-again c =
     let at-loop = c .before .before .before in
@@ -67,13 +43,13 @@ all-blocks-spec =
     Inv-loop
     μ-loop
     loop-holds
-    sub-loop
-    add-next-value
-    sub-next-value
-    part-next-value-start
-    part-next-value-end
-    next-value-requires
-    add-at
-    loop-less
+    (λ c. search needs)
+    (λ c. search needs)
+    (λ c. search needs)
+    (λ c. search needs)
+    (λ c. search needs)
+    (λ c κs. search needs)
+    (λ c. search needs)
+    (λ c. search needs)
     loop-again
     returns)

@@ -5,30 +5,6 @@ use borrow.Author.Needs.{needs}
 use Rattle.sha256.proofs.concatenation.Statement.{statement}
 use Rattle.sha256.proofs.concatenation.Tie as tie
 
-with-word-requires : tie.Need-with-word-requires
-with-word-requires c κs = search needs
-
-with-word-requires-2 : tie.Need-with-word-requires-2
-with-word-requires-2 c κs = search needs
-
-with-word-requires-3 : tie.Need-with-word-requires-3
-with-word-requires-3 c κs = search needs
-
-with-word-requires-4 : tie.Need-with-word-requires-4
-with-word-requires-4 c κs = search needs
-
-with-word-requires-5 : tie.Need-with-word-requires-5
-with-word-requires-5 c κs = search needs
-
-with-word-requires-6 : tie.Need-with-word-requires-6
-with-word-requires-6 c κs = search needs
-
-with-word-requires-7 : tie.Need-with-word-requires-7
-with-word-requires-7 c κs = search needs
-
-with-word-requires-8 : tie.Need-with-word-requires-8
-with-word-requires-8 c κs = search needs
-
 returns : tie.Need-returns
 unfolding concatenated
 returns c =
@@ -39,12 +15,12 @@ pub concatenation-spec : {M : Type 1} → statement M
 concatenation-spec =
     tie.close
     (tie.spec
-    with-word-requires
-    with-word-requires-2
-    with-word-requires-3
-    with-word-requires-4
-    with-word-requires-5
-    with-word-requires-6
-    with-word-requires-7
-    with-word-requires-8
+    (λ c κs. search needs)
+    (λ c κs. search needs)
+    (λ c κs. search needs)
+    (λ c κs. search needs)
+    (λ c κs. search needs)
+    (λ c κs. search needs)
+    (λ c κs. search needs)
+    (λ c κs. search needs)
     returns)

@@ -5,18 +5,6 @@ use borrow.Author.Needs.{needs}
 use Rattle.sha256.proofs.hash.Statement.{statement}
 use Rattle.sha256.proofs.hash.Tie as tie
 
-new-requires : tie.Need-new-requires
-new-requires c κs = search needs
-
-update-requires : tie.Need-update-requires
-update-requires c κs = search needs
-
-finish-requires : tie.Need-finish-requires
-finish-requires c κs = search needs
-
-same-length : tie.Need-same-length
-same-length c = search needs
-
 returns : tie.Need-returns
 returns c =
     let at-update = c .before .before .before .before in
@@ -24,4 +12,4 @@ returns c =
     rw (at-update .update .ensures, at-update .before .new .ensures, finish-absorbed message) at (c .before .before .finish .ensures)
 
 pub hash-spec : {M : Type 1} → statement M
-hash-spec = tie.close (tie.spec new-requires update-requires finish-requires same-length returns)
+hash-spec = tie.close (tie.spec (λ c κs. search needs) (λ c κs. search needs) (λ c κs. search needs) (λ c. search needs) returns)

@@ -9,22 +9,13 @@ use borrow.Author.Needs.{needs}
 use Rattle.sha256.proofs.marked.Statement.{statement}
 use Rattle.sha256.proofs.marked.Tie as tie
 
-array-share-prefix-block : tie.Need-array-share-prefix-block
-array-share-prefix-block c = search needs
-
 slice-aggregate-copy : tie.Need-slice-aggregate-copy
 slice-aggregate-copy c = sym (length-take-le _ _ (omega arith))
-
-slice-aggregate-copy-2 : tie.Need-slice-aggregate-copy-2
-slice-aggregate-copy-2 c = search needs
 
 copy-requires : tie.Need-copy-requires
 copy-requires c κs =
     let args = c .before .before .args in
     rw (length-take-le (args .held) (args .t1) (omega arith)) (omega arith)
-
-array-write-last : tie.Need-array-write-last
-array-write-last c = search needs
 
 returns : tie.Need-returns
 returns c =
@@ -37,9 +28,9 @@ pub marked-spec : {M : Type 1} → statement M
 marked-spec =
     tie.close
     (tie.spec
-    array-share-prefix-block
+    (λ c. search needs)
     slice-aggregate-copy
-    slice-aggregate-copy-2
+    (λ c. search needs)
     copy-requires
-    array-write-last
+    (λ c. search needs)
     returns)

@@ -10,27 +10,6 @@ use borrow.Author.Needs.{needs}
 use Rattle.sha256.proofs.with_length.Statement.{statement}
 use Rattle.sha256.proofs.with_length.Tie as tie
 
-mul-bytes64 : tie.Need-mul-bytes64
-mul-bytes64 c = search needs
-
-bytes64-requires : tie.Need-bytes64-requires
-bytes64-requires c κs = search needs
-
-slice-aggregate-copy : tie.Need-slice-aggregate-copy
-slice-aggregate-copy c = search needs
-
-sub-copy : tie.Need-sub-copy
-sub-copy c = search needs
-
-part-last-start : tie.Need-part-last-start
-part-last-start c = search needs
-
-part-last-end : tie.Need-part-last-end
-part-last-end c = search needs
-
-copy-requires : tie.Need-copy-requires
-copy-requires c κs = search needs
-
 returns : tie.Need-returns
 returns c =
     let made = c .before .before .before .before in
@@ -46,11 +25,11 @@ pub with-length-spec : {M : Type 1} → statement M
 with-length-spec =
     tie.close
     (tie.spec
-    mul-bytes64
-    bytes64-requires
-    slice-aggregate-copy
-    sub-copy
-    part-last-start
-    part-last-end
-    copy-requires
+    (λ c. search needs)
+    (λ c κs. search needs)
+    (λ c. search needs)
+    (λ c. search needs)
+    (λ c. search needs)
+    (λ c. search needs)
+    (λ c κs. search needs)
     returns)

@@ -10,27 +10,6 @@ use borrow.Author.Needs.{needs}
 use Rattle.sha256.proofs.with_word.Statement.{statement}
 use Rattle.sha256.proofs.with_word.Tie as tie
 
-bytes32-requires : tie.Need-bytes32-requires
-bytes32-requires c κs = search needs
-
-slice-aggregate-copy : tie.Need-slice-aggregate-copy
-slice-aggregate-copy c = search needs
-
-add-copy : tie.Need-add-copy
-add-copy c = search needs
-
-sub-copy : tie.Need-sub-copy
-sub-copy c = search needs
-
-part-next-start : tie.Need-part-next-start
-part-next-start c = search needs
-
-part-next-end : tie.Need-part-next-end
-part-next-end c = search needs
-
-copy-requires : tie.Need-copy-requires
-copy-requires c κs = search needs
-
 returns : tie.Need-returns
 returns c =
     let made = c .before .before .before .before in
@@ -45,11 +24,11 @@ pub with-word-spec : {M : Type 1} → statement M
 with-word-spec =
     tie.close
     (tie.spec
-    bytes32-requires
-    slice-aggregate-copy
-    add-copy
-    sub-copy
-    part-next-start
-    part-next-end
-    copy-requires
+    (λ c κs. search needs)
+    (λ c. search needs)
+    (λ c. search needs)
+    (λ c. search needs)
+    (λ c. search needs)
+    (λ c. search needs)
+    (λ c κs. search needs)
     returns)

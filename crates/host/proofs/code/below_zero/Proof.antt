@@ -5,9 +5,6 @@ use Rattle.host.proofs.Signed.{minus-fits, minus}
 use Rattle.host.proofs.code.below_zero.Statement.{statement}
 use Rattle.host.proofs.code.below_zero.Tie as tie
 
-cast-result : tie.Need-cast-result
-cast-result c = search needs
-
 sub-result : tie.Need-sub-result
 sub-result c = minus-fits (c .args .n) (search needs)
 
@@ -15,4 +12,4 @@ returns : tie.Need-returns
 returns c = minus (c .args .n) (search needs)
 
 pub below-zero-spec : {M : Type 1} → statement M
-below-zero-spec = tie.close (tie.spec cast-result sub-result returns)
+below-zero-spec = tie.close (tie.spec (λ c. search needs) sub-result returns)

@@ -10,20 +10,11 @@ use Rattle.host.proofs.Signed.{handed-on}
 use Rattle.host.proofs.code.of_answer.Statement.{statement}
 use Rattle.host.proofs.code.of_answer.Tie as tie
 
-enum-known-said : tie.Need-enum-known-said
-enum-known-said c = search needs
-
 small : (c : tie.After-known-told) → c .before .said .given .0 .0 < 2 ^ 31
 small c = rw (c .before .said .given .1) at (c .before .before .before .pre)
 
 cast-result : tie.Need-cast-result
 cast-result c = record { sfits = omega (arith, small c) }
-
-enum-known-said-2 : tie.Need-enum-known-said-2
-enum-known-said-2 c = search needs
-
-of-refusal-requires : tie.Need-of-refusal-requires
-of-refusal-requires c κs = search needs
 
 returns : tie.Need-returns
 returns c = rw (c .before .said .given .1) (toZ-pos w32 (small c))
@@ -34,4 +25,4 @@ returns-2 c = rw (c .before .before .said2 .given .1) (handed-on _ (c .of-refusa
 pub of-answer-spec : {M : Type 1} → statement M
 of-answer-spec =
     tie.close
-    (tie.spec enum-known-said cast-result enum-known-said-2 of-refusal-requires returns returns-2)
+    (tie.spec (λ c. search needs) cast-result (λ c. search needs) (λ c κs. search needs) returns returns-2)

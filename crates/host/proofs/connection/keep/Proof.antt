@@ -11,21 +11,6 @@ use Rattle.host.proofs.Keeping.{kept-wrote, kept-alert, kept-same}
 use Rattle.host.proofs.connection.keep.Statement.{statement}
 use Rattle.host.proofs.connection.keep.Tie as tie
 
-enum-told : tie.Need-enum-told
-enum-told c = search needs
-
-save-requires : tie.Need-save-requires
-save-requires c κs = search needs
-
-enum-known-said : tie.Need-enum-known-said
-enum-known-said c = search needs
-
-for-client-requires : tie.Need-for-client-requires
-for-client-requires c κs = search needs
-
-save-requires-2 : tie.Need-save-requires-2
-save-requires-2 c κs = search needs
-
 -- where the ways meet
 met : (c : tie.At-match-came)
     → (c .match .said ≡ c .before .args .said) × Kept (c .before .args .said) (c .before .args .next) (c .before .args .connection .now) (c .match .connection)
@@ -50,10 +35,10 @@ pub keep-spec : {M : Type 1} → statement M
 keep-spec =
     tie.close
     (tie.spec
-    enum-told
-    save-requires
-    enum-known-said
-    for-client-requires
-    save-requires-2
+    (λ c. search needs)
+    (λ c κs. search needs)
+    (λ c. search needs)
+    (λ c κs. search needs)
+    (λ c κs. search needs)
     of-answer-requires
     returns)

@@ -11,12 +11,6 @@ use Rattle.host.proofs.Keeping.{step-count, keeps}
 use Rattle.host.proofs.connection.tn_alert.Statement.{statement}
 use Rattle.host.proofs.connection.tn_alert.Tie as tie
 
-restore-requires : tie.Need-restore-requires
-restore-requires c κs = search needs
-
-alert-requires : tie.Need-alert-requires
-alert-requires c κs = search needs
-
 keep-requires : tie.Need-keep-requires
 keep-requires c κs =
     let a = c .before .before .before .before .before .args in
@@ -32,4 +26,4 @@ returns c =
     (ap (λ (y : Answer). y .said) answer) (ap (λ (y : Answer). y .next) answer) (c .keep .ok) (c .keep .ensures .0) (c .keep .ensures .1)
 
 pub tn-alert-spec : {M : Type 1} → statement M
-tn-alert-spec = tie.close (tie.spec restore-requires alert-requires keep-requires returns)
+tn-alert-spec = tie.close (tie.spec (λ c κs. search needs) (λ c κs. search needs) keep-requires returns)

@@ -11,12 +11,6 @@ use Rattle.host.proofs.Keeping.{step-count, keeps}
 use Rattle.host.proofs.connection.tn_change_of_cipher.Statement.{statement}
 use Rattle.host.proofs.connection.tn_change_of_cipher.Tie as tie
 
-restore-requires : tie.Need-restore-requires
-restore-requires c κs = search needs
-
-change-of-cipher-requires : tie.Need-change-of-cipher-requires
-change-of-cipher-requires c κs = search needs
-
 keep-requires : tie.Need-keep-requires
 keep-requires c κs =
     let x = c .before .before .before .restore .result in
@@ -32,4 +26,4 @@ returns c =
 
 pub tn-change-of-cipher-spec : {M : Type 1} → statement M
 tn-change-of-cipher-spec =
-    tie.close (tie.spec restore-requires change-of-cipher-requires keep-requires returns)
+    tie.close (tie.spec (λ c κs. search needs) (λ c κs. search needs) keep-requires returns)

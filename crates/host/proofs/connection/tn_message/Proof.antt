@@ -15,12 +15,6 @@ use Rattle.host.proofs.Keeping.{step-count, keeps, reply-parts, master-
 use Rattle.host.proofs.connection.tn_message.Statement.{statement}
 use Rattle.host.proofs.connection.tn_message.Tie as tie
 
-restore-requires : tie.Need-restore-requires
-restore-requires c κs = search needs
-
-message-requires : tie.Need-message-requires
-message-requires c κs = search needs
-
 -- the entry, seen from the server's reply
 abbrev entry : tie.After-message → tie.Start
 entry c = c .before .before .before .before .before .before .before
@@ -55,9 +49,6 @@ keep-requires c κs =
     let brief = subst (λ (x : Connection). Brief (stepOn m x)) (sym (restored-as m)) (message-brief (view m) (a .connection .now) (a .message .now)) in
     step-count (was m) (a .out .now) (stepOn m (was m)) (parts m .0) brief
 
-same-length : tie.Need-same-length
-same-length c = search needs
-
 returns : tie.Need-returns
 returns c =
     let m = c .before .before .before .before .before .before in
@@ -74,4 +65,4 @@ returns c =
 
 pub tn-message-spec : {M : Type 1} → statement M
 tn-message-spec =
-    tie.close (tie.spec restore-requires message-requires keep-requires same-length returns)
+    tie.close (tie.spec (λ c κs. search needs) (λ c κs. search needs) keep-requires (λ c. search needs) returns)

@@ -10,19 +10,10 @@ use Rattle.server.specs.Saved.{phaseByte}
 use Rattle.host.proofs.connection.tn_phase.Statement.{statement}
 use Rattle.host.proofs.connection.tn_phase.Tie as tie
 
-restore-requires : tie.Need-restore-requires
-restore-requires c κs = search needs
-
-phase-requires : tie.Need-phase-requires
-phase-requires c κs = search needs
-
-cast-result : tie.Need-cast-result
-cast-result c = search needs
-
 returns : tie.Need-returns
 returns c =
     toZ-pos w32 (search (needs, c .phase .ok))
     ∙ ap pos (c .phase .ensures ∙ ap (λ (x : Connection). phaseByte (x .phase)) (c .before .restore .ensures))
 
 pub tn-phase-spec : {M : Type 1} → statement M
-tn-phase-spec = tie.close (tie.spec restore-requires phase-requires cast-result returns)
+tn-phase-spec = tie.close (tie.spec (λ c κs. search needs) (λ c κs. search needs) (λ c. search needs) returns)

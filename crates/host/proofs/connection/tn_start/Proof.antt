@@ -9,20 +9,11 @@ use Rattle.host.proofs.Keeping.{kept-same, start-count, starts}
 use Rattle.host.proofs.connection.tn_start.Statement.{statement}
 use Rattle.host.proofs.connection.tn_start.Tie as tie
 
-of-refusal-requires : tie.Need-of-refusal-requires
-of-refusal-requires c κs = search needs
-
 returns : tie.Need-returns
 returns c =
     let a = c .before .before .before .before .before .args in
     rw (lt-leb (a .rule) 2 (omega (arith, c .before .if1 .taken)))
     (starts {a = badSetting} refl (c .of-refusal .ok) (c .of-refusal .ensures) (kept-same refl refl refl))
-
-named-requires : tie.Need-named-requires
-named-requires c κs = search needs
-
-start-requires : tie.Need-start-requires
-start-requires c κs = search needs
 
 keep-requires : tie.Need-keep-requires
 keep-requires c κs =
@@ -41,4 +32,4 @@ returns-2 c =
 pub tn-start-spec : {M : Type 1} → statement M
 tn-start-spec =
     tie.close
-    (tie.spec of-refusal-requires returns named-requires start-requires keep-requires returns-2)
+    (tie.spec (λ c κs. search needs) returns (λ c κs. search needs) (λ c κs. search needs) keep-requires returns-2)

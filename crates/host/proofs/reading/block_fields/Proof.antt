@@ -5,12 +5,6 @@ use Rattle.host.specs.Inner.{Fits}
 use Rattle.host.proofs.reading.block_fields.Statement.{statement}
 use Rattle.host.proofs.reading.block_fields.Tie as tie
 
-enum-told : tie.Need-enum-told
-enum-told c = search needs
-
-enum-known-block : tie.Need-enum-known-block
-enum-known-block c = search needs
-
 fits : (c : tie.After-known-told) → Fits (c .before .block .given .0 .0) (c .before .block .given .0 .1 .0)
 fits c = rw (c .before .block .given .1) at (c .before .before .before .pre)
 
@@ -20,12 +14,9 @@ cast-t5 c = record { fits = fits c .start-fits }
 cast-t6 : tie.Need-cast-t6
 cast-t6 c = record { fits = fits c .len-fits }
 
-returns : tie.Need-returns
-returns c = search needs
-
 returns-2 : tie.Need-returns-2
 returns-2 c = rw (c .before .block .given .1)
 
 pub block-fields-spec : {M : Type 1} → statement M
 block-fields-spec =
-    tie.close (tie.spec enum-told enum-known-block cast-t5 cast-t6 returns returns-2)
+    tie.close (tie.spec (λ c. search needs) (λ c. search needs) cast-t5 cast-t6 (λ c. search needs) returns-2)

@@ -7,9 +7,6 @@ use Rattle.host.proofs.Readings.{part-refused}
 use Rattle.host.proofs.reading.put_part.Statement.{statement}
 use Rattle.host.proofs.reading.put_part.Tie as tie
 
-enum-known-part : tie.Need-enum-known-part
-enum-known-part c = search needs
-
 fits : (c : tie.After-known-told) → Fits (c .before .part .given .0 .0) (c .before .part .given .0 .1 .0)
 fits c = rw (c .before .part .given .1) at (c .before .before .before .pre)
 
@@ -18,12 +15,6 @@ cast-t7 c = record { fits = fits c .start-fits }
 
 cast-t8 : tie.Need-cast-t8
 cast-t8 c = record { fits = fits c .len-fits }
-
-enum-known-part-2 : tie.Need-enum-known-part-2
-enum-known-part-2 c = search needs
-
-of-refusal-requires : tie.Need-of-refusal-requires
-of-refusal-requires c κs = search needs
 
 returns : tie.Need-returns
 returns c = rw (c .before .before .part .given .1) (record { told = refl; left = refl })
@@ -35,10 +26,10 @@ pub put-part-spec : {M : Type 1} → statement M
 put-part-spec =
     tie.close
     (tie.spec
-    enum-known-part
+    (λ c. search needs)
     cast-t7
     cast-t8
-    enum-known-part-2
-    of-refusal-requires
+    (λ c. search needs)
+    (λ c κs. search needs)
     returns
     returns-2)

@@ -14,19 +14,10 @@ use Rattle.host.proofs.Places.{StepFits, step-fits}
 use Rattle.host.proofs.reading.tn_next_extension.Statement.{statement}
 use Rattle.host.proofs.reading.tn_next_extension.Tie as tie
 
-of-refusal-requires : tie.Need-of-refusal-requires
-of-refusal-requires c κs = search needs
-
 returns : tie.Need-returns
 returns c =
     rw (lt-leb (length (c .before .before .before .args .block .now)) 65535 (omega (arith, c .before .if1 .taken)))
     (refusal-read DecodeError (c .of-refusal .ok) (c .of-refusal .ensures))
-
-next-requires : tie.Need-next-requires
-next-requires c κs = search needs
-
-enum-known-kind : tie.Need-enum-known-kind
-enum-known-kind c = search needs
 
 abbrev said : tie.After-known-told → Step
 said c = let given = c .before .kind .given .0 in Step.Extension (given .0) (given .1 .0) (given .1 .1 .0)
@@ -49,15 +40,6 @@ cast-t14 c = record { fits = fits c .place .start-fits }
 
 cast-t15 : tie.Need-cast-t15
 cast-t15 c = record { fits = fits c .place .len-fits }
-
-enum-told : tie.Need-enum-told
-enum-told c = search needs
-
-enum-known-r : tie.Need-enum-known-r
-enum-known-r c = search needs
-
-of-refusal-requires-2 : tie.Need-of-refusal-requires-2
-of-refusal-requires-2 c κs = search needs
 
 returns-2 : tie.Need-returns-2
 returns-2 c =
@@ -82,16 +64,16 @@ pub tn-next-extension-spec : {M : Type 1} → statement M
 tn-next-extension-spec =
     tie.close
     (tie.spec
-    of-refusal-requires
+    (λ c κs. search needs)
     returns
-    next-requires
-    enum-known-kind
+    (λ c κs. search needs)
+    (λ c. search needs)
     cast-t13
     cast-t14
     cast-t15
-    enum-told
-    enum-known-r
-    of-refusal-requires-2
+    (λ c. search needs)
+    (λ c. search needs)
+    (λ c κs. search needs)
     returns-2
     returns-3
     returns-4)

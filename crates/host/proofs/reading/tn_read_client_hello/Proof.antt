@@ -11,12 +11,6 @@ use Rattle.host.proofs.Places.{ClientFits, client-fits}
 use Rattle.host.proofs.reading.tn_read_client_hello.Statement.{statement}
 use Rattle.host.proofs.reading.tn_read_client_hello.Tie as tie
 
-read-requires : tie.Need-read-requires
-read-requires c κs = search needs
-
-enum-known-version : tie.Need-enum-known-version
-enum-known-version c = search needs
-
 abbrev said : tie.After-known-told → Client
 said c =
     let given = c .before .version .given .0 in
@@ -53,21 +47,6 @@ cast-t19 c = record { fits = fits (c .before) .methods .start-fits }
 cast-t20 : tie.Need-cast-t20
 cast-t20 c = record { fits = fits (c .before) .methods .len-fits }
 
-array-read-t23 : tie.Need-array-read-t23
-array-read-t23 c = search needs
-
-array-read-t26 : tie.Need-array-read-t26
-array-read-t26 c = search needs
-
-array-read-t29 : tie.Need-array-read-t29
-array-read-t29 c = search needs
-
-enum-known-r : tie.Need-enum-known-r
-enum-known-r c = search needs
-
-of-refusal-requires : tie.Need-of-refusal-requires
-of-refusal-requires c κs = search needs
-
 returns : tie.Need-returns
 returns c =
     let b = c .before .before .before .version .given .0 .1 .1 .1 .1 .1 .1 .0 in
@@ -83,8 +62,8 @@ pub tn-read-client-hello-spec : {M : Type 1} → statement M
 tn-read-client-hello-spec =
     tie.close
     (tie.spec
-    read-requires
-    enum-known-version
+    (λ c κs. search needs)
+    (λ c. search needs)
     block-fields-requires
     cast-t15
     cast-t16
@@ -92,10 +71,10 @@ tn-read-client-hello-spec =
     cast-t18
     cast-t19
     cast-t20
-    array-read-t23
-    array-read-t26
-    array-read-t29
-    enum-known-r
-    of-refusal-requires
+    (λ c. search needs)
+    (λ c. search needs)
+    (λ c. search needs)
+    (λ c. search needs)
+    (λ c κs. search needs)
     returns
     returns-2)

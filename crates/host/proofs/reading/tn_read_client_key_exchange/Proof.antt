@@ -8,9 +8,6 @@ use Rattle.host.proofs.Places.{vector-fits}
 use Rattle.host.proofs.reading.tn_read_client_key_exchange.Statement.{statement}
 use Rattle.host.proofs.reading.tn_read_client_key_exchange.Tie as tie
 
-read-identity-requires : tie.Need-read-identity-requires
-read-identity-requires c κs = search needs
-
 put-part-requires : tie.Need-put-part-requires
 put-part-requires c κs =
     let m = c .before .before .before .args .message .now in
@@ -22,4 +19,4 @@ returns c = rw (c .before .before .read-identity .ensures) at (reading (c .put-p
 
 pub tn-read-client-key-exchange-spec : {M : Type 1} → statement M
 tn-read-client-key-exchange-spec =
-    tie.close (tie.spec read-identity-requires put-part-requires returns)
+    tie.close (tie.spec (λ c κs. search needs) put-part-requires returns)

@@ -8,9 +8,6 @@ use Rattle.host.proofs.Places.{finished-fits}
 use Rattle.host.proofs.reading.tn_read_finished.Statement.{statement}
 use Rattle.host.proofs.reading.tn_read_finished.Tie as tie
 
-read-finished-requires : tie.Need-read-finished-requires
-read-finished-requires c κs = search needs
-
 put-part-requires : tie.Need-put-part-requires
 put-part-requires c κs =
     let m = c .before .before .before .args .message .now in
@@ -21,4 +18,4 @@ returns : tie.Need-returns
 returns c = rw (c .before .before .read-finished .ensures) at (reading (c .put-part .ensures) (c .put-part .ok))
 
 pub tn-read-finished-spec : {M : Type 1} → statement M
-tn-read-finished-spec = tie.close (tie.spec read-finished-requires put-part-requires returns)
+tn-read-finished-spec = tie.close (tie.spec (λ c κs. search needs) put-part-requires returns)

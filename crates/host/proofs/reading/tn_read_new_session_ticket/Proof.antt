@@ -11,12 +11,6 @@ use Rattle.host.proofs.Places.{TicketFits, ticket-fits}
 use Rattle.host.proofs.reading.tn_read_new_session_ticket.Statement.{statement}
 use Rattle.host.proofs.reading.tn_read_new_session_ticket.Tie as tie
 
-read-requires : tie.Need-read-requires
-read-requires c κs = search needs
-
-enum-known-lifetime-hint : tie.Need-enum-known-lifetime-hint
-enum-known-lifetime-hint c = search needs
-
 abbrev said : tie.After-known-told → Ticket
 said c = let given = c .before .lifetime-hint .given .0 in Ticket.Read (given .0) (given .1 .0) (given .1 .1 .0)
 
@@ -35,12 +29,6 @@ cast-t9 c = record { fits = fits c .start-fits }
 cast-t10 : tie.Need-cast-t10
 cast-t10 c = record { fits = fits c .len-fits }
 
-enum-known-r : tie.Need-enum-known-r
-enum-known-r c = search needs
-
-of-refusal-requires : tie.Need-of-refusal-requires
-of-refusal-requires c κs = search needs
-
 returns : tie.Need-returns
 returns c = rw (found (c .before)) (record { told = refl; left = refl })
 
@@ -53,11 +41,11 @@ pub tn-read-new-session-ticket-spec : {M : Type 1} → statement M
 tn-read-new-session-ticket-spec =
     tie.close
     (tie.spec
-    read-requires
-    enum-known-lifetime-hint
+    (λ c κs. search needs)
+    (λ c. search needs)
     cast-t9
     cast-t10
-    enum-known-r
-    of-refusal-requires
+    (λ c. search needs)
+    (λ c κs. search needs)
     returns
     returns-2)

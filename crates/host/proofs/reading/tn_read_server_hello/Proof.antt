@@ -11,12 +11,6 @@ use Rattle.host.proofs.Places.{ServerFits, server-fits}
 use Rattle.host.proofs.reading.tn_read_server_hello.Statement.{statement}
 use Rattle.host.proofs.reading.tn_read_server_hello.Tie as tie
 
-read-requires : tie.Need-read-requires
-read-requires c κs = search needs
-
-enum-known-version : tie.Need-enum-known-version
-enum-known-version c = search needs
-
 abbrev said : tie.After-known-told → Server
 said c = let given = c .before .version .given .0 in Server.Read (given .0) (given .1 .0) (given .1 .1 .0) (given .1 .1 .1 .0) (given .1 .1 .1 .1 .0)
 
@@ -41,24 +35,6 @@ cast-t14 c = record { fits = fits (c .before) .session-fits }
 cast-t15 : tie.Need-cast-t15
 cast-t15 c = record { fits = fits (c .before) .suite-fits }
 
-cast-t16 : tie.Need-cast-t16
-cast-t16 c = search needs
-
-array-read-t19 : tie.Need-array-read-t19
-array-read-t19 c = search needs
-
-array-read-t22 : tie.Need-array-read-t22
-array-read-t22 c = search needs
-
-array-read-t25 : tie.Need-array-read-t25
-array-read-t25 c = search needs
-
-enum-known-r : tie.Need-enum-known-r
-enum-known-r c = search needs
-
-of-refusal-requires : tie.Need-of-refusal-requires
-of-refusal-requires c κs = search needs
-
 returns : tie.Need-returns
 returns c =
     let b = c .before .before .before .version .given .0 .1 .1 .1 .1 .0 in
@@ -74,17 +50,17 @@ pub tn-read-server-hello-spec : {M : Type 1} → statement M
 tn-read-server-hello-spec =
     tie.close
     (tie.spec
-    read-requires
-    enum-known-version
+    (λ c κs. search needs)
+    (λ c. search needs)
     block-fields-requires
     cast-t13
     cast-t14
     cast-t15
-    cast-t16
-    array-read-t19
-    array-read-t22
-    array-read-t25
-    enum-known-r
-    of-refusal-requires
+    (λ c. search needs)
+    (λ c. search needs)
+    (λ c. search needs)
+    (λ c. search needs)
+    (λ c. search needs)
+    (λ c κs. search needs)
     returns
     returns-2)

@@ -6,18 +6,6 @@ use Rattle.host.proofs.Signed.{handed-on}
 use Rattle.host.proofs.reading.tn_read_server_hello_done.Statement.{statement}
 use Rattle.host.proofs.reading.tn_read_server_hello_done.Tie as tie
 
-read-done-requires : tie.Need-read-done-requires
-read-done-requires c κs = search needs
-
-enum-told : tie.Need-enum-told
-enum-told c = search needs
-
-enum-known-r : tie.Need-enum-known-r
-enum-known-r c = search needs
-
-of-refusal-requires : tie.Need-of-refusal-requires
-of-refusal-requires c κs = search needs
-
 returns : tie.Need-returns
 returns c = rw (sym (c .before .before .read-done .ensures) ∙ c .enum-told .given .1)
 
@@ -29,4 +17,4 @@ returns-2 c =
 pub tn-read-server-hello-done-spec : {M : Type 1} → statement M
 tn-read-server-hello-done-spec =
     tie.close
-    (tie.spec read-done-requires enum-told enum-known-r of-refusal-requires returns returns-2)
+    (tie.spec (λ c κs. search needs) (λ c. search needs) (λ c. search needs) (λ c κs. search needs) returns returns-2)

@@ -8,9 +8,6 @@ use Rattle.host.proofs.Places.{vector-fits}
 use Rattle.host.proofs.reading.tn_read_server_key_exchange.Statement.{statement}
 use Rattle.host.proofs.reading.tn_read_server_key_exchange.Tie as tie
 
-read-hint-requires : tie.Need-read-hint-requires
-read-hint-requires c κs = search needs
-
 put-part-requires : tie.Need-put-part-requires
 put-part-requires c κs =
     let m = c .before .before .before .args .message .now in
@@ -22,4 +19,4 @@ returns c = rw (c .before .before .read-hint .ensures) at (reading (c .put-part 
 
 pub tn-read-server-key-exchange-spec : {M : Type 1} → statement M
 tn-read-server-key-exchange-spec =
-    tie.close (tie.spec read-hint-requires put-part-requires returns)
+    tie.close (tie.spec (λ c κs. search needs) put-part-requires returns)

@@ -8,9 +8,6 @@ use Rattle.host.proofs.Places.{ticket-extension-fits}
 use Rattle.host.proofs.reading.tn_read_ticket_extension.Statement.{statement}
 use Rattle.host.proofs.reading.tn_read_ticket_extension.Tie as tie
 
-ticket-requires : tie.Need-ticket-requires
-ticket-requires c κs = search needs
-
 put-part-requires : tie.Need-put-part-requires
 put-part-requires c κs =
     let m = c .before .before .before .args .contents .now in
@@ -21,4 +18,4 @@ returns : tie.Need-returns
 returns c = rw (c .before .before .ticket .ensures) at (reading (c .put-part .ensures) (c .put-part .ok))
 
 pub tn-read-ticket-extension-spec : {M : Type 1} → statement M
-tn-read-ticket-extension-spec = tie.close (tie.spec ticket-requires put-part-requires returns)
+tn-read-ticket-extension-spec = tie.close (tie.spec (λ c κs. search needs) put-part-requires returns)

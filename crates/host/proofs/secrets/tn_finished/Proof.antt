@@ -8,25 +8,13 @@ use Rattle.host.proofs.Sizes.{verify-small}
 use Rattle.host.proofs.secrets.tn_finished.Statement.{statement}
 use Rattle.host.proofs.secrets.tn_finished.Tie as tie
 
-of-refusal-requires : tie.Need-of-refusal-requires
-of-refusal-requires c κs = search needs
-
 returns : tie.Need-returns
 returns c =
     rw (lt-leb (c .before .before .before .before .before .args .side) 1 (omega (arith, c .before .if1 .taken)))
     (refusal-codes (c .of-refusal .ok) (c .of-refusal .ensures))
 
-side-of-requires : tie.Need-side-of-requires
-side-of-requires c κs = search needs
-
-finished-requires : tie.Need-finished-requires
-finished-requires c κs = search needs
-
 of-answer-requires : tie.Need-of-answer-requires
 of-answer-requires c κs = few (c .before .before .finished .ensures) (verify-small _ _ _)
-
-same-length : tie.Need-same-length
-same-length c = search needs
 
 returns-2 : tie.Need-returns-2
 returns-2 c =
@@ -39,10 +27,10 @@ pub tn-finished-spec : {M : Type 1} → statement M
 tn-finished-spec =
     tie.close
     (tie.spec
-    of-refusal-requires
+    (λ c κs. search needs)
     returns
-    side-of-requires
-    finished-requires
+    (λ c κs. search needs)
+    (λ c κs. search needs)
     of-answer-requires
-    same-length
+    (λ c. search needs)
     returns-2)

@@ -6,17 +6,11 @@ use Rattle.host.proofs.Sizes.{hmac-small}
 use Rattle.host.proofs.secrets.tn_hmac.Statement.{statement}
 use Rattle.host.proofs.secrets.tn_hmac.Tie as tie
 
-hmac-requires : tie.Need-hmac-requires
-hmac-requires c κs = search needs
-
 of-answer-requires : tie.Need-of-answer-requires
 of-answer-requires c κs = few (c .before .before .hmac .ensures) (hmac-small _ _)
-
-same-length : tie.Need-same-length
-same-length c = search needs
 
 returns : tie.Need-returns
 returns c = codes (c .before .before .before .hmac .ensures) (c .of-answer .ok) (c .of-answer .ensures)
 
 pub tn-hmac-spec : {M : Type 1} → statement M
-tn-hmac-spec = tie.close (tie.spec hmac-requires of-answer-requires same-length returns)
+tn-hmac-spec = tie.close (tie.spec (λ c κs. search needs) of-answer-requires (λ c. search needs) returns)

@@ -6,17 +6,11 @@ use Rattle.host.proofs.Sizes.{keys-small}
 use Rattle.host.proofs.secrets.tn_key_block.Statement.{statement}
 use Rattle.host.proofs.secrets.tn_key_block.Tie as tie
 
-key-block-requires : tie.Need-key-block-requires
-key-block-requires c κs = search needs
-
 of-answer-requires : tie.Need-of-answer-requires
 of-answer-requires c κs = few (c .before .before .key-block .ensures) (keys-small _ _ _ _)
-
-same-length : tie.Need-same-length
-same-length c = search needs
 
 returns : tie.Need-returns
 returns c = codes (c .before .before .before .key-block .ensures) (c .of-answer .ok) (c .of-answer .ensures)
 
 pub tn-key-block-spec : {M : Type 1} → statement M
-tn-key-block-spec = tie.close (tie.spec key-block-requires of-answer-requires same-length returns)
+tn-key-block-spec = tie.close (tie.spec (λ c κs. search needs) of-answer-requires (λ c. search needs) returns)

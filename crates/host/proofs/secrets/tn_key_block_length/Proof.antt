@@ -8,9 +8,6 @@ use Rattle.host.proofs.Sizes.{key-block-few}
 use Rattle.host.proofs.secrets.tn_key_block_length.Statement.{statement}
 use Rattle.host.proofs.secrets.tn_key_block_length.Tie as tie
 
-key-block-length-requires : tie.Need-key-block-length-requires
-key-block-length-requires c κs = search needs
-
 of-answer-requires : tie.Need-of-answer-requires
 of-answer-requires c κs = rw (c .key-block-length .ensures) (key-block-few (c .before .args .suite))
 
@@ -19,4 +16,4 @@ returns c = handed-on _ (c .of-answer .ok) ∙ c .of-answer .ensures ∙ ap pos 
 
 pub tn-key-block-length-spec : {M : Type 1} → statement M
 tn-key-block-length-spec =
-    tie.close (tie.spec key-block-length-requires of-answer-requires returns)
+    tie.close (tie.spec (λ c κs. search needs) of-answer-requires returns)

@@ -6,17 +6,11 @@ use Rattle.host.proofs.Sizes.{master-small}
 use Rattle.host.proofs.secrets.tn_master.Statement.{statement}
 use Rattle.host.proofs.secrets.tn_master.Tie as tie
 
-master-requires : tie.Need-master-requires
-master-requires c κs = search needs
-
 of-answer-requires : tie.Need-of-answer-requires
 of-answer-requires c κs = few (c .before .before .master .ensures) (master-small _ _ _)
-
-same-length : tie.Need-same-length
-same-length c = search needs
 
 returns : tie.Need-returns
 returns c = codes (c .before .before .before .master .ensures) (c .of-answer .ok) (c .of-answer .ensures)
 
 pub tn-master-spec : {M : Type 1} → statement M
-tn-master-spec = tie.close (tie.spec master-requires of-answer-requires same-length returns)
+tn-master-spec = tie.close (tie.spec (λ c κs. search needs) of-answer-requires (λ c. search needs) returns)

@@ -6,17 +6,11 @@ use Rattle.host.proofs.Sizes.{premaster-small}
 use Rattle.host.proofs.secrets.tn_premaster.Statement.{statement}
 use Rattle.host.proofs.secrets.tn_premaster.Tie as tie
 
-premaster-requires : tie.Need-premaster-requires
-premaster-requires c κs = search needs
-
 of-answer-requires : tie.Need-of-answer-requires
 of-answer-requires c κs = few (c .before .before .premaster .ensures) (premaster-small _)
-
-same-length : tie.Need-same-length
-same-length c = search needs
 
 returns : tie.Need-returns
 returns c = codes (c .before .before .before .premaster .ensures) (c .of-answer .ok) (c .of-answer .ensures)
 
 pub tn-premaster-spec : {M : Type 1} → statement M
-tn-premaster-spec = tie.close (tie.spec premaster-requires of-answer-requires same-length returns)
+tn-premaster-spec = tie.close (tie.spec (λ c κs. search needs) of-answer-requires (λ c. search needs) returns)

@@ -8,25 +8,13 @@ use Rattle.host.proofs.Sizes.{prf-small}
 use Rattle.host.proofs.secrets.tn_prf.Statement.{statement}
 use Rattle.host.proofs.secrets.tn_prf.Tie as tie
 
-of-refusal-requires : tie.Need-of-refusal-requires
-of-refusal-requires c κs = search needs
-
 returns : tie.Need-returns
 returns c =
     rw (lt-leb (c .before .before .before .before .before .args .label) 3 (omega (arith, c .before .if1 .taken)))
     (refusal-codes (c .of-refusal .ok) (c .of-refusal .ensures))
 
-label-of-requires : tie.Need-label-of-requires
-label-of-requires c κs = search needs
-
-prf-requires : tie.Need-prf-requires
-prf-requires c κs = search needs
-
 of-answer-requires : tie.Need-of-answer-requires
 of-answer-requires c κs = few (c .before .before .prf .ensures) (prf-small _ _ _ _)
-
-same-length : tie.Need-same-length
-same-length c = search needs
 
 returns-2 : tie.Need-returns-2
 returns-2 c =
@@ -39,10 +27,10 @@ pub tn-prf-spec : {M : Type 1} → statement M
 tn-prf-spec =
     tie.close
     (tie.spec
-    of-refusal-requires
+    (λ c κs. search needs)
     returns
-    label-of-requires
-    prf-requires
+    (λ c κs. search needs)
+    (λ c κs. search needs)
     of-answer-requires
-    same-length
+    (λ c. search needs)
     returns-2)

@@ -6,17 +6,11 @@ use Rattle.host.proofs.Sizes.{sha256-small}
 use Rattle.host.proofs.secrets.tn_sha256.Statement.{statement}
 use Rattle.host.proofs.secrets.tn_sha256.Tie as tie
 
-hash-requires : tie.Need-hash-requires
-hash-requires c κs = search needs
-
 of-answer-requires : tie.Need-of-answer-requires
 of-answer-requires c κs = few (c .before .before .hash .ensures) (sha256-small _)
-
-same-length : tie.Need-same-length
-same-length c = search needs
 
 returns : tie.Need-returns
 returns c = codes (c .before .before .before .hash .ensures) (c .of-answer .ok) (c .of-answer .ensures)
 
 pub tn-sha256-spec : {M : Type 1} → statement M
-tn-sha256-spec = tie.close (tie.spec hash-requires of-answer-requires same-length returns)
+tn-sha256-spec = tie.close (tie.spec (λ c κs. search needs) of-answer-requires (λ c. search needs) returns)

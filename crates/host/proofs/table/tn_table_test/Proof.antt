@@ -6,18 +6,12 @@ use Rattle.host.proofs.Signed.{handed-on}
 use Rattle.host.proofs.table.tn_table_test.Statement.{statement}
 use Rattle.host.proofs.table.tn_table_test.Tie as tie
 
-well-formed-requires : tie.Need-well-formed-requires
-well-formed-requires c κs = search needs
-
 returns : tie.Need-returns
 returns c = rw (sym (c .before .well-formed .ensures) ∙ c .if1 .taken)
-
-of-refusal-requires : tie.Need-of-refusal-requires
-of-refusal-requires c κs = search needs
 
 returns-2 : tie.Need-returns-2
 returns-2 c = rw (sym (c .before .before .well-formed .ensures) ∙ c .before .if1 .left) (handed-on _ (c .of-refusal .ok) ∙ c .of-refusal .ensures)
 
 pub tn-table-test-spec : {M : Type 1} → statement M
 tn-table-test-spec =
-    tie.close (tie.spec well-formed-requires returns of-refusal-requires returns-2)
+    tie.close (tie.spec (λ c κs. search needs) returns (λ c κs. search needs) returns-2)

@@ -5,9 +5,6 @@ use mathlib.Core.Path.{sym, _∙_}
 use Rattle.host.proofs.table.tn_valid_utf8.Statement.{statement}
 use Rattle.host.proofs.table.tn_valid_utf8.Tie as tie
 
-valid-utf8-requires : tie.Need-valid-utf8-requires
-valid-utf8-requires c κs = search needs
-
 returns : tie.Need-returns
 returns c = rw (sym (c .before .valid-utf8 .ensures) ∙ c .if1 .taken)
 
@@ -15,4 +12,4 @@ returns-2 : tie.Need-returns-2
 returns-2 c = rw (sym (c .before .valid-utf8 .ensures) ∙ c .if1 .left)
 
 pub tn-valid-utf8-spec : {M : Type 1} → statement M
-tn-valid-utf8-spec = tie.close (tie.spec valid-utf8-requires returns returns-2)
+tn-valid-utf8-spec = tie.close (tie.spec (λ c κs. search needs) returns returns-2)

@@ -6,20 +6,14 @@ use Rattle.host.proofs.Sizes.{extension-small}
 use Rattle.host.proofs.writing.tn_write_extension.Statement.{statement}
 use Rattle.host.proofs.writing.tn_write_extension.Tie as tie
 
-write-requires : tie.Need-write-requires
-write-requires c κs = search needs
-
 of-answer-requires : tie.Need-of-answer-requires
 of-answer-requires c κs =
     let a = c .before .before .before .before .before .before .args in
     few (c .before .before .write .ensures) (extension-small (record { kind = a .kind; contents = a .contents .now }))
-
-same-length : tie.Need-same-length
-same-length c = search needs
 
 returns : tie.Need-returns
 returns c = codes (c .before .before .before .write .ensures) (c .of-answer .ok) (c .of-answer .ensures)
 
 pub tn-write-extension-spec : {M : Type 1} → statement M
 tn-write-extension-spec =
-    tie.close (tie.spec write-requires of-answer-requires same-length returns)
+    tie.close (tie.spec (λ c κs. search needs) of-answer-requires (λ c. search needs) returns)

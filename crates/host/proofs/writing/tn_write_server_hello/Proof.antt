@@ -7,21 +7,15 @@ use Rattle.host.proofs.Sizes.{written-small}
 use Rattle.host.proofs.writing.tn_write_server_hello.Statement.{statement}
 use Rattle.host.proofs.writing.tn_write_server_hello.Tie as tie
 
-write-requires : tie.Need-write-requires
-write-requires c κs = search needs
-
 of-answer-requires : tie.Need-of-answer-requires
 of-answer-requires c κs =
     let a = c .before .before .before .before .before .before .before .before .args in
     let fields = serverGiven (a .version) (a .random .now) (a .session-id .now) (a .suite) (a .compression) (a .present) (a .block .now) in
     few (c .before .before .write .ensures) (written-small serverHello fields)
 
-same-length : tie.Need-same-length
-same-length c = search needs
-
 returns : tie.Need-returns
 returns c = codes (c .before .before .before .write .ensures) (c .of-answer .ok) (c .of-answer .ensures)
 
 pub tn-write-server-hello-spec : {M : Type 1} → statement M
 tn-write-server-hello-spec =
-    tie.close (tie.spec write-requires of-answer-requires same-length returns)
+    tie.close (tie.spec (λ c κs. search needs) of-answer-requires (λ c. search needs) returns)

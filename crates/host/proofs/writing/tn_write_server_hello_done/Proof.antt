@@ -8,18 +8,12 @@ use Rattle.host.proofs.Sizes.{written-small}
 use Rattle.host.proofs.writing.tn_write_server_hello_done.Statement.{statement}
 use Rattle.host.proofs.writing.tn_write_server_hello_done.Tie as tie
 
-write-done-requires : tie.Need-write-done-requires
-write-done-requires c κs = search needs
-
 of-answer-requires : tie.Need-of-answer-requires
 of-answer-requires c κs = few (c .before .before .write-done .ensures) (written-small serverHelloDone [])
-
-same-length : tie.Need-same-length
-same-length c = search needs
 
 returns : tie.Need-returns
 returns c = codes (c .before .before .before .write-done .ensures) (c .of-answer .ok) (c .of-answer .ensures)
 
 pub tn-write-server-hello-done-spec : {M : Type 1} → statement M
 tn-write-server-hello-done-spec =
-    tie.close (tie.spec write-done-requires of-answer-requires same-length returns)
+    tie.close (tie.spec (λ c κs. search needs) of-answer-requires (λ c. search needs) returns)

@@ -7,20 +7,14 @@ use Rattle.host.proofs.Sizes.{written-small}
 use Rattle.host.proofs.writing.tn_write_server_key_exchange.Statement.{statement}
 use Rattle.host.proofs.writing.tn_write_server_key_exchange.Tie as tie
 
-write-hint-requires : tie.Need-write-hint-requires
-write-hint-requires c κs = search needs
-
 of-answer-requires : tie.Need-of-answer-requires
 of-answer-requires c κs =
     let a = c .before .before .before .before .before .before .args in
     few (c .before .before .write-hint .ensures) (written-small serverKeyExchange (a .hint .now))
-
-same-length : tie.Need-same-length
-same-length c = search needs
 
 returns : tie.Need-returns
 returns c = codes (c .before .before .before .write-hint .ensures) (c .of-answer .ok) (c .of-answer .ensures)
 
 pub tn-write-server-key-exchange-spec : {M : Type 1} → statement M
 tn-write-server-key-exchange-spec =
-    tie.close (tie.spec write-hint-requires of-answer-requires same-length returns)
+    tie.close (tie.spec (λ c κs. search needs) of-answer-requires (λ c. search needs) returns)

@@ -7,20 +7,14 @@ use Rattle.host.proofs.Sizes.{extension-small}
 use Rattle.host.proofs.writing.tn_write_ticket_extension.Statement.{statement}
 use Rattle.host.proofs.writing.tn_write_ticket_extension.Tie as tie
 
-write-ticket-requires : tie.Need-write-ticket-requires
-write-ticket-requires c κs = search needs
-
 of-answer-requires : tie.Need-of-answer-requires
 of-answer-requires c κs =
     let a = c .before .before .before .before .before .before .args in
     few (c .before .before .write-ticket .ensures) (extension-small (ticketExtension (a .ticket .now)))
-
-same-length : tie.Need-same-length
-same-length c = search needs
 
 returns : tie.Need-returns
 returns c = codes (c .before .before .before .write-ticket .ensures) (c .of-answer .ok) (c .of-answer .ensures)
 
 pub tn-write-ticket-extension-spec : {M : Type 1} → statement M
 tn-write-ticket-extension-spec =
-    tie.close (tie.spec write-ticket-requires of-answer-requires same-length returns)
+    tie.close (tie.spec (λ c κs. search needs) of-answer-requires (λ c. search needs) returns)

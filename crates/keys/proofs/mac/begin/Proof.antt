@@ -17,35 +17,11 @@ Inv-loop pad block padded₀ i₀ padded i = (i ≤ 64) × (length padded ≡ 64
 abbrev μ-loop : tie.MeasureT-loop
 μ-loop pad block padded₀ i₀ padded i = 64 - i
 
-loop-holds : tie.Need-loop-holds Inv-loop μ-loop
-loop-holds c = search needs
-
-array-read-padded : tie.Need-array-read-padded Inv-loop μ-loop
-array-read-padded c = search needs
-
-array-write-padded : tie.Need-array-write-padded Inv-loop μ-loop
-array-write-padded c = search needs
-
-add-i : tie.Need-add-i Inv-loop μ-loop
-add-i c = search needs
-
-loop-less : tie.Need-loop-less Inv-loop μ-loop
-loop-less c = search needs
-
 loop-again : tie.Need-loop-again Inv-loop μ-loop
 loop-again c =
     let at-loop = c .before in
     let args = at-loop .before .args in
     (search needs, search needs, search needs, next-xored (args .t1) (at-loop .loop .padded) (at-loop .loop .i) (args .pad) (omega arith) (omega arith) (at-loop .loop .inv .3))
-
-new-requires : tie.Need-new-requires Inv-loop μ-loop
-new-requires c κs = search needs
-
-slice-aggregate-update : tie.Need-slice-aggregate-update Inv-loop μ-loop
-slice-aggregate-update c = search needs
-
-update-requires : tie.Need-update-requires Inv-loop μ-loop
-update-requires c κs = search needs
 
 returns : tie.Need-returns Inv-loop μ-loop
 returns c =
@@ -63,13 +39,13 @@ begin-spec =
     (tie.spec
     Inv-loop
     μ-loop
-    loop-holds
-    array-read-padded
-    array-write-padded
-    add-i
-    loop-less
+    (λ c. search needs)
+    (λ c. search needs)
+    (λ c. search needs)
+    (λ c. search needs)
+    (λ c. search needs)
     loop-again
-    new-requires
-    slice-aggregate-update
-    update-requires
+    (λ c κs. search needs)
+    (λ c. search needs)
+    (λ c κs. search needs)
     returns)

@@ -8,22 +8,10 @@ use borrow.Author.Needs.{needs}
 use Rattle.keys.proofs.mac.block_of.Statement.{statement}
 use Rattle.keys.proofs.mac.block_of.Tie as tie
 
-slice-aggregate-copy : tie.Need-slice-aggregate-copy
-slice-aggregate-copy c = search needs
-
-copy-requires : tie.Need-copy-requires
-copy-requires c κs = search needs
-
 returns : tie.Need-returns
 returns c =
     let key = c .before .before .before .before .before .args .key .now in
     short-key key (c .before .copy .last .1 .0) (c .before .before .before .if1 .taken) (c .before .copy .ensures .1)
-
-slice-aggregate-hash : tie.Need-slice-aggregate-hash
-slice-aggregate-hash c = search needs
-
-hash-requires : tie.Need-hash-requires
-hash-requires c κs = search needs
 
 returns-2 : tie.Need-returns-2
 returns-2 c =
@@ -36,9 +24,9 @@ pub block-of-spec : {M : Type 1} → statement M
 block-of-spec =
     tie.close
     (tie.spec
-    slice-aggregate-copy
-    copy-requires
+    (λ c. search needs)
+    (λ c κs. search needs)
     returns
-    slice-aggregate-hash
-    hash-requires
+    (λ c. search needs)
+    (λ c κs. search needs)
     returns-2)

@@ -7,27 +7,6 @@ use borrow.Author.Needs.{needs}
 use Rattle.keys.proofs.mac.end.Statement.{statement}
 use Rattle.keys.proofs.mac.end.Tie as tie
 
-slice-aggregate-finish : tie.Need-slice-aggregate-finish
-slice-aggregate-finish c = search needs
-
-finish-requires : tie.Need-finish-requires
-finish-requires c κs = search needs
-
-begin-requires : tie.Need-begin-requires
-begin-requires c κs = search needs
-
-slice-aggregate-update : tie.Need-slice-aggregate-update
-slice-aggregate-update c = search needs
-
-update-requires : tie.Need-update-requires
-update-requires c κs = search needs
-
-slice-aggregate-finish-2 : tie.Need-slice-aggregate-finish-2
-slice-aggregate-finish-2 c = search needs
-
-finish-requires-2 : tie.Need-finish-requires-2
-finish-requires-2 c κs = search needs
-
 block-size : (c : tie.Start) → length (c .args .block) ≡ 64
 block-size c = search needs
 
@@ -49,11 +28,11 @@ pub end-spec : {M : Type 1} → statement M
 end-spec =
     tie.close
     (tie.spec
-    slice-aggregate-finish
-    finish-requires
-    begin-requires
-    slice-aggregate-update
-    update-requires
-    slice-aggregate-finish-2
-    finish-requires-2
+    (λ c. search needs)
+    (λ c κs. search needs)
+    (λ c κs. search needs)
+    (λ c. search needs)
+    (λ c κs. search needs)
+    (λ c. search needs)
+    (λ c κs. search needs)
     returns)

@@ -8,18 +8,6 @@ use borrow.Author.Needs.{needs}
 use Rattle.keys.proofs.mac.value.Statement.{statement}
 use Rattle.keys.proofs.mac.value.Tie as tie
 
-block-of-requires : tie.Need-block-of-requires
-block-of-requires c κs = search needs
-
-begin-requires : tie.Need-begin-requires
-begin-requires c κs = search needs
-
-update-requires : tie.Need-update-requires
-update-requires c κs = search needs
-
-end-requires : tie.Need-end-requires
-end-requires c κs = search needs
-
 returns : tie.Need-returns
 unfolding mac
 returns c =
@@ -31,4 +19,4 @@ returns c =
 
 pub value-spec : {M : Type 1} → statement M
 value-spec =
-    tie.close (tie.spec block-of-requires begin-requires update-requires end-requires returns)
+    tie.close (tie.spec (λ c κs. search needs) (λ c κs. search needs) (λ c κs. search needs) (λ c κs. search needs) returns)

@@ -22,33 +22,6 @@ loop-holds : tie.Need-loop-holds Inv-loop μ-loop
 unfolding P
 loop-holds c = (search needs, search needs, search needs, search needs, refl, λ h. absurd (omega arith))
 
-mul-loop : tie.Need-mul-loop Inv-loop μ-loop
-mul-loop c = search needs
-
-next-a-requires : tie.Need-next-a-requires Inv-loop μ-loop
-next-a-requires c κs = search needs
-
-slice-aggregate-labelled : tie.Need-slice-aggregate-labelled Inv-loop μ-loop
-slice-aggregate-labelled c = search needs
-
-labelled-requires : tie.Need-labelled-requires Inv-loop μ-loop
-labelled-requires c κs = search needs
-
-mul-append : tie.Need-mul-append Inv-loop μ-loop
-mul-append c = search needs
-
-slice-aggregate-append : tie.Need-slice-aggregate-append Inv-loop μ-loop
-slice-aggregate-append c = search needs
-
-append-requires : tie.Need-append-requires Inv-loop μ-loop
-append-requires c κs = search needs
-
-add-i : tie.Need-add-i Inv-loop μ-loop
-add-i c = search needs
-
-loop-less : tie.Need-loop-less Inv-loop μ-loop
-loop-less c = search needs
-
 loop-again : tie.Need-loop-again Inv-loop μ-loop
 loop-again c =
     let at-labelled = c .before .before in
@@ -73,14 +46,14 @@ expand-spec =
     Inv-loop
     μ-loop
     loop-holds
-    mul-loop
-    next-a-requires
-    slice-aggregate-labelled
-    labelled-requires
-    mul-append
-    slice-aggregate-append
-    append-requires
-    add-i
-    loop-less
+    (λ c. search needs)
+    (λ c κs. search needs)
+    (λ c. search needs)
+    (λ c κs. search needs)
+    (λ c. search needs)
+    (λ c. search needs)
+    (λ c κs. search needs)
+    (λ c. search needs)
+    (λ c. search needs)
     loop-again
     returns)

@@ -11,24 +11,6 @@ use borrow.Author.Needs.{needs}
 use Rattle.keys.proofs.p_sha256.labelled.Statement.{statement}
 use Rattle.keys.proofs.p_sha256.labelled.Tie as tie
 
-block-of-requires : tie.Need-block-of-requires
-block-of-requires c κs = search needs
-
-begin-requires : tie.Need-begin-requires
-begin-requires c κs = search needs
-
-update-requires : tie.Need-update-requires
-update-requires c κs = search needs
-
-with-label-requires : tie.Need-with-label-requires
-with-label-requires c κs = search needs
-
-update-requires-2 : tie.Need-update-requires-2
-update-requires-2 c κs = search needs
-
-end-requires : tie.Need-end-requires
-end-requires c κs = search needs
-
 returns : tie.Need-returns
 unfolding mac
 returns c =
@@ -49,10 +31,10 @@ pub labelled-spec : {M : Type 1} → statement M
 labelled-spec =
     tie.close
     (tie.spec
-    block-of-requires
-    begin-requires
-    update-requires
-    with-label-requires
-    update-requires-2
-    end-requires
+    (λ c κs. search needs)
+    (λ c κs. search needs)
+    (λ c κs. search needs)
+    (λ c κs. search needs)
+    (λ c κs. search needs)
+    (λ c κs. search needs)
     returns)

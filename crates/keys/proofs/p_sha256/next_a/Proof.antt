@@ -8,21 +8,9 @@ use borrow.Author.Needs.{needs}
 use Rattle.keys.proofs.p_sha256.next_a.Statement.{statement}
 use Rattle.keys.proofs.p_sha256.next_a.Tie as tie
 
-slice-aggregate-labelled : tie.Need-slice-aggregate-labelled
-slice-aggregate-labelled c = search needs
-
-labelled-requires : tie.Need-labelled-requires
-labelled-requires c κs = search needs
-
 returns : tie.Need-returns
 unfolding Prf.A
 returns c known = rw (c .before .before .if1 .taken) (c .labelled .ensures)
-
-slice-aggregate-value : tie.Need-slice-aggregate-value
-slice-aggregate-value c = search needs
-
-value-requires : tie.Need-value-requires
-value-requires c κs = search needs
 
 returns-2 : tie.Need-returns-2
 unfolding Prf.A
@@ -32,9 +20,9 @@ pub next-a-spec : {M : Type 1} → statement M
 next-a-spec =
     tie.close
     (tie.spec
-    slice-aggregate-labelled
-    labelled-requires
+    (λ c. search needs)
+    (λ c κs. search needs)
     returns
-    slice-aggregate-value
-    value-requires
+    (λ c. search needs)
+    (λ c κs. search needs)
     returns-2)

@@ -4,42 +4,6 @@ use borrow.Author.Needs.{needs}
 use Rattle.keys.proofs.p_sha256.with_label.Statement.{statement}
 use Rattle.keys.proofs.p_sha256.with_label.Tie as tie
 
-enum-told : tie.Need-enum-told
-enum-told c = search needs
-
-slice-aggregate-update : tie.Need-slice-aggregate-update
-slice-aggregate-update c = search needs
-
-update-requires : tie.Need-update-requires
-update-requires c κs = search needs
-
-enum-told-2 : tie.Need-enum-told-2
-enum-told-2 c = search needs
-
-slice-aggregate-update-2 : tie.Need-slice-aggregate-update-2
-slice-aggregate-update-2 c = search needs
-
-update-requires-2 : tie.Need-update-requires-2
-update-requires-2 c κs = search needs
-
-enum-told-3 : tie.Need-enum-told-3
-enum-told-3 c = search needs
-
-slice-aggregate-update-3 : tie.Need-slice-aggregate-update-3
-slice-aggregate-update-3 c = search needs
-
-update-requires-3 : tie.Need-update-requires-3
-update-requires-3 c κs = search needs
-
-enum-told-4 : tie.Need-enum-told-4
-enum-told-4 c = search needs
-
-slice-aggregate-update-4 : tie.Need-slice-aggregate-update-4
-slice-aggregate-update-4 c = search needs
-
-update-requires-4 : tie.Need-update-requires-4
-update-requires-4 c κs = search needs
-
 returns : tie.Need-returns
 returns c = rw (c .before .before .enum-told .given .1, c .update .ensures)
 
@@ -56,18 +20,18 @@ pub with-label-spec : {M : Type 1} → statement M
 with-label-spec =
     tie.close
     (tie.spec
-    enum-told
-    slice-aggregate-update
-    update-requires
-    enum-told-2
-    slice-aggregate-update-2
-    update-requires-2
-    enum-told-3
-    slice-aggregate-update-3
-    update-requires-3
-    enum-told-4
-    slice-aggregate-update-4
-    update-requires-4
+    (λ c. search needs)
+    (λ c. search needs)
+    (λ c κs. search needs)
+    (λ c. search needs)
+    (λ c. search needs)
+    (λ c κs. search needs)
+    (λ c. search needs)
+    (λ c. search needs)
+    (λ c κs. search needs)
+    (λ c. search needs)
+    (λ c. search needs)
+    (λ c κs. search needs)
     returns
     returns-2
     returns-3

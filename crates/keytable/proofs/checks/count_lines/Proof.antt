@@ -17,22 +17,10 @@ Inv-loop table n₀ at₀ n at = (at ≤ length table + 1) × (n ≤ at) × (len
 abbrev μ-loop : tie.MeasureT-loop
 μ-loop table n₀ at₀ n at = length table + 1 - at
 
-loop-holds : tie.Need-loop-holds Inv-loop μ-loop
-loop-holds c = search needs
-
-line-end-requires : tie.Need-line-end-requires Inv-loop μ-loop
-line-end-requires c κs = search needs
-
 add-at : tie.Need-add-at Inv-loop μ-loop
 add-at c =
     let w = line-within (now (c .before .before .before .before .args .table)) _ _ (search needs) (c .line-end .ensures) in
     search needs
-
-add-n : tie.Need-add-n Inv-loop μ-loop
-add-n c = search needs
-
-loop-less : tie.Need-loop-less Inv-loop μ-loop
-loop-less c = search needs
 
 loop-again : tie.Need-loop-again Inv-loop μ-loop
 loop-again c =
@@ -49,10 +37,10 @@ count-lines-spec =
     (tie.spec
     Inv-loop
     μ-loop
-    loop-holds
-    line-end-requires
+    (λ c. search needs)
+    (λ c κs. search needs)
     add-at
-    add-n
-    loop-less
+    (λ c. search needs)
+    (λ c. search needs)
     loop-again
     returns)

@@ -10,14 +10,8 @@ use Rattle.keytable.proofs.checks.ended.Tie as tie
 returns : tie.Need-returns
 returns c = sym (ended-none (now (c .before .args .table)) (c .if1 .taken))
 
-sub-result : tie.Need-sub-result
-sub-result c = search needs
-
-shared-slice-read-result : tie.Need-shared-slice-read-result
-shared-slice-read-result c = search needs
-
 returns-2 : tie.Need-returns-2
 returns-2 c = sym (ended-last (now (c .before .before .args .table)) (search needs))
 
 pub ended-spec : {M : Type 1} → statement M
-ended-spec = tie.close (tie.spec returns sub-result shared-slice-read-result returns-2)
+ended-spec = tie.close (tie.spec returns (λ c. search needs) (λ c. search needs) returns-2)

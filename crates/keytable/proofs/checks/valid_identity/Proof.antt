@@ -12,9 +12,6 @@ returns c = simp (lt-leb _ _ (c .if1 .taken))
 returns-2 : tie.Need-returns-2
 returns-2 c = simp (le-leb _ _ (c .before .if1 .left), lt-leb _ _ (c .if2 .taken))
 
-all-plain-requires : tie.Need-all-plain-requires
-all-plain-requires c κs = search needs
-
 returns-3 : tie.Need-returns-3
 returns-3 c =
     simp (
@@ -22,9 +19,6 @@ returns-3 c =
       le-leb _ _ (c .before .before .if2 .left),
       failed _ _ (c .before .all-plain .ensures) (c .if3 .taken),
     )
-
-valid-utf8-requires : tie.Need-valid-utf8-requires
-valid-utf8-requires c κs = search needs
 
 returns-4 : tie.Need-returns-4
 returns-4 c =
@@ -39,4 +33,4 @@ returns-4 c =
 pub valid-identity-spec : {M : Type 1} → statement M
 valid-identity-spec =
     tie.close
-    (tie.spec returns returns-2 all-plain-requires returns-3 valid-utf8-requires returns-4)
+    (tie.spec returns returns-2 (λ c κs. search needs) returns-3 (λ c κs. search needs) returns-4)

@@ -11,15 +11,9 @@ use Rattle.keytable.proofs.Flags.{failed, passed}
 use Rattle.keytable.proofs.checks.valid_line.Statement.{statement}
 use Rattle.keytable.proofs.checks.valid_line.Tie as tie
 
-find-requires : tie.Need-find-requires
-find-requires c κs = search needs
-
 slice-aggregate-valid-identity : tie.Need-slice-aggregate-valid-identity
 slice-aggregate-valid-identity c =
     sym (length-take-le _ _ (colon-within (now (c .before .before .before .args .l)) _ (c .before .find .ensures)))
-
-valid-identity-requires : tie.Need-valid-identity-requires
-valid-identity-requires c κs = search needs
 
 returns : tie.Need-returns
 returns c =
@@ -45,12 +39,6 @@ sub-valid-key c = let w = inside c in search needs
 part-valid-key-start : tie.Need-part-valid-key-start
 part-valid-key-start c = let w = inside c in search needs
 
-part-valid-key-end : tie.Need-part-valid-key-end
-part-valid-key-end c = search needs
-
-valid-key-requires : tie.Need-valid-key-requires
-valid-key-requires c κs = search needs
-
 returns-3 : tie.Need-returns-3
 returns-3 c =
     let v = c .before .before .before .before in
@@ -62,14 +50,14 @@ pub valid-line-spec : {M : Type 1} → statement M
 valid-line-spec =
     tie.close
     (tie.spec
-    find-requires
+    (λ c κs. search needs)
     slice-aggregate-valid-identity
-    valid-identity-requires
+    (λ c κs. search needs)
     returns
     returns-2
     add-valid-key
     sub-valid-key
     part-valid-key-start
-    part-valid-key-end
-    valid-key-requires
+    (λ c. search needs)
+    (λ c κs. search needs)
     returns-3)

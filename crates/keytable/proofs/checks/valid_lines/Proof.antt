@@ -17,23 +17,8 @@ Inv-loop table at₀ at = (at ≤ length table + 1) × (each validLine (lines ta
 abbrev μ-loop : tie.MeasureT-loop
 μ-loop table at₀ at = length table + 1 - at
 
-loop-holds : tie.Need-loop-holds Inv-loop μ-loop
-loop-holds c = search needs
-
-line-end-requires : tie.Need-line-end-requires Inv-loop μ-loop
-line-end-requires c κs = search needs
-
-sub-valid-line : tie.Need-sub-valid-line Inv-loop μ-loop
-sub-valid-line c = search needs
-
-part-valid-line-start : tie.Need-part-valid-line-start Inv-loop μ-loop
-part-valid-line-start c = search needs
-
 part-valid-line-end : tie.Need-part-valid-line-end Inv-loop μ-loop
 part-valid-line-end c = line-within (now (c .before .before .before .before .args .table)) _ _ (search needs) (c .line-end .ensures)
-
-valid-line-requires : tie.Need-valid-line-requires Inv-loop μ-loop
-valid-line-requires c κs = search needs
 
 returns : tie.Need-returns Inv-loop μ-loop
 returns c =
@@ -47,9 +32,6 @@ add-at c =
     let e = c .before .before .before in
     let w = line-within (now (e .before .before .before .before .args .table)) _ _ (search needs) (e .line-end .ensures) in
     search needs
-
-loop-less : tie.Need-loop-less Inv-loop μ-loop
-loop-less c = search needs
 
 loop-again : tie.Need-loop-again Inv-loop μ-loop
 loop-again c =
@@ -71,14 +53,14 @@ valid-lines-spec =
     (tie.spec
     Inv-loop
     μ-loop
-    loop-holds
-    line-end-requires
-    sub-valid-line
-    part-valid-line-start
+    (λ c. search needs)
+    (λ c κs. search needs)
+    (λ c. search needs)
+    (λ c. search needs)
     part-valid-line-end
-    valid-line-requires
+    (λ c κs. search needs)
     returns
     add-at
-    loop-less
+    (λ c. search needs)
     loop-again
     returns-2)

@@ -14,15 +14,9 @@ returns : tie.Need-returns
 unfolding wellFormed
 returns c = simp (lt-leb _ _ (c .if1 .taken))
 
-ended-requires : tie.Need-ended-requires
-ended-requires c κs = search needs
-
 returns-2 : tie.Need-returns-2
 unfolding wellFormed
 returns-2 c = simp (le-leb _ _ (c .before .before .if1 .left), failed _ _ (c .before .ended .ensures) (c .if2 .taken))
-
-count-lines-requires : tie.Need-count-lines-requires
-count-lines-requires c κs = search needs
 
 returns-3 : tie.Need-returns-3
 unfolding wellFormed
@@ -32,9 +26,6 @@ returns-3 c =
       passed _ _ (c .before .before .before .ended .ensures) (c .before .before .if2 .left),
       ap (λ (n : ℕ). leb n 256) (sym (c .before .count-lines .ensures)) ∙ lt-leb _ 256 (c .if3 .taken),
     )
-
-valid-lines-requires : tie.Need-valid-lines-requires
-valid-lines-requires c κs = search needs
 
 returns-4 : tie.Need-returns-4
 unfolding wellFormed
@@ -46,9 +37,6 @@ returns-4 c =
       ap (λ (n : ℕ). leb n 256) (sym (c .before .before .before .count-lines .ensures)) ∙ le-leb _ 256 (c .before .before .if3 .left),
       failed _ _ (c .before .valid-lines .ensures) (c .if4 .taken),
     )
-
-distinct-requires : tie.Need-distinct-requires
-distinct-requires c κs = search needs
 
 returns-5 : tie.Need-returns-5
 unfolding wellFormed
@@ -68,11 +56,11 @@ well-formed-spec =
     tie.close
     (tie.spec
     returns
-    ended-requires
+    (λ c κs. search needs)
     returns-2
-    count-lines-requires
+    (λ c κs. search needs)
     returns-3
-    valid-lines-requires
+    (λ c κs. search needs)
     returns-4
-    distinct-requires
+    (λ c κs. search needs)
     returns-5)

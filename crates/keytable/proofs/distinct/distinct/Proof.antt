@@ -26,15 +26,6 @@ abbrev μ-loop : tie.MeasureT-loop
 loop-holds : tie.Need-loop-holds Inv-loop μ-loop
 loop-holds c = (search needs, search needs, search needs, search needs, (λ k h. absurd (omega arith)), search needs)
 
-identity-end-requires : tie.Need-identity-end-requires Inv-loop μ-loop
-identity-end-requires c κs = search needs
-
-sub-fingerprint : tie.Need-sub-fingerprint Inv-loop μ-loop
-sub-fingerprint c = search needs
-
-part-fingerprint-start : tie.Need-part-fingerprint-start Inv-loop μ-loop
-part-fingerprint-start c = search needs
-
 -- where the identity of a line is known
 module _ (c : tie.After-identity-end Inv-loop μ-loop) where
   abbrev table : List ℕ
@@ -61,15 +52,6 @@ module _ (c : tie.After-identity-end Inv-loop μ-loop) where
 part-fingerprint-end : tie.Need-part-fingerprint-end Inv-loop μ-loop
 part-fingerprint-end c = within c
 
-fingerprint-requires : tie.Need-fingerprint-requires Inv-loop μ-loop
-fingerprint-requires c κs = search needs
-
-sub-repeated : tie.Need-sub-repeated Inv-loop μ-loop
-sub-repeated c = search needs
-
-part-repeated-start : tie.Need-part-repeated-start Inv-loop μ-loop
-part-repeated-start c = search needs
-
 part-repeated-end : tie.Need-part-repeated-end Inv-loop μ-loop
 part-repeated-end c = within (c .before .before .before .before)
 
@@ -88,35 +70,17 @@ returns c =
     (ap (λ (x : List ℕ). among x (earlier (table i) (l .starts) (l .n))) (sym (identity-is i))
     ∙ sym (r .repeated .ensures) ∙ c .if1 .taken)
 
-cast-starts : tie.Need-cast-starts Inv-loop μ-loop
-cast-starts c = search needs
-
-mul-starts : tie.Need-mul-starts Inv-loop μ-loop
-mul-starts c = search needs
-
 array-write-starts : tie.Need-array-write-starts Inv-loop μ-loop
 array-write-starts c = below (c .before .before .before .before .before .before .before)
 
-mul-fingerprints : tie.Need-mul-fingerprints Inv-loop μ-loop
-mul-fingerprints c = search needs
-
 array-write-fingerprints : tie.Need-array-write-fingerprints Inv-loop μ-loop
 array-write-fingerprints c = below (c .before .before .before .before .before .before .before)
-
-add-n : tie.Need-add-n Inv-loop μ-loop
-add-n c = search needs
-
-line-end-requires : tie.Need-line-end-requires Inv-loop μ-loop
-line-end-requires c κs = search needs
 
 add-at : tie.Need-add-at Inv-loop μ-loop
 add-at c =
     let i = c .before .before .before .before .before .before .before .before in
     let w = line-within (table i) (place i) _ (in-table i) (c .line-end .ensures) in
     search needs
-
-loop-less : tie.Need-loop-less Inv-loop μ-loop
-loop-less c = search needs
 
 loop-again : tie.Need-loop-again Inv-loop μ-loop
 loop-again c =
@@ -152,24 +116,24 @@ distinct-spec =
     Inv-loop
     μ-loop
     loop-holds
-    identity-end-requires
-    sub-fingerprint
-    part-fingerprint-start
+    (λ c κs. search needs)
+    (λ c. search needs)
+    (λ c. search needs)
     part-fingerprint-end
-    fingerprint-requires
-    sub-repeated
-    part-repeated-start
+    (λ c κs. search needs)
+    (λ c. search needs)
+    (λ c. search needs)
     part-repeated-end
     repeated-requires
     returns
-    cast-starts
-    mul-starts
+    (λ c. search needs)
+    (λ c. search needs)
     array-write-starts
-    mul-fingerprints
+    (λ c. search needs)
     array-write-fingerprints
-    add-n
-    line-end-requires
+    (λ c. search needs)
+    (λ c κs. search needs)
     add-at
-    loop-less
+    (λ c. search needs)
     loop-again
     returns-2)

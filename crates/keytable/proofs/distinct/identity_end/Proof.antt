@@ -13,20 +13,8 @@ use Rattle.keytable.proofs.Lines.{line-within, line-is}
 use Rattle.keytable.proofs.distinct.identity_end.Statement.{statement}
 use Rattle.keytable.proofs.distinct.identity_end.Tie as tie
 
-line-end-requires : tie.Need-line-end-requires
-line-end-requires c κs = search needs
-
-sub-find : tie.Need-sub-find
-sub-find c = search needs
-
-part-find-start : tie.Need-part-find-start
-part-find-start c = search needs
-
 part-find-end : tie.Need-part-find-end
 part-find-end c = line-within (now (c .before .before .args .table)) _ _ (c .before .before .pre) (c .line-end .ensures)
-
-find-requires : tie.Need-find-requires
-find-requires c κs = search needs
 
 identity-length : (c : tie.After-find)
     → c .find .result ≡ length (identityAt (now (c .before .before .before .before .args .table)) (c .before .before .before .before .args .at))
@@ -49,10 +37,10 @@ pub identity-end-spec : {M : Type 1} → statement M
 identity-end-spec =
     tie.close
     (tie.spec
-    line-end-requires
-    sub-find
-    part-find-start
+    (λ c κs. search needs)
+    (λ c. search needs)
+    (λ c. search needs)
     part-find-end
-    find-requires
+    (λ c κs. search needs)
     add-result
     returns)

@@ -20,21 +20,6 @@ Inv-loop table starts fingerprints n identity p k₀ k = (k ≤ n) × (among ide
 abbrev μ-loop : tie.MeasureT-loop
 μ-loop table starts fingerprints n identity p k₀ k = n - k
 
-loop-holds : tie.Need-loop-holds Inv-loop μ-loop
-loop-holds c = search needs
-
-mul-if1 : tie.Need-mul-if1 Inv-loop μ-loop
-mul-if1 c = search needs
-
-element-copy-out-if1 : tie.Need-element-copy-out-if1 Inv-loop μ-loop
-element-copy-out-if1 c = search needs
-
-mul-same-identity : tie.Need-mul-same-identity Inv-loop μ-loop
-mul-same-identity c = search needs
-
-element-copy-out-same-identity : tie.Need-element-copy-out-same-identity Inv-loop μ-loop
-element-copy-out-same-identity c = search needs
-
 cast-same-identity : tie.Need-cast-same-identity Inv-loop μ-loop
 cast-same-identity c =
     let s = c .before .before .before .before .before .before .before in
@@ -52,12 +37,6 @@ returns c =
     among-hit (now (s .args .table)) (now (s .args .starts)) (now (s .args .identity)) (l .loop .k) (search needs) (s .args .n)
     (c .before .before .before .before .before .loop-test .taken)
     (sym (c .before .same-identity .ensures) ∙ c .if2 .taken)
-
-add-k : tie.Need-add-k Inv-loop μ-loop
-add-k c = search needs
-
-loop-less : tie.Need-loop-less Inv-loop μ-loop
-loop-less c = search needs
 
 loop-again : tie.Need-loop-again Inv-loop μ-loop
 loop-again c =
@@ -84,15 +63,15 @@ repeated-spec =
     (tie.spec
     Inv-loop
     μ-loop
-    loop-holds
-    mul-if1
-    element-copy-out-if1
-    mul-same-identity
-    element-copy-out-same-identity
+    (λ c. search needs)
+    (λ c. search needs)
+    (λ c. search needs)
+    (λ c. search needs)
+    (λ c. search needs)
     cast-same-identity
     same-identity-requires
     returns
-    add-k
-    loop-less
+    (λ c. search needs)
+    (λ c. search needs)
     loop-again
     returns-2)

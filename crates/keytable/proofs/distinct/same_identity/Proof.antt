@@ -8,23 +8,11 @@ use Rattle.keytable.proofs.Apart.{identity-within, identity-part}
 use Rattle.keytable.proofs.distinct.same_identity.Statement.{statement}
 use Rattle.keytable.proofs.distinct.same_identity.Tie as tie
 
-identity-end-requires : tie.Need-identity-end-requires
-identity-end-requires c κs = search needs
-
-sub-equal : tie.Need-sub-equal
-sub-equal c = search needs
-
-part-equal-start : tie.Need-part-equal-start
-part-equal-start c = search needs
-
 part-equal-end : tie.Need-part-equal-end
 part-equal-end c =
     let s = c .before .before .before in
     let w = identity-within (now (s .args .table)) _ (s .pre) in
     search needs
-
-equal-requires : tie.Need-equal-requires
-equal-requires c κs = search needs
 
 returns : tie.Need-returns
 returns c =
@@ -36,9 +24,9 @@ pub same-identity-spec : {M : Type 1} → statement M
 same-identity-spec =
     tie.close
     (tie.spec
-    identity-end-requires
-    sub-equal
-    part-equal-start
+    (λ c κs. search needs)
+    (λ c. search needs)
+    (λ c. search needs)
     part-equal-end
-    equal-requires
+    (λ c κs. search needs)
     returns)

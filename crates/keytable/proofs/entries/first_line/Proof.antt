@@ -30,12 +30,6 @@ Inv-lines table identity at₀ at = (at ≤ length table + 1) × (firstText iden
 abbrev μ-lines : tie.MeasureT-lines
 μ-lines table identity at₀ at = length table + 1 - at
 
-lines-holds : tie.Need-lines-holds Inv-loop μ-loop Inv-lines μ-lines
-lines-holds c = search needs
-
-line-end-requires : tie.Need-line-end-requires Inv-loop μ-loop Inv-lines μ-lines
-line-end-requires c κs = search needs
-
 -- where the end of a line has been found
 module _ (c : tie.After-line-end Inv-loop μ-loop Inv-lines μ-lines) where
   abbrev table : List ℕ
@@ -78,14 +72,8 @@ add-if4 c = let w = within (c .before .before .before) in search needs
 shared-slice-read-if4 : tie.Need-shared-slice-read-if4 Inv-loop μ-loop Inv-lines μ-lines
 shared-slice-read-if4 c = omega (arith, within (c .before .before .before .before))
 
-shared-slice-read-if4-2 : tie.Need-shared-slice-read-if4-2 Inv-loop μ-loop Inv-lines μ-lines
-shared-slice-read-if4-2 c = search needs
-
 add-k : tie.Need-add-k Inv-loop μ-loop Inv-lines μ-lines
 add-k c = let w = within (c .before .before .before .before .before .before) in search needs
-
-loop-less : tie.Need-loop-less Inv-loop μ-loop Inv-lines μ-lines
-loop-less c = search needs
 
 loop-again : tie.Need-loop-again Inv-loop μ-loop Inv-lines μ-lines
 loop-again c =
@@ -141,8 +129,8 @@ first-line-spec =
     μ-loop
     Inv-lines
     μ-lines
-    lines-holds
-    line-end-requires
+    (λ c. search needs)
+    (λ c κs. search needs)
     loop-holds
     add-loop
     add-if3
@@ -151,9 +139,9 @@ first-line-spec =
     add-from-2
     add-if4
     shared-slice-read-if4
-    shared-slice-read-if4-2
+    (λ c. search needs)
     add-k
-    loop-less
+    (λ c. search needs)
     loop-again
     add-at
     lines-less

@@ -12,18 +12,6 @@ use Rattle.keytable.proofs.Lines.{length-upto}
 use Rattle.keytable.proofs.entries.line_end.Statement.{statement}
 use Rattle.keytable.proofs.entries.line_end.Tie as tie
 
-sub-find : tie.Need-sub-find
-sub-find c = search needs
-
-part-find-start : tie.Need-part-find-start
-part-find-start c = search needs
-
-part-find-end : tie.Need-part-find-end
-part-find-end c = search needs
-
-find-requires : tie.Need-find-requires
-find-requires c κs = search needs
-
 line-length : (c : tie.After-find)
     → c .find .result ≡ length (upto lineEnd (drop (c .before .before .before .args .at) (now (c .before .before .before .args .table))))
 line-length c =
@@ -43,4 +31,4 @@ returns c = ap (λ (n : ℕ). c .before .before .before .args .at + n) (line-len
 
 pub line-end-spec : {M : Type 1} → statement M
 line-end-spec =
-    tie.close (tie.spec sub-find part-find-start part-find-end find-requires add-result returns)
+    tie.close (tie.spec (λ c. search needs) (λ c. search needs) (λ c. search needs) (λ c κs. search needs) add-result returns)

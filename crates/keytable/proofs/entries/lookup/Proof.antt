@@ -12,12 +12,6 @@ use Rattle.keytable.proofs.Matching.{key-listed, key-unlisted}
 use Rattle.keytable.proofs.entries.lookup.Statement.{statement}
 use Rattle.keytable.proofs.entries.lookup.Tie as tie
 
-first-line-requires : tie.Need-first-line-requires
-first-line-requires c κs = search needs
-
-enum-known-hit : tie.Need-enum-known-hit
-enum-known-hit c = search needs
-
 -- where the search has found a line: the hit and its bounds
 module _ (c : tie.After-known-told) where
   abbrev from : ℕ
@@ -41,15 +35,6 @@ part-key-into-start c = bounds c .0
 part-key-into-end : tie.Need-part-key-into-end
 part-key-into-end c = bounds c .1
 
-key-into-requires : tie.Need-key-into-requires
-key-into-requires c κs = search needs
-
-enum-told : tie.Need-enum-told
-enum-told c = search needs
-
-same-length : tie.Need-same-length
-same-length c = search needs
-
 returns : tie.Need-returns
 returns c =
     let k = c .before .before .before .before .before in
@@ -63,13 +48,13 @@ pub lookup-spec : {M : Type 1} → statement M
 lookup-spec =
     tie.close
     (tie.spec
-    first-line-requires
-    enum-known-hit
+    (λ c κs. search needs)
+    (λ c. search needs)
     sub-key-into
     part-key-into-start
     part-key-into-end
-    key-into-requires
-    enum-told
-    same-length
+    (λ c κs. search needs)
+    (λ c. search needs)
+    (λ c. search needs)
     returns
     returns-2)

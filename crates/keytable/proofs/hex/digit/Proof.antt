@@ -7,23 +7,14 @@ use Rattle.keytable.proofs.Tests.{between-sound}
 use Rattle.keytable.proofs.hex.digit.Statement.{statement}
 use Rattle.keytable.proofs.hex.digit.Tie as tie
 
-between-requires : tie.Need-between-requires
-between-requires c κs = search needs
-
 sub-result : tie.Need-sub-result
 sub-result c = omega (arith, between-sound 48 57 (c .before .before .args .b) (sym (c .before .between .ensures) ∙ c .if1 .taken))
 
 returns : tie.Need-returns
 returns c = simp (sym (c .before .between .ensures) ∙ c .if1 .taken)
 
-between-requires-2 : tie.Need-between-requires-2
-between-requires-2 c κs = search needs
-
 sub-result-2 : tie.Need-sub-result-2
 sub-result-2 c = omega (arith, between-sound 65 70 (c .before .before .before .before .args .b) (sym (c .before .between2 .ensures) ∙ c .if2 .taken))
-
-add-result : tie.Need-add-result
-add-result c = search needs
 
 returns-2 : tie.Need-returns-2
 returns-2 c =
@@ -32,14 +23,8 @@ returns-2 c =
       sym (c .before .between2 .ensures) ∙ c .if2 .taken,
     )
 
-between-requires-3 : tie.Need-between-requires-3
-between-requires-3 c κs = search needs
-
 sub-result-3 : tie.Need-sub-result-3
 sub-result-3 c = omega (arith, between-sound 97 102 (c .before .before .before .before .before .before .args .b) (sym (c .before .between3 .ensures) ∙ c .if3 .taken))
-
-add-result-2 : tie.Need-add-result-2
-add-result-2 c = search needs
 
 returns-3 : tie.Need-returns-3
 returns-3 c =
@@ -61,15 +46,15 @@ pub digit-spec : {M : Type 1} → statement M
 digit-spec =
     tie.close
     (tie.spec
-    between-requires
+    (λ c κs. search needs)
     sub-result
     returns
-    between-requires-2
+    (λ c κs. search needs)
     sub-result-2
-    add-result
+    (λ c. search needs)
     returns-2
-    between-requires-3
+    (λ c κs. search needs)
     sub-result-3
-    add-result-2
+    (λ c. search needs)
     returns-3
     returns-4)

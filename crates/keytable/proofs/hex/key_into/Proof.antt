@@ -9,9 +9,6 @@ use Rattle.keytable.proofs.Flags.{failed, passed}
 use Rattle.keytable.proofs.hex.key_into.Statement.{statement}
 use Rattle.keytable.proofs.hex.key_into.Tie as tie
 
-valid-key-requires : tie.Need-valid-key-requires
-valid-key-requires c κs = search needs
-
 returns : tie.Need-returns
 returns c = rw (failed _ _ (c .before .valid-key .ensures) (c .if1 .taken)) (refused _ _)
 
@@ -23,9 +20,6 @@ decode-requires c κs =
     let v = c .before .before .before in
     (digits-of-key (now (v .before .before .before .args .text)) (passed _ _ (v .valid-key .ensures) (c .before .before .if1 .left)), search needs)
 
-same-length : tie.Need-same-length
-same-length c = search needs
-
 returns-3 : tie.Need-returns-3
 returns-3 c =
     let e = c .before .before .before .before in
@@ -35,4 +29,4 @@ returns-3 c =
 
 pub key-into-spec : {M : Type 1} → statement M
 key-into-spec =
-    tie.close (tie.spec valid-key-requires returns returns-2 decode-requires same-length returns-3)
+    tie.close (tie.spec (λ c κs. search needs) returns returns-2 decode-requires (λ c. search needs) returns-3)

@@ -9,42 +9,6 @@ use Rattle.keytable.proofs.utf8.begins.Tie as tie
 returns : tie.Need-returns
 returns c = let p = c .before .before .pre in sym (cut-off _ _ (p .0) (p .1) (c .if1 .taken))
 
-shared-slice-read-two : tie.Need-shared-slice-read-two
-shared-slice-read-two c = search needs
-
-shared-slice-read-two-2 : tie.Need-shared-slice-read-two-2
-shared-slice-read-two-2 c = search needs
-
-two-requires : tie.Need-two-requires
-two-requires c κs = search needs
-
-shared-slice-read-three : tie.Need-shared-slice-read-three
-shared-slice-read-three c = search needs
-
-shared-slice-read-three-2 : tie.Need-shared-slice-read-three-2
-shared-slice-read-three-2 c = search needs
-
-shared-slice-read-three-3 : tie.Need-shared-slice-read-three-3
-shared-slice-read-three-3 c = search needs
-
-three-requires : tie.Need-three-requires
-three-requires c κs = search needs
-
-shared-slice-read-four : tie.Need-shared-slice-read-four
-shared-slice-read-four c = search needs
-
-shared-slice-read-four-2 : tie.Need-shared-slice-read-four-2
-shared-slice-read-four-2 c = search needs
-
-shared-slice-read-four-3 : tie.Need-shared-slice-read-four-3
-shared-slice-read-four-3 c = search needs
-
-shared-slice-read-four-4 : tie.Need-shared-slice-read-four-4
-shared-slice-read-four-4 c = search needs
-
-four-requires : tie.Need-four-requires
-four-requires c κs = search needs
-
 returns-2 : tie.Need-returns-2
 returns-2 c = let p = c .before .before .before .pre in sym (single _ _ (p .0) (p .1) (c .match .keys1))
 
@@ -65,18 +29,18 @@ begins-spec =
     tie.close
     (tie.spec
     returns
-    shared-slice-read-two
-    shared-slice-read-two-2
-    two-requires
-    shared-slice-read-three
-    shared-slice-read-three-2
-    shared-slice-read-three-3
-    three-requires
-    shared-slice-read-four
-    shared-slice-read-four-2
-    shared-slice-read-four-3
-    shared-slice-read-four-4
-    four-requires
+    (λ c. search needs)
+    (λ c. search needs)
+    (λ c κs. search needs)
+    (λ c. search needs)
+    (λ c. search needs)
+    (λ c. search needs)
+    (λ c κs. search needs)
+    (λ c. search needs)
+    (λ c. search needs)
+    (λ c. search needs)
+    (λ c. search needs)
+    (λ c κs. search needs)
     returns-2
     returns-3
     returns-4

@@ -5,14 +5,8 @@ use Rattle.keytable.proofs.Flags.{failed, passed}
 use Rattle.keytable.proofs.utf8.four.Statement.{statement}
 use Rattle.keytable.proofs.utf8.four.Tie as tie
 
-tail-requires : tie.Need-tail-requires
-tail-requires c κs = search needs
-
 returns : tie.Need-returns
 returns c = simp (c .before .before .pre, failed _ _ (c .before .tail .ensures) (c .if1 .taken))
-
-tail-requires-2 : tie.Need-tail-requires-2
-tail-requires-2 c κs = search needs
 
 returns-2 : tie.Need-returns-2
 returns-2 c =
@@ -23,9 +17,6 @@ returns-2 c =
       failed _ _ (c .before .tail2 .ensures) (c .if2 .taken),
     )
 
-tail-requires-3 : tie.Need-tail-requires-3
-tail-requires-3 c κs = search needs
-
 returns-3 : tie.Need-returns-3
 returns-3 c =
     let s = c .before .before .before .before .before in
@@ -35,39 +26,6 @@ returns-3 c =
       passed _ _ (c .before .before .before .tail2 .ensures) (c .before .before .if2 .left),
       failed _ _ (c .before .tail3 .ensures) (c .if3 .taken),
     )
-
-wide-requires : tie.Need-wide-requires
-wide-requires c κs = search needs
-
-mul-allowed : tie.Need-mul-allowed
-mul-allowed c = search needs
-
-wide-requires-2 : tie.Need-wide-requires-2
-wide-requires-2 c κs = search needs
-
-mul-allowed-2 : tie.Need-mul-allowed-2
-mul-allowed-2 c = search needs
-
-add-allowed : tie.Need-add-allowed
-add-allowed c = search needs
-
-wide-requires-3 : tie.Need-wide-requires-3
-wide-requires-3 c κs = search needs
-
-mul-allowed-3 : tie.Need-mul-allowed-3
-mul-allowed-3 c = search needs
-
-add-allowed-2 : tie.Need-add-allowed-2
-add-allowed-2 c = search needs
-
-wide-requires-4 : tie.Need-wide-requires-4
-wide-requires-4 c κs = search needs
-
-add-allowed-3 : tie.Need-add-allowed-3
-add-allowed-3 c = search needs
-
-allowed-requires : tie.Need-allowed-requires
-allowed-requires c κs = search needs
 
 returns-4 : tie.Need-returns-4
 returns-4 c =
@@ -90,21 +48,21 @@ pub four-spec : {M : Type 1} → statement M
 four-spec =
     tie.close
     (tie.spec
-    tail-requires
+    (λ c κs. search needs)
     returns
-    tail-requires-2
+    (λ c κs. search needs)
     returns-2
-    tail-requires-3
+    (λ c κs. search needs)
     returns-3
-    wide-requires
-    mul-allowed
-    wide-requires-2
-    mul-allowed-2
-    add-allowed
-    wide-requires-3
-    mul-allowed-3
-    add-allowed-2
-    wide-requires-4
-    add-allowed-3
-    allowed-requires
+    (λ c κs. search needs)
+    (λ c. search needs)
+    (λ c κs. search needs)
+    (λ c. search needs)
+    (λ c. search needs)
+    (λ c κs. search needs)
+    (λ c. search needs)
+    (λ c. search needs)
+    (λ c κs. search needs)
+    (λ c. search needs)
+    (λ c κs. search needs)
     returns-4)

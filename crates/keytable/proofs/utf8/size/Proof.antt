@@ -14,11 +14,8 @@ returns-2 c = simp (ne-eqb _ _ (c .before .if1 .left), lt-leb _ _ (c .if2 .taken
 returns-3 : tie.Need-returns-3
 returns-3 c = simp (ne-eqb _ _ (c .before .before .if1 .left), le-leb _ _ (c .before .if2 .left), lt-leb _ _ (c .if3 .taken))
 
-cast-result : tie.Need-cast-result
-cast-result c = search needs
-
 returns-4 : tie.Need-returns-4
 returns-4 c = simp (ne-eqb _ _ (c .before .before .if1 .left), le-leb _ _ (c .before .if2 .left), le-leb _ _ (c .if3 .left))
 
 pub size-spec : {M : Type 1} → statement M
-size-spec = tie.close (tie.spec returns returns-2 returns-3 cast-result returns-4)
+size-spec = tie.close (tie.spec returns returns-2 returns-3 (λ c. search needs) returns-4)

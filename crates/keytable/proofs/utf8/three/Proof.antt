@@ -5,14 +5,8 @@ use Rattle.keytable.proofs.Flags.{failed, passed}
 use Rattle.keytable.proofs.utf8.three.Statement.{statement}
 use Rattle.keytable.proofs.utf8.three.Tie as tie
 
-tail-requires : tie.Need-tail-requires
-tail-requires c κs = search needs
-
 returns : tie.Need-returns
 returns c = simp (c .before .before .pre, failed _ _ (c .before .tail .ensures) (c .if1 .taken))
-
-tail-requires-2 : tie.Need-tail-requires-2
-tail-requires-2 c κs = search needs
 
 returns-2 : tie.Need-returns-2
 returns-2 c =
@@ -22,30 +16,6 @@ returns-2 c =
       passed _ _ (s .tail .ensures) (c .before .before .if1 .left),
       failed _ _ (c .before .tail2 .ensures) (c .if2 .taken),
     )
-
-wide-requires : tie.Need-wide-requires
-wide-requires c κs = search needs
-
-mul-allowed : tie.Need-mul-allowed
-mul-allowed c = search needs
-
-wide-requires-2 : tie.Need-wide-requires-2
-wide-requires-2 c κs = search needs
-
-mul-allowed-2 : tie.Need-mul-allowed-2
-mul-allowed-2 c = search needs
-
-add-allowed : tie.Need-add-allowed
-add-allowed c = search needs
-
-wide-requires-3 : tie.Need-wide-requires-3
-wide-requires-3 c κs = search needs
-
-add-allowed-2 : tie.Need-add-allowed-2
-add-allowed-2 c = search needs
-
-allowed-requires : tie.Need-allowed-requires
-allowed-requires c κs = search needs
 
 returns-3 : tie.Need-returns-3
 returns-3 c =
@@ -65,16 +35,16 @@ pub three-spec : {M : Type 1} → statement M
 three-spec =
     tie.close
     (tie.spec
-    tail-requires
+    (λ c κs. search needs)
     returns
-    tail-requires-2
+    (λ c κs. search needs)
     returns-2
-    wide-requires
-    mul-allowed
-    wide-requires-2
-    mul-allowed-2
-    add-allowed
-    wide-requires-3
-    add-allowed-2
-    allowed-requires
+    (λ c κs. search needs)
+    (λ c. search needs)
+    (λ c κs. search needs)
+    (λ c. search needs)
+    (λ c. search needs)
+    (λ c κs. search needs)
+    (λ c. search needs)
+    (λ c κs. search needs)
     returns-3)

@@ -21,24 +21,6 @@ Inv-loop s at₀ at = (at ≤ length s) × (validAfter 0 s ≡ validAfter 0 (dro
 abbrev μ-loop : tie.MeasureT-loop
 μ-loop s at₀ at = length s - at
 
-loop-holds : tie.Need-loop-holds Inv-loop μ-loop
-loop-holds c = search needs
-
-shared-slice-read-size : tie.Need-shared-slice-read-size Inv-loop μ-loop
-shared-slice-read-size c = search needs
-
-size-requires : tie.Need-size-requires Inv-loop μ-loop
-size-requires c κs = search needs
-
-sub-begins : tie.Need-sub-begins Inv-loop μ-loop
-sub-begins c = search needs
-
-part-begins-start : tie.Need-part-begins-start Inv-loop μ-loop
-part-begins-start c = search needs
-
-part-begins-end : tie.Need-part-begins-end Inv-loop μ-loop
-part-begins-end c = search needs
-
 -- the text, and where a turn stands in it
 abbrev text : tie.After-size Inv-loop μ-loop → List ℕ
 text c = now (c .before .before .before .before .before .args .s)
@@ -93,12 +75,12 @@ valid-utf8-spec =
     (tie.spec
     Inv-loop
     μ-loop
-    loop-holds
-    shared-slice-read-size
-    size-requires
-    sub-begins
-    part-begins-start
-    part-begins-end
+    (λ c. search needs)
+    (λ c. search needs)
+    (λ c κs. search needs)
+    (λ c. search needs)
+    (λ c. search needs)
+    (λ c. search needs)
     begins-requires
     returns
     add-at

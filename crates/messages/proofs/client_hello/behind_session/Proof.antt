@@ -9,23 +9,11 @@ use Rattle.messages.proofs.Places.{ruled-inside}
 use Rattle.messages.proofs.client_hello.behind_session.Statement.{statement}
 use Rattle.messages.proofs.client_hello.behind_session.Tie as tie
 
-add-suites : tie.Need-add-suites
-add-suites c = search needs
-
-suites-requires : tie.Need-suites-requires
-suites-requires c κs = search needs
-
-enum-known-suites-start : tie.Need-enum-known-suites-start
-enum-known-suites-start c = search needs
-
 behind-suites-requires : tie.Need-behind-suites-requires
 behind-suites-requires c κs =
     let a = c .before .before .before .before .before .args in
     let i = ruled-inside suitesLength 2 (a .message .now) (a .start + a .session-len) _ _ (sym (c .before .before .before .suites .ensures) ∙ c .before .suites-start .given .1) in
     (omega arith, i .1)
-
-enum-known-r : tie.Need-enum-known-r
-enum-known-r c = search needs
 
 returns : tie.Need-returns
 returns c = rw (← c .before .before .before .before .suites .ensures, c .before .before .suites-start .given .1) (c .behind-suites .ensures)
@@ -37,10 +25,10 @@ pub behind-session-spec : {M : Type 1} → statement M
 behind-session-spec =
     tie.close
     (tie.spec
-    add-suites
-    suites-requires
-    enum-known-suites-start
+    (λ c. search needs)
+    (λ c κs. search needs)
+    (λ c. search needs)
     behind-suites-requires
-    enum-known-r
+    (λ c. search needs)
     returns
     returns-2)

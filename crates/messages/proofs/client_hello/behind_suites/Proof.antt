@@ -11,15 +11,6 @@ use Rattle.messages.proofs.Windows.{stated-window}
 use Rattle.messages.proofs.client_hello.behind_suites.Statement.{statement}
 use Rattle.messages.proofs.client_hello.behind_suites.Tie as tie
 
-add-methods : tie.Need-add-methods
-add-methods c = search needs
-
-methods-requires : tie.Need-methods-requires
-methods-requires c κs = search needs
-
-enum-known-start : tie.Need-enum-known-start
-enum-known-start c = search needs
-
 -- where the compression methods stand
 inside : (c : tie.After-known-told)
     → (c .before .start .given .0 .0 ≡ c .before .before .before .before .before .args .suites-start + c .before .before .before .before .before .args .suites-len + 1)
@@ -29,27 +20,6 @@ inside c =
 
 add-tail : tie.Need-add-tail
 add-tail c = record { fits = omega (arith, inside c) }
-
-tail-requires : tie.Need-tail-requires
-tail-requires c κs = search needs
-
-enum-known-block : tie.Need-enum-known-block
-enum-known-block c = search needs
-
-shared-slice-read-number16 : tie.Need-shared-slice-read-number16
-shared-slice-read-number16 c = search needs
-
-shared-slice-read-number16-2 : tie.Need-shared-slice-read-number16-2
-shared-slice-read-number16-2 c = search needs
-
-number16-requires : tie.Need-number16-requires
-number16-requires c κs = search needs
-
-enum-known-r : tie.Need-enum-known-r
-enum-known-r c = search needs
-
-enum-known-r-2 : tie.Need-enum-known-r-2
-enum-known-r-2 c = search needs
 
 returns : tie.Need-returns
 returns c =
@@ -73,17 +43,17 @@ pub behind-suites-spec : {M : Type 1} → statement M
 behind-suites-spec =
     tie.close
     (tie.spec
-    add-methods
-    methods-requires
-    enum-known-start
+    (λ c. search needs)
+    (λ c κs. search needs)
+    (λ c. search needs)
     add-tail
-    tail-requires
-    enum-known-block
-    shared-slice-read-number16
-    shared-slice-read-number16-2
-    number16-requires
-    enum-known-r
-    enum-known-r-2
+    (λ c κs. search needs)
+    (λ c. search needs)
+    (λ c. search needs)
+    (λ c. search needs)
+    (λ c κs. search needs)
+    (λ c. search needs)
+    (λ c. search needs)
     returns
     returns-2
     returns-3)

@@ -5,17 +5,8 @@ use borrow.Author.Tests.{le-leb, lt-leb}
 use Rattle.messages.proofs.client_hello.methods.Statement.{statement}
 use Rattle.messages.proofs.client_hello.methods.Tie as tie
 
-part8-requires : tie.Need-part8-requires
-part8-requires c κs = search needs
-
-enum-known-start : tie.Need-enum-known-start
-enum-known-start c = search needs
-
 returns : tie.Need-returns
 returns c = rw (← c .before .before .before .before .part8 .ensures, c .before .before .start .given .1, lt-leb 1 (c .before .before .start .given .0 .1 .0) (c .if1 .taken))
-
-enum-known-r : tie.Need-enum-known-r
-enum-known-r c = search needs
 
 returns-2 : tie.Need-returns-2
 returns-2 c = rw (← c .before .before .before .before .part8 .ensures, c .before .before .start .given .1, le-leb 1 (c .before .before .start .given .0 .1 .0) (c .if1 .left))
@@ -25,4 +16,4 @@ returns-3 c = rw (← c .before .before .before .part8 .ensures, c .before .r .g
 
 pub methods-spec : {M : Type 1} → statement M
 methods-spec =
-    tie.close (tie.spec part8-requires enum-known-start returns enum-known-r returns-2 returns-3)
+    tie.close (tie.spec (λ c κs. search needs) (λ c. search needs) returns (λ c. search needs) returns-2 returns-3)

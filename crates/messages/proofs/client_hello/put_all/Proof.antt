@@ -15,21 +15,6 @@ use Rattle.messages.proofs.Hellos.{fronted, length-front, length-body, 
 use Rattle.messages.proofs.client_hello.put_all.Statement.{statement}
 use Rattle.messages.proofs.client_hello.put_all.Tie as tie
 
-put-front-requires : tie.Need-put-front-requires
-put-front-requires c κs = search needs
-
-vector16-requires : tie.Need-vector16-requires
-vector16-requires c κs = search needs
-
-vector8-requires : tie.Need-vector8-requires
-vector8-requires c κs = search needs
-
-put-tail-requires : tie.Need-put-tail-requires
-put-tail-requires c κs = search needs
-
-same-length : tie.Need-same-length
-same-length c = search needs
-
 -- the parts one behind the other are the message
 whole : (c : tie.Start)
     → ((fronted 1 (c .args .body-len) (c .args .version) (c .args .random .now) (c .args .session-id .now)
@@ -80,9 +65,9 @@ pub put-all-spec : {M : Type 1} → statement M
 put-all-spec =
     tie.close
     (tie.spec
-    put-front-requires
-    vector16-requires
-    vector8-requires
-    put-tail-requires
-    same-length
+    (λ c κs. search needs)
+    (λ c κs. search needs)
+    (λ c κs. search needs)
+    (λ c κs. search needs)
+    (λ c. search needs)
     returns)

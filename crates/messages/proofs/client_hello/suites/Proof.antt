@@ -6,12 +6,6 @@ use Prim.Native.Nat.{_%_}
 use Rattle.messages.proofs.client_hello.suites.Statement.{statement}
 use Rattle.messages.proofs.client_hello.suites.Tie as tie
 
-part16-requires : tie.Need-part16-requires
-part16-requires c κs = search needs
-
-enum-known-start : tie.Need-enum-known-start
-enum-known-start c = search needs
-
 returns : tie.Need-returns
 returns c = rw (← c .before .before .before .before .part16 .ensures, c .before .before .start .given .1, lt-leb 2 (c .before .before .start .given .0 .1 .0) (c .if1 .taken))
 
@@ -19,9 +13,6 @@ returns-2 : tie.Need-returns-2
 returns-2 c =
     let n = c .before .before .before .start .given .0 .1 .0 in
     rw (← c .before .before .before .before .before .part16 .ensures, c .before .before .before .start .given .1, le-leb 2 n (c .before .if1 .left), ne-eqb (n % 2) 0 (c .if2 .taken))
-
-enum-known-r : tie.Need-enum-known-r
-enum-known-r c = search needs
 
 returns-3 : tie.Need-returns-3
 returns-3 c =
@@ -34,4 +25,4 @@ returns-4 c = rw (← c .before .before .before .part16 .ensures, c .before .r .
 pub suites-spec : {M : Type 1} → statement M
 suites-spec =
     tie.close
-    (tie.spec part16-requires enum-known-start returns returns-2 enum-known-r returns-3 returns-4)
+    (tie.spec (λ c κs. search needs) (λ c. search needs) returns returns-2 (λ c. search needs) returns-3 returns-4)

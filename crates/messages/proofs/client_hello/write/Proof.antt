@@ -19,9 +19,6 @@ use Rattle.messages.proofs.Hellos.{front-rules, length-body, tail-bound
 use Rattle.messages.proofs.client_hello.write.Statement.{statement}
 use Rattle.messages.proofs.client_hello.write.Tie as tie
 
-front-valid-requires : tie.Need-front-valid-requires
-front-valid-requires c κs = search needs
-
 -- the fields that are given, and the rules on them, in the order of the tests
 abbrev fields : tie.Start → ClientHello
 fields c =
@@ -86,18 +83,12 @@ returns c =
     let bad = sym (c .before .front-valid .ensures) ∙ not-true (c .before .front-valid .result) (c .if1 .taken) in
     writes-none clientHello (fields (c .before .before .before .before .before .before .before .before)) (c .before .before .before .before .before .before .before .before .args .out .now) (valid-rules clientHello (fields (c .before .before .before .before .before .before .before .before)) (rw bad))
 
-lists-valid-requires : tie.Need-lists-valid-requires
-lists-valid-requires c κs = search needs
-
 returns-2 : tie.Need-returns-2
 returns-2 c =
     let s = c .before .before .before .before .before .before .before .before .before .before in
     let bad : lists s ≡ false = sym (c .before .lists-valid .ensures) ∙ not-true (c .before .lists-valid .result) (c .if2 .taken) in
     let none-legal : clientHello .rules (fields s) ≡ false = rules-by s ∙ rw bad (and-false (front s)) in
     writes-none clientHello (fields s) (s .args .out .now) (valid-rules clientHello (fields s) none-legal)
-
-tail-valid-requires : tie.Need-tail-valid-requires
-tail-valid-requires c κs = search needs
 
 returns-3 : tie.Need-returns-3
 returns-3 c =
@@ -106,17 +97,8 @@ returns-3 c =
     sym (c .before .tail-valid .ensures) ∙ not-true (c .before .tail-valid .result) (c .if3 .taken) in
     writes-none clientHello (fields s) (s .args .out .now) (valid-rules clientHello (fields s) (simp (bad, and-false)))
 
-add-lists : tie.Need-add-lists
-add-lists c = search needs
-
-add-body-len : tie.Need-add-body-len
-add-body-len c = search needs
-
 add-body-len-2 : tie.Need-add-body-len-2
 add-body-len-2 c = record { fits = omega (arith, front-ok (c .before .before .before .before), lists-ok (c .before .before)) }
-
-tail-len-requires : tie.Need-tail-len-requires
-tail-len-requires c κs = search needs
 
 add-body-len-3 : tie.Need-add-body-len-3
 add-body-len-3 c =
@@ -127,9 +109,6 @@ returns-4 c =
     let s = c .before .before .before .before .before .before .before .before .before .before .before .before .before .before in
     let n = sized (c .before) in
     writes-none clientHello (fields s) (s .args .out .now) (valid-long clientHello (fields s) (omega arith))
-
-add-if5 : tie.Need-add-if5
-add-if5 c = search needs
 
 returns-5 : tie.Need-returns-5
 returns-5 c =
@@ -144,9 +123,6 @@ put-all-requires c κs =
     let n = sized (c .before .before .before) in
     let t = c .before .before .before .tail-len .ensures in
     (f .1, f .2, l .1, omega arith, omega arith)
-
-same-length : tie.Need-same-length
-same-length c = search needs
 
 returns-6 : tie.Need-returns-6
 returns-6 c =
@@ -163,20 +139,20 @@ pub write-spec : {M : Type 1} → statement M
 write-spec =
     tie.close
     (tie.spec
-    front-valid-requires
+    (λ c κs. search needs)
     returns
-    lists-valid-requires
+    (λ c κs. search needs)
     returns-2
-    tail-valid-requires
+    (λ c κs. search needs)
     returns-3
-    add-lists
-    add-body-len
+    (λ c. search needs)
+    (λ c. search needs)
     add-body-len-2
-    tail-len-requires
+    (λ c κs. search needs)
     add-body-len-3
     returns-4
-    add-if5
+    (λ c. search needs)
     returns-5
     put-all-requires
-    same-length
+    (λ c. search needs)
     returns-6)

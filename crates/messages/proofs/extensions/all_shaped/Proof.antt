@@ -23,12 +23,6 @@ abbrev μ-loop : tie.MeasureT-loop
 loop-holds : tie.Need-loop-holds Inv-loop μ-loop
 loop-holds c = (zero-le, refl)
 
-next-requires : tie.Need-next-requires Inv-loop μ-loop
-next-requires c κs = search needs
-
-enum-known-kind : tie.Need-enum-known-kind Inv-loop μ-loop
-enum-known-kind c = search needs
-
 -- the extension that `next` found
 found : (c : tie.After-known-told Inv-loop μ-loop)
     → stepAt (c .before .before .before .before .before .before .args .block .now) (c .before .before .before .before .loop .at)
@@ -55,17 +49,8 @@ shapes c =
 add-behind : tie.Need-add-behind Inv-loop μ-loop
 add-behind c = record { fits = omega (arith, inside c) }
 
-sub-shaped : tie.Need-sub-shaped Inv-loop μ-loop
-sub-shaped c = search needs
-
-part-shaped-start : tie.Need-part-shaped-start Inv-loop μ-loop
-part-shaped-start c = search needs
-
 part-shaped-end : tie.Need-part-shaped-end Inv-loop μ-loop
 part-shaped-end c = omega (arith, inside c)
-
-shaped-requires : tie.Need-shaped-requires Inv-loop μ-loop
-shaped-requires c κs = search needs
 
 returns : tie.Need-returns Inv-loop μ-loop
 returns c =
@@ -79,17 +64,11 @@ loop-again c =
     let rest = rw (not-false (c .before .shaped .result) (c .if1 .left)) at (shapes (c .before)) in
     (inside (c .before .before .before) .1, sym rest ∙ c .before .before .before .before .before .before .before .loop .inv .1)
 
-enum-told : tie.Need-enum-told Inv-loop μ-loop
-enum-told c = search needs
-
 returns-2 : tie.Need-returns-2 Inv-loop μ-loop
 returns-2 c =
     let l = c .before .before .before .loop in
     let e = step-ended (c .before .before .before .before .before .args .block .now) (l .at) (sym (c .before .before .next .ensures) ∙ c .enum-told .given .1) in
     sym (ap ticketsShaped e) ∙ l .inv .1
-
-enum-told-2 : tie.Need-enum-told-2 Inv-loop μ-loop
-enum-told-2 c = search needs
 
 returns-3 : tie.Need-returns-3 Inv-loop μ-loop
 returns-3 c =
@@ -104,17 +83,17 @@ all-shaped-spec =
     Inv-loop
     μ-loop
     loop-holds
-    next-requires
-    enum-known-kind
+    (λ c κs. search needs)
+    (λ c. search needs)
     add-behind
-    sub-shaped
-    part-shaped-start
+    (λ c. search needs)
+    (λ c. search needs)
     part-shaped-end
-    shaped-requires
+    (λ c κs. search needs)
     returns
     loop-less
     loop-again
-    enum-told
+    (λ c. search needs)
     returns-2
-    enum-told-2
+    (λ c. search needs)
     returns-3)

@@ -18,46 +18,10 @@ use Rattle.messages.proofs.extensions.next.Tie as tie
 returns : tie.Need-returns
 returns c = rw (le-leb _ _ (c .if1 .taken))
 
-sub-if2 : tie.Need-sub-if2
-sub-if2 c = search needs
-
 returns-2 : tie.Need-returns-2
 returns-2 c =
     let a = c .before .before .before .args in
     rw (lt-leb (length (a .block .now)) (a .at) (c .before .if1 .left), lt-leb (endAt 2 (a .block .now) (a .at + 2)) (length (a .block .now)) (omega arith))
-
-shared-slice-read-number16 : tie.Need-shared-slice-read-number16
-shared-slice-read-number16 c = search needs
-
-add-number16 : tie.Need-add-number16
-add-number16 c = search needs
-
-shared-slice-read-number16-2 : tie.Need-shared-slice-read-number16-2
-shared-slice-read-number16-2 c = search needs
-
-number16-requires : tie.Need-number16-requires
-number16-requires c κs = search needs
-
-add-number16-2 : tie.Need-add-number16-2
-add-number16-2 c = search needs
-
-shared-slice-read-number16-3 : tie.Need-shared-slice-read-number16-3
-shared-slice-read-number16-3 c = search needs
-
-add-number16-3 : tie.Need-add-number16-3
-add-number16-3 c = search needs
-
-shared-slice-read-number16-4 : tie.Need-shared-slice-read-number16-4
-shared-slice-read-number16-4 c = search needs
-
-number16-requires-2 : tie.Need-number16-requires-2
-number16-requires-2 c κs = search needs
-
-add-start : tie.Need-add-start
-add-start c = search needs
-
-sub-if3 : tie.Need-sub-if3
-sub-if3 c = search needs
 
 -- what the first number16 gave is the extension's type
 kind-is : (c : tie.After-number16) → number (take 2 (drop (c .before .before .before .before .before .before .args .at) (c .before .before .before .before .before .before .args .block .now))) ≡ c .number16 .result
@@ -93,18 +57,18 @@ next-spec =
     tie.close
     (tie.spec
     returns
-    sub-if2
+    (λ c. search needs)
     returns-2
-    shared-slice-read-number16
-    add-number16
-    shared-slice-read-number16-2
-    number16-requires
-    add-number16-2
-    shared-slice-read-number16-3
-    add-number16-3
-    shared-slice-read-number16-4
-    number16-requires-2
-    add-start
-    sub-if3
+    (λ c. search needs)
+    (λ c. search needs)
+    (λ c. search needs)
+    (λ c κs. search needs)
+    (λ c. search needs)
+    (λ c. search needs)
+    (λ c. search needs)
+    (λ c. search needs)
+    (λ c κs. search needs)
+    (λ c. search needs)
+    (λ c. search needs)
     returns-3
     returns-4)

@@ -23,19 +23,10 @@ abbrev μ-loop : tie.MeasureT-loop
 loop-holds : tie.Need-loop-holds Inv-loop μ-loop
 loop-holds c = (zero-le, λ p h. absurd (omega arith))
 
-once-in-part-requires : tie.Need-once-in-part-requires Inv-loop μ-loop
-once-in-part-requires c κs = search needs
-
 returns : tie.Need-returns Inv-loop μ-loop
 returns c =
     let o = extensionsIn (c .before .before .before .before .before .args .block .now) in
     sym (repeat-part o (c .before .before .before .loop .part) (sym (c .before .once-in-part .ensures) ∙ not-true (c .before .once-in-part .result) (c .if1 .taken)))
-
-add-part : tie.Need-add-part Inv-loop μ-loop
-add-part c = search needs
-
-loop-less : tie.Need-loop-less Inv-loop μ-loop
-loop-less c = search needs
 
 loop-again : tie.Need-loop-again Inv-loop μ-loop
 loop-again c =
@@ -62,9 +53,9 @@ once-spec =
     Inv-loop
     μ-loop
     loop-holds
-    once-in-part-requires
+    (λ c κs. search needs)
     returns
-    add-part
-    loop-less
+    (λ c. search needs)
+    (λ c. search needs)
     loop-again
     returns-2)

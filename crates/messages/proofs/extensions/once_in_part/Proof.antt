@@ -25,12 +25,6 @@ loop-holds c =
     let a = c .before .args in
     (zero-le, refl, pass-once (replicate 1024 0) (a .part) (extensionsIn (a .block .now)) (length-replicate {A = ℕ} 1024 0) (λ i h. getD-replicate {A = ℕ} 1024 i 0 0 h))
 
-next-requires : tie.Need-next-requires Inv-loop μ-loop
-next-requires c κs = search needs
-
-enum-known-kind : tie.Need-enum-known-kind Inv-loop μ-loop
-enum-known-kind c = search needs
-
 -- the extension that `next` found
 found : (c : tie.After-known-told Inv-loop μ-loop)
     → stepAt (c .before .before .before .before .before .before .args .block .now) (c .before .before .before .before .loop .at)
@@ -46,17 +40,11 @@ inside c = let f = step-found (c .before .before .before .before .before .before
 add-behind : tie.Need-add-behind Inv-loop μ-loop
 add-behind c = record { fits = omega (arith, inside c) }
 
-array-read-if2 : tie.Need-array-read-if2 Inv-loop μ-loop
-array-read-if2 c = search needs
-
 returns : tie.Need-returns Inv-loop μ-loop
 returns c =
     let l = c .before .before .before .before .before .before .loop in
     let a = c .before .before .before .before .before .before .before .before .args in
     sym (sym (l .inv .2) ∙ step-repeat (l .flags) (a .part) (a .block .now) (l .at) _ _ _ (found (c .before .before)) (c .before .if1 .taken) (c .if2 .taken))
-
-array-write-flags : tie.Need-array-write-flags Inv-loop μ-loop
-array-write-flags c = search needs
 
 loop-less : tie.Need-loop-less Inv-loop μ-loop
 loop-less c = omega (arith, inside (c .before .before))
@@ -78,17 +66,11 @@ loop-again-2 c =
     let other = step-other (l .flags) (a .part) (a .block .now) (l .at) _ _ _ (found (c .before)) (c .if1 .left) in
     (inside (c .before) .1, l .inv .1, sym other ∙ l .inv .2)
 
-enum-told : tie.Need-enum-told Inv-loop μ-loop
-enum-told c = search needs
-
 returns-2 : tie.Need-returns-2 Inv-loop μ-loop
 returns-2 c =
     let l = c .before .before .before .loop in
     let e = step-ended (c .before .before .before .before .before .args .block .now) (l .at) (sym (c .before .before .next .ensures) ∙ c .enum-told .given .1) in
     sym (ap (passIn (l .flags) (c .before .before .before .before .before .args .part)) e) ∙ l .inv .2
-
-enum-told-2 : tie.Need-enum-told-2 Inv-loop μ-loop
-enum-told-2 c = search needs
 
 returns-3 : tie.Need-returns-3 Inv-loop μ-loop
 returns-3 c =
@@ -103,17 +85,17 @@ once-in-part-spec =
     Inv-loop
     μ-loop
     loop-holds
-    next-requires
-    enum-known-kind
+    (λ c κs. search needs)
+    (λ c. search needs)
     add-behind
-    array-read-if2
+    (λ c. search needs)
     returns
-    array-write-flags
+    (λ c. search needs)
     loop-less
     loop-again
     loop-less-2
     loop-again-2
-    enum-told
+    (λ c. search needs)
     returns-2
-    enum-told-2
+    (λ c. search needs)
     returns-3)

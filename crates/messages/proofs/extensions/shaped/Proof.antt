@@ -12,15 +12,6 @@ use Rattle.messages.proofs.extensions.shaped.Tie as tie
 returns : tie.Need-returns
 returns c = rw (ne-eqb (c .before .before .args .kind) 35 (c .if1 .taken))
 
-last16-requires : tie.Need-last16-requires
-last16-requires c κs = search needs
-
-enum-told : tie.Need-enum-told
-enum-told c = search needs
-
-enum-told-2 : tie.Need-enum-told-2
-enum-told-2 c = search needs
-
 returns-2 : tie.Need-returns-2
 returns-2 c =
     let a = c .before .before .before .before .before .args in
@@ -35,4 +26,4 @@ returns-3 c =
 
 pub shaped-spec : {M : Type 1} → statement M
 shaped-spec =
-    tie.close (tie.spec returns last16-requires enum-told enum-told-2 returns-2 returns-3)
+    tie.close (tie.spec returns (λ c κs. search needs) (λ c. search needs) (λ c. search needs) returns-2 returns-3)

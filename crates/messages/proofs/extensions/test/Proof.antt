@@ -5,14 +5,8 @@ use borrow.Author.Tests.{not-true, not-false}
 use Rattle.messages.proofs.extensions.test.Statement.{statement}
 use Rattle.messages.proofs.extensions.test.Tie as tie
 
-once-requires : tie.Need-once-requires
-once-requires c κs = search needs
-
 returns : tie.Need-returns
 returns c = rw (← c .before .once .ensures, not-true (c .before .once .result) (c .if1 .taken))
-
-all-shaped-requires : tie.Need-all-shaped-requires
-all-shaped-requires c κs = search needs
 
 returns-2 : tie.Need-returns-2
 returns-2 c = rw (← c .before .before .before .once .ensures, not-false (c .before .before .before .once .result) (c .before .before .if1 .left), c .before .if2 .taken) (c .all-shaped .ensures)
@@ -21,4 +15,4 @@ returns-3 : tie.Need-returns-3
 returns-3 c = rw (← c .before .before .once .ensures, not-false (c .before .before .once .result) (c .before .if1 .left), c .if2 .left)
 
 pub test-spec : {M : Type 1} → statement M
-test-spec = tie.close (tie.spec once-requires returns all-shaped-requires returns-2 returns-3)
+test-spec = tie.close (tie.spec (λ c κs. search needs) returns (λ c κs. search needs) returns-2 returns-3)

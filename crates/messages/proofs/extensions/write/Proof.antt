@@ -21,33 +21,6 @@ returns-2 c =
     let a = c .before .before .before .before .args in
     rw (le-ltb (length (a .contents .now)) (256 ^ 2) (omega arith), and-false) (refused BadValue (a .out .now))
 
-bytes16-requires : tie.Need-bytes16-requires
-bytes16-requires c κs = search needs
-
-bytes16-requires-2 : tie.Need-bytes16-requires-2
-bytes16-requires-2 c κs = search needs
-
-array-read-t14 : tie.Need-array-read-t14
-array-read-t14 c = search needs
-
-array-read-t17 : tie.Need-array-read-t17
-array-read-t17 c = search needs
-
-array-read-t20 : tie.Need-array-read-t20
-array-read-t20 c = search needs
-
-array-read-t23 : tie.Need-array-read-t23
-array-read-t23 c = search needs
-
-slice-aggregate-two : tie.Need-slice-aggregate-two
-slice-aggregate-two c = search needs
-
-two-requires : tie.Need-two-requires
-two-requires c κs = search needs
-
-same-length : tie.Need-same-length
-same-length c = search needs
-
 returns-3 : tie.Need-returns-3
 returns-3 c =
     let at-size = c .before .before .before .before .before in
@@ -64,13 +37,13 @@ write-spec =
     (tie.spec
     returns
     returns-2
-    bytes16-requires
-    bytes16-requires-2
-    array-read-t14
-    array-read-t17
-    array-read-t20
-    array-read-t23
-    slice-aggregate-two
-    two-requires
-    same-length
+    (λ c κs. search needs)
+    (λ c κs. search needs)
+    (λ c. search needs)
+    (λ c. search needs)
+    (λ c. search needs)
+    (λ c. search needs)
+    (λ c. search needs)
+    (λ c κs. search needs)
+    (λ c. search needs)
     returns-3)

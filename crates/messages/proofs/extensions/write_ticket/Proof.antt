@@ -19,36 +19,6 @@ returns c =
     let long : 256 ^ 2 ≤ length (vector 2 (a .ticket .now)) = rw (length-vector 2 (a .ticket .now)) (omega arith) in
     rw (le-ltb (length (vector 2 (a .ticket .now))) (256 ^ 2) long) (refused BadValue (a .out .now))
 
-add-bytes16 : tie.Need-add-bytes16
-add-bytes16 c = search needs
-
-bytes16-requires : tie.Need-bytes16-requires
-bytes16-requires c κs = search needs
-
-bytes16-requires-2 : tie.Need-bytes16-requires-2
-bytes16-requires-2 c κs = search needs
-
-array-read-t13 : tie.Need-array-read-t13
-array-read-t13 c = search needs
-
-array-read-t16 : tie.Need-array-read-t16
-array-read-t16 c = search needs
-
-array-read-t19 : tie.Need-array-read-t19
-array-read-t19 c = search needs
-
-array-read-t22 : tie.Need-array-read-t22
-array-read-t22 c = search needs
-
-slice-aggregate-two : tie.Need-slice-aggregate-two
-slice-aggregate-two c = search needs
-
-two-requires : tie.Need-two-requires
-two-requires c κs = search needs
-
-same-length : tie.Need-same-length
-same-length c = search needs
-
 returns-2 : tie.Need-returns-2
 returns-2 c =
     let at-inner = c .before .before .before .before .before in
@@ -64,14 +34,14 @@ write-ticket-spec =
     tie.close
     (tie.spec
     returns
-    add-bytes16
-    bytes16-requires
-    bytes16-requires-2
-    array-read-t13
-    array-read-t16
-    array-read-t19
-    array-read-t22
-    slice-aggregate-two
-    two-requires
-    same-length
+    (λ c. search needs)
+    (λ c κs. search needs)
+    (λ c κs. search needs)
+    (λ c. search needs)
+    (λ c. search needs)
+    (λ c. search needs)
+    (λ c. search needs)
+    (λ c. search needs)
+    (λ c κs. search needs)
+    (λ c. search needs)
     returns-2)

@@ -7,9 +7,6 @@ use lib.ListN.{length}
 use Rattle.messages.proofs.fixed.body.Statement.{statement}
 use Rattle.messages.proofs.fixed.body.Tie as tie
 
-add-if1 : tie.Need-add-if1
-add-if1 c = search needs
-
 returns : tie.Need-returns
 returns c = rw (ne-eqb (length (c .before .args .message .now)) (4 + c .before .args .size) (c .if1 .taken))
 
@@ -17,4 +14,4 @@ returns-2 : tie.Need-returns-2
 returns-2 c = rw (eq-eqb (length (c .before .args .message .now)) (4 + c .before .args .size) (c .if1 .left))
 
 pub body-spec : {M : Type 1} → statement M
-body-spec = tie.close (tie.spec add-if1 returns returns-2)
+body-spec = tie.close (tie.spec (λ c. search needs) returns returns-2)

@@ -18,15 +18,6 @@ returns c =
     let a = c .before .before .before .args in
     writes-none finished (a .verify-data .now) (a .out .now) (valid-rules finished (a .verify-data .now) (ne-eqb _ _ (c .if1 .taken)))
 
-slice-aggregate-two : tie.Need-slice-aggregate-two
-slice-aggregate-two c = search needs
-
-two-requires : tie.Need-two-requires
-two-requires c κs = search needs
-
-same-length : tie.Need-same-length
-same-length c = search needs
-
 returns-2 : tie.Need-returns-2
 returns-2 c =
     let a = c .before .before .before .before .before .before .before .before .args in
@@ -37,4 +28,4 @@ returns-2 c =
 
 pub write-finished-spec : {M : Type 1} → statement M
 write-finished-spec =
-    tie.close (tie.spec returns slice-aggregate-two two-requires same-length returns-2)
+    tie.close (tie.spec returns (λ c. search needs) (λ c κs. search needs) (λ c. search needs) returns-2)

@@ -18,26 +18,8 @@ use Rattle.messages.proofs.header.test.Tie as tie
 returns : tie.Need-returns
 returns c = simp (lt-ltb _ _ (c .if1 .taken))
 
-shared-slice-read-if2 : tie.Need-shared-slice-read-if2
-shared-slice-read-if2 c = search needs
-
 returns-2 : tie.Need-returns-2
 returns-2 c = simp (le-ltb _ _ (c .before .before .if1 .left), ne-eqb _ _ (c .if2 .taken))
-
-shared-slice-read-number24 : tie.Need-shared-slice-read-number24
-shared-slice-read-number24 c = search needs
-
-shared-slice-read-number24-2 : tie.Need-shared-slice-read-number24-2
-shared-slice-read-number24-2 c = search needs
-
-shared-slice-read-number24-3 : tie.Need-shared-slice-read-number24-3
-shared-slice-read-number24-3 c = search needs
-
-number24-requires : tie.Need-number24-requires
-number24-requires c κs = search needs
-
-sub-if3 : tie.Need-sub-if3
-sub-if3 c = search needs
 
 -- what number24 gave is the length that the header states
 said : (c : tie.After-number24) → stated 3 (drop 1 (c .before .before .before .before .before .before .before .before .args .message .now)) ≡ c .number24 .result
@@ -65,13 +47,13 @@ test-spec =
     tie.close
     (tie.spec
     returns
-    shared-slice-read-if2
+    (λ c. search needs)
     returns-2
-    shared-slice-read-number24
-    shared-slice-read-number24-2
-    shared-slice-read-number24-3
-    number24-requires
-    sub-if3
+    (λ c. search needs)
+    (λ c. search needs)
+    (λ c. search needs)
+    (λ c κs. search needs)
+    (λ c. search needs)
     returns-3
     returns-4
     returns-5)

@@ -14,42 +14,6 @@ use Rattle.messages.proofs.Puts.{put-two}
 use Rattle.messages.proofs.hello.put_front.Statement.{statement}
 use Rattle.messages.proofs.hello.put_front.Tie as tie
 
-bytes24-requires : tie.Need-bytes24-requires
-bytes24-requires c κs = search needs
-
-bytes16-requires : tie.Need-bytes16-requires
-bytes16-requires c κs = search needs
-
-array-read-t16 : tie.Need-array-read-t16
-array-read-t16 c = search needs
-
-array-read-t19 : tie.Need-array-read-t19
-array-read-t19 c = search needs
-
-array-read-t22 : tie.Need-array-read-t22
-array-read-t22 c = search needs
-
-array-read-t25 : tie.Need-array-read-t25
-array-read-t25 c = search needs
-
-array-read-t28 : tie.Need-array-read-t28
-array-read-t28 c = search needs
-
-slice-aggregate-at : tie.Need-slice-aggregate-at
-slice-aggregate-at c = search needs
-
-at-requires : tie.Need-at-requires
-at-requires c κs = search needs
-
-at-requires-2 : tie.Need-at-requires-2
-at-requires-2 c κs = search needs
-
-vector8-requires : tie.Need-vector8-requires
-vector8-requires c κs = search needs
-
-same-length : tie.Need-same-length
-same-length c = search needs
-
 -- the six bytes that the code puts first
 abbrev head : ℕ → List ℕ → List ℕ → List ℕ
 head kind n v = kind ∷ getD n 0 0 ∷ getD n 1 0 ∷ getD n 2 0 ∷ getD v 0 0 ∷ getD v 1 0 ∷ []
@@ -82,16 +46,16 @@ pub put-front-spec : {M : Type 1} → statement M
 put-front-spec =
     tie.close
     (tie.spec
-    bytes24-requires
-    bytes16-requires
-    array-read-t16
-    array-read-t19
-    array-read-t22
-    array-read-t25
-    array-read-t28
-    slice-aggregate-at
-    at-requires
-    at-requires-2
-    vector8-requires
-    same-length
+    (λ c κs. search needs)
+    (λ c κs. search needs)
+    (λ c. search needs)
+    (λ c. search needs)
+    (λ c. search needs)
+    (λ c. search needs)
+    (λ c. search needs)
+    (λ c. search needs)
+    (λ c κs. search needs)
+    (λ c κs. search needs)
+    (λ c κs. search needs)
+    (λ c. search needs)
     returns)

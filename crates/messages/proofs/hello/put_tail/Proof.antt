@@ -11,9 +11,6 @@ use Rattle.messages.proofs.hello.put_tail.Tie as tie
 vector16-requires : tie.Need-vector16-requires
 vector16-requires c κs = rw (c .before .if1 .taken) at (c .before .before .before .before .pre)
 
-same-length : tie.Need-same-length
-same-length c = search needs
-
 returns : tie.Need-returns
 returns c = rw (c .before .before .before .before .if1 .taken) (c .before .before .vector16 .ensures)
 
@@ -23,4 +20,4 @@ returns-2 c =
     rw (c .if1 .left) (sym (add-zero (a .at)), paste-zero (a .out .now) (a .at) [])
 
 pub put-tail-spec : {M : Type 1} → statement M
-put-tail-spec = tie.close (tie.spec vector16-requires same-length returns returns-2)
+put-tail-spec = tie.close (tie.spec vector16-requires (λ c. search needs) returns returns-2)

@@ -20,12 +20,6 @@ use Rattle.messages.proofs.hello.tail.Tie as tie
 returns : tie.Need-returns
 returns c = rw (eq-eqb _ _ (c .if1 .taken))
 
-last16-requires : tie.Need-last16-requires
-last16-requires c κs = search needs
-
-enum-known-start : tie.Need-enum-known-start
-enum-known-start c = search needs
-
 -- the block ends where the message does
 inside : (c : tie.After-known-told) → c .before .start .given .0 .0 + c .before .start .given .0 .1 .0 ≡ length (c .before .before .before .before .before .before .args .message .now)
 inside c =
@@ -43,17 +37,8 @@ rule c =
 add-test : tie.Need-add-test
 add-test c = record { fits = omega (arith, inside c) }
 
-sub-test : tie.Need-sub-test
-sub-test c = search needs
-
-part-test-start : tie.Need-part-test-start
-part-test-start c = search needs
-
 part-test-end : tie.Need-part-test-end
 part-test-end c = omega (arith, inside c)
-
-test-requires : tie.Need-test-requires
-test-requires c κs = search needs
 
 -- what is left once the block is tested
 rule-left : (c : tie.After-test)
@@ -64,9 +49,6 @@ rule-left c =
 
 returns-2 : tie.Need-returns-2
 returns-2 c = rw (rule-left (c .before), not-true (c .before .test .result) (c .if2 .taken))
-
-enum-known-r : tie.Need-enum-known-r
-enum-known-r c = search needs
 
 returns-3 : tie.Need-returns-3
 returns-3 c = rw (rule-left (c .before), not-false (c .before .test .result) (c .if2 .left))
@@ -80,14 +62,14 @@ tail-spec =
     tie.close
     (tie.spec
     returns
-    last16-requires
-    enum-known-start
+    (λ c κs. search needs)
+    (λ c. search needs)
     add-test
-    sub-test
-    part-test-start
+    (λ c. search needs)
+    (λ c. search needs)
     part-test-end
-    test-requires
+    (λ c κs. search needs)
     returns-2
-    enum-known-r
+    (λ c. search needs)
     returns-3
     returns-4)

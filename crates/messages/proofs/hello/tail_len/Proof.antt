@@ -5,14 +5,8 @@ use native.Mathlib.Omega.{arith}
 use Rattle.messages.proofs.hello.tail_len.Statement.{statement}
 use Rattle.messages.proofs.hello.tail_len.Tie as tie
 
-add-result : tie.Need-add-result
-add-result c = search needs
-
 returns : tie.Need-returns
 returns c = rw (c .if1 .taken) (omega arith)
 
-returns-2 : tie.Need-returns-2
-returns-2 c = search needs
-
 pub tail-len-spec : {M : Type 1} → statement M
-tail-len-spec = tie.close (tie.spec add-result returns returns-2)
+tail-len-spec = tie.close (tie.spec (λ c. search needs) returns (λ c. search needs))

@@ -15,13 +15,10 @@ returns-2 c =
     let a = c .before .before .before .args in
     rw (not-false (a .present) (c .before .if1 .left), le-ltb (length (a .block .now)) 65536 (omega arith))
 
-test-requires : tie.Need-test-requires
-test-requires c κs = search needs
-
 returns-3 : tie.Need-returns-3
 returns-3 c =
     let a = c .before .before .before .before .args in
     rw (not-false (a .present) (c .before .before .if1 .left), lt-ltb (length (a .block .now)) 65536 (omega arith)) (c .test .ensures)
 
 pub tail-valid-spec : {M : Type 1} → statement M
-tail-valid-spec = tie.close (tie.spec returns returns-2 test-requires returns-3)
+tail-valid-spec = tie.close (tie.spec returns returns-2 (λ c κs. search needs) returns-3)

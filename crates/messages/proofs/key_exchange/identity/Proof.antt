@@ -12,12 +12,6 @@ use Rattle.messages.proofs.Places.{last-inside}
 use Rattle.messages.proofs.key_exchange.identity.Statement.{statement}
 use Rattle.messages.proofs.key_exchange.identity.Tie as tie
 
-read-identity-requires : tie.Need-read-identity-requires
-read-identity-requires c κs = search needs
-
-enum-known-start : tie.Need-enum-known-start
-enum-known-start c = search needs
-
 -- where the identity stands
 found : (c : tie.After-known-told)
     → vectorPlace 16 (c .before .before .before .before .before .args .message .now) ≡ At (c .before .start .given .0 .0) (c .before .start .given .0 .1 .0)
@@ -30,26 +24,8 @@ inside c = last-inside 16 (c .before .before .before .before .before .args .mess
 add-result : tie.Need-add-result
 add-result c = record { fits = omega (arith, inside c) }
 
-sub-result : tie.Need-sub-result
-sub-result c = search needs
-
-part-result-start : tie.Need-part-result-start
-part-result-start c = search needs
-
 part-result-end : tie.Need-part-result-end
 part-result-end c = omega (arith, inside c)
-
-enum-told : tie.Need-enum-told
-enum-told c = search needs
-
-sub-result-2 : tie.Need-sub-result-2
-sub-result-2 c = search needs
-
-part-result-start-2 : tie.Need-part-result-start-2
-part-result-start-2 c = search needs
-
-part-result-end-2 : tie.Need-part-result-end-2
-part-result-end-2 c = search needs
 
 returns : tie.Need-returns
 returns c = rw (found (c .before), add-sub-cancel-left)
@@ -61,15 +37,15 @@ pub identity-spec : {M : Type 1} → statement M
 identity-spec =
     tie.close
     (tie.spec
-    read-identity-requires
-    enum-known-start
+    (λ c κs. search needs)
+    (λ c. search needs)
     add-result
-    sub-result
-    part-result-start
+    (λ c. search needs)
+    (λ c. search needs)
     part-result-end
-    enum-told
-    sub-result-2
-    part-result-start-2
-    part-result-end-2
+    (λ c. search needs)
+    (λ c. search needs)
+    (λ c. search needs)
+    (λ c. search needs)
     returns
     returns-2)

@@ -28,39 +28,6 @@ returns c =
     let a = c .before .before .before .args in
     writes-none (vectorMessage (a .kind)) (a .contents .now) (a .out .now) (valid-long (vectorMessage (a .kind)) (a .contents .now) (omega arith))
 
-add-bytes24 : tie.Need-add-bytes24
-add-bytes24 c = search needs
-
-bytes24-requires : tie.Need-bytes24-requires
-bytes24-requires c κs = search needs
-
-bytes16-requires : tie.Need-bytes16-requires
-bytes16-requires c κs = search needs
-
-array-read-t15 : tie.Need-array-read-t15
-array-read-t15 c = search needs
-
-array-read-t18 : tie.Need-array-read-t18
-array-read-t18 c = search needs
-
-array-read-t21 : tie.Need-array-read-t21
-array-read-t21 c = search needs
-
-array-read-t24 : tie.Need-array-read-t24
-array-read-t24 c = search needs
-
-array-read-t27 : tie.Need-array-read-t27
-array-read-t27 c = search needs
-
-slice-aggregate-two : tie.Need-slice-aggregate-two
-slice-aggregate-two c = search needs
-
-two-requires : tie.Need-two-requires
-two-requires c κs = search needs
-
-same-length : tie.Need-same-length
-same-length c = search needs
-
 returns-2 : tie.Need-returns-2
 returns-2 c =
     let a = c .before .before .before .before .before .before .before .before .before .before .args in
@@ -74,15 +41,15 @@ write-spec =
     tie.close
     (tie.spec
     returns
-    add-bytes24
-    bytes24-requires
-    bytes16-requires
-    array-read-t15
-    array-read-t18
-    array-read-t21
-    array-read-t24
-    array-read-t27
-    slice-aggregate-two
-    two-requires
-    same-length
+    (λ c. search needs)
+    (λ c κs. search needs)
+    (λ c κs. search needs)
+    (λ c. search needs)
+    (λ c. search needs)
+    (λ c. search needs)
+    (λ c. search needs)
+    (λ c. search needs)
+    (λ c. search needs)
+    (λ c κs. search needs)
+    (λ c. search needs)
     returns-2)

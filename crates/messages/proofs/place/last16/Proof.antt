@@ -12,12 +12,6 @@ use Rattle.messages.proofs.Places.{part-there, part-cut}
 use Rattle.messages.proofs.place.last16.Statement.{statement}
 use Rattle.messages.proofs.place.last16.Tie as tie
 
-part16-requires : tie.Need-part16-requires
-part16-requires c κs = search needs
-
-enum-known-start : tie.Need-enum-known-start
-enum-known-start c = search needs
-
 -- what part16 found
 found : (c : tie.After-known-told)
     → (endAt 2 (c .before .before .before .before .before .args .message .now) (c .before .before .before .before .before .args .at) ≤ length (c .before .before .before .before .before .args .message .now))
@@ -34,9 +28,6 @@ returns c =
     let f = found (c .before) in
     rw (ne-eqb (endAt 2 (a .message .now) (a .at)) (length (a .message .now)) (omega (arith, c .if1 .taken)))
 
-enum-known-r : tie.Need-enum-known-r
-enum-known-r c = search needs
-
 returns-2 : tie.Need-returns-2
 returns-2 c =
     let a = c .before .before .before .before .before .before .args in
@@ -52,4 +43,4 @@ returns-3 c =
 pub last16-spec : {M : Type 1} → statement M
 last16-spec =
     tie.close
-    (tie.spec part16-requires enum-known-start add-if1 returns enum-known-r returns-2 returns-3)
+    (tie.spec (λ c κs. search needs) (λ c. search needs) add-if1 returns (λ c. search needs) returns-2 returns-3)

@@ -17,31 +17,10 @@ returns c =
     let a = c .before .before .args in
     rw (lt-leb (endAt 2 (a .message .now) (a .at)) (length (a .message .now)) (omega arith))
 
-sub-if2 : tie.Need-sub-if2
-sub-if2 c = search needs
-
 returns-2 : tie.Need-returns-2
 returns-2 c =
     let a = c .before .before .before .args in
     rw (lt-leb (endAt 2 (a .message .now) (a .at)) (length (a .message .now)) (omega arith))
-
-add-start : tie.Need-add-start
-add-start c = search needs
-
-shared-slice-read-number16 : tie.Need-shared-slice-read-number16
-shared-slice-read-number16 c = search needs
-
-add-number16 : tie.Need-add-number16
-add-number16 c = search needs
-
-shared-slice-read-number16-2 : tie.Need-shared-slice-read-number16-2
-shared-slice-read-number16-2 c = search needs
-
-number16-requires : tie.Need-number16-requires
-number16-requires c κs = search needs
-
-sub-if3 : tie.Need-sub-if3
-sub-if3 c = search needs
 
 -- what number16 gave is the vector's length
 said : (c : tie.After-number16) → stated 2 (drop (c .before .before .before .before .before .before .args .at) (c .before .before .before .before .before .before .args .message .now)) ≡ c .number16 .result
@@ -64,13 +43,13 @@ part16-spec =
     tie.close
     (tie.spec
     returns
-    sub-if2
+    (λ c. search needs)
     returns-2
-    add-start
-    shared-slice-read-number16
-    add-number16
-    shared-slice-read-number16-2
-    number16-requires
-    sub-if3
+    (λ c. search needs)
+    (λ c. search needs)
+    (λ c. search needs)
+    (λ c. search needs)
+    (λ c κs. search needs)
+    (λ c. search needs)
     returns-3
     returns-4)

@@ -16,17 +16,8 @@ returns c =
     let a = c .before .args in
     rw (lt-leb (endAt 1 (a .message .now) (a .at)) (length (a .message .now)) (omega arith))
 
-add-start : tie.Need-add-start
-add-start c = search needs
-
-shared-slice-read-len : tie.Need-shared-slice-read-len
-shared-slice-read-len c = search needs
-
 cast-len : tie.Need-cast-len
 cast-len c = omega (arith, c .shared-slice-known .given (c .before .before .args .at))
-
-sub-if2 : tie.Need-sub-if2
-sub-if2 c = search needs
 
 -- the byte is the vector's length
 said : (c : tie.After-shared-slice-known)
@@ -48,4 +39,4 @@ returns-3 c =
 pub part8-spec : {M : Type 1} → statement M
 part8-spec =
     tie.close
-    (tie.spec returns add-start shared-slice-read-len cast-len sub-if2 returns-2 returns-3)
+    (tie.spec returns (λ c. search needs) (λ c. search needs) cast-len (λ c. search needs) returns-2 returns-3)

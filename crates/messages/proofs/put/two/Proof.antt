@@ -15,22 +15,10 @@ returns c =
     let a = c .before .before .before .before .args in
     short (a .head .now ++ a .tail .now) (a .out .now) (simp length-append (omega arith))
 
-sub-if2 : tie.Need-sub-if2
-sub-if2 c = search needs
-
 returns-2 : tie.Need-returns-2
 returns-2 c =
     let a = c .before .before .before .before .before .args in
     short (a .head .now ++ a .tail .now) (a .out .now) (simp length-append (omega arith))
-
-at-requires : tie.Need-at-requires
-at-requires c κs = search needs
-
-at-requires-2 : tie.Need-at-requires-2
-at-requires-2 c κs = search needs
-
-same-length : tie.Need-same-length
-same-length c = search needs
 
 returns-3 : tie.Need-returns-3
 returns-3 c =
@@ -47,4 +35,4 @@ returns-3 c =
 
 pub two-spec : {M : Type 1} → statement M
 two-spec =
-    tie.close (tie.spec returns sub-if2 returns-2 at-requires at-requires-2 same-length returns-3)
+    tie.close (tie.spec returns (λ c. search needs) returns-2 (λ c κs. search needs) (λ c κs. search needs) (λ c. search needs) returns-3)

@@ -12,21 +12,6 @@ use Rattle.messages.proofs.Puts.{put-two}
 use Rattle.messages.proofs.put.vector16.Statement.{statement}
 use Rattle.messages.proofs.put.vector16.Tie as tie
 
-bytes16-requires : tie.Need-bytes16-requires
-bytes16-requires c κs = search needs
-
-slice-aggregate-at : tie.Need-slice-aggregate-at
-slice-aggregate-at c = search needs
-
-at-requires : tie.Need-at-requires
-at-requires c κs = search needs
-
-at-requires-2 : tie.Need-at-requires-2
-at-requires-2 c κs = search needs
-
-same-length : tie.Need-same-length
-same-length c = search needs
-
 returns : tie.Need-returns
 returns c =
     let a = c .before .before .before .before .before .before .before .before .before .before .before .before .args in
@@ -44,4 +29,4 @@ returns c =
 pub vector16-spec : {M : Type 1} → statement M
 vector16-spec =
     tie.close
-    (tie.spec bytes16-requires slice-aggregate-at at-requires at-requires-2 same-length returns)
+    (tie.spec (λ c κs. search needs) (λ c. search needs) (λ c κs. search needs) (λ c κs. search needs) (λ c. search needs) returns)

@@ -13,21 +13,6 @@ use Rattle.messages.proofs.Puts.{put-two}
 use Rattle.messages.proofs.put.vector8.Statement.{statement}
 use Rattle.messages.proofs.put.vector8.Tie as tie
 
-cast-t7 : tie.Need-cast-t7
-cast-t7 c = search needs
-
-slice-aggregate-at : tie.Need-slice-aggregate-at
-slice-aggregate-at c = search needs
-
-at-requires : tie.Need-at-requires
-at-requires c κs = search needs
-
-at-requires-2 : tie.Need-at-requires-2
-at-requires-2 c κs = search needs
-
-same-length : tie.Need-same-length
-same-length c = search needs
-
 returns : tie.Need-returns
 returns c =
     let a = c .before .before .before .before .before .before .before .before .before .before .before .args in
@@ -42,4 +27,4 @@ returns c =
 
 pub vector8-spec : {M : Type 1} → statement M
 vector8-spec =
-    tie.close (tie.spec cast-t7 slice-aggregate-at at-requires at-requires-2 same-length returns)
+    tie.close (tie.spec (λ c. search needs) (λ c. search needs) (λ c κs. search needs) (λ c κs. search needs) (λ c. search needs) returns)

@@ -14,53 +14,8 @@ use Rattle.messages.proofs.server_hello.behind_session.Tie as tie
 returns : tie.Need-returns
 returns c = rw (lt-leb (42 + c .before .before .args .session-len) (length (c .before .before .args .message .now)) (omega arith))
 
-sub-if2 : tie.Need-sub-if2
-sub-if2 c = search needs
-
 returns-2 : tie.Need-returns-2
 returns-2 c = rw (lt-leb (42 + c .before .before .before .args .session-len) (length (c .before .before .before .args .message .now)) (omega arith))
-
-shared-slice-read-number16 : tie.Need-shared-slice-read-number16
-shared-slice-read-number16 c = search needs
-
-shared-slice-read-number16-2 : tie.Need-shared-slice-read-number16-2
-shared-slice-read-number16-2 c = search needs
-
-number16-requires : tie.Need-number16-requires
-number16-requires c κs = search needs
-
-add-number16 : tie.Need-add-number16
-add-number16 c = search needs
-
-shared-slice-read-number16-3 : tie.Need-shared-slice-read-number16-3
-shared-slice-read-number16-3 c = search needs
-
-add-number16-2 : tie.Need-add-number16-2
-add-number16-2 c = search needs
-
-shared-slice-read-number16-4 : tie.Need-shared-slice-read-number16-4
-shared-slice-read-number16-4 c = search needs
-
-number16-requires-2 : tie.Need-number16-requires-2
-number16-requires-2 c κs = search needs
-
-add-compression : tie.Need-add-compression
-add-compression c = search needs
-
-shared-slice-read-compression : tie.Need-shared-slice-read-compression
-shared-slice-read-compression c = search needs
-
-add-tail : tie.Need-add-tail
-add-tail c = search needs
-
-tail-requires : tie.Need-tail-requires
-tail-requires c κs = search needs
-
-enum-known-block : tie.Need-enum-known-block
-enum-known-block c = search needs
-
-enum-known-r : tie.Need-enum-known-r
-enum-known-r c = search needs
 
 version-is : (c : tie.After-number16) → number (take 2 (drop 4 (c .before .before .before .before .before .before .args .message .now))) ≡ c .number16 .result
 version-is c = stated-window 2 4 (c .before .before .before .before .before .before .args .message .now) (omega arith) ∙ sym (c .number16 .ensures)
@@ -97,21 +52,21 @@ behind-session-spec =
     tie.close
     (tie.spec
     returns
-    sub-if2
+    (λ c. search needs)
     returns-2
-    shared-slice-read-number16
-    shared-slice-read-number16-2
-    number16-requires
-    add-number16
-    shared-slice-read-number16-3
-    add-number16-2
-    shared-slice-read-number16-4
-    number16-requires-2
-    add-compression
-    shared-slice-read-compression
-    add-tail
-    tail-requires
-    enum-known-block
-    enum-known-r
+    (λ c. search needs)
+    (λ c. search needs)
+    (λ c κs. search needs)
+    (λ c. search needs)
+    (λ c. search needs)
+    (λ c. search needs)
+    (λ c. search needs)
+    (λ c κs. search needs)
+    (λ c. search needs)
+    (λ c. search needs)
+    (λ c. search needs)
+    (λ c κs. search needs)
+    (λ c. search needs)
+    (λ c. search needs)
     returns-3
     returns-4)

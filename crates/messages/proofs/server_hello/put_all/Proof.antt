@@ -15,30 +15,6 @@ use Rattle.messages.proofs.Hellos.{fronted, length-front, length-body, 
 use Rattle.messages.proofs.server_hello.put_all.Statement.{statement}
 use Rattle.messages.proofs.server_hello.put_all.Tie as tie
 
-put-front-requires : tie.Need-put-front-requires
-put-front-requires c κs = search needs
-
-bytes16-requires : tie.Need-bytes16-requires
-bytes16-requires c κs = search needs
-
-array-read-t19 : tie.Need-array-read-t19
-array-read-t19 c = search needs
-
-array-read-t22 : tie.Need-array-read-t22
-array-read-t22 c = search needs
-
-slice-aggregate-at : tie.Need-slice-aggregate-at
-slice-aggregate-at c = search needs
-
-at-requires : tie.Need-at-requires
-at-requires c κs = search needs
-
-put-tail-requires : tie.Need-put-tail-requires
-put-tail-requires c κs = search needs
-
-same-length : tie.Need-same-length
-same-length c = search needs
-
 -- the parts one behind the other are the message
 whole : (c : tie.Start) (suite : List ℕ) → suite ≡ be 2 (c .args .suite)
     → (fronted 2 (c .args .body-len) (c .args .version) (c .args .random .now) (c .args .session-id .now)
@@ -81,12 +57,12 @@ pub put-all-spec : {M : Type 1} → statement M
 put-all-spec =
     tie.close
     (tie.spec
-    put-front-requires
-    bytes16-requires
-    array-read-t19
-    array-read-t22
-    slice-aggregate-at
-    at-requires
-    put-tail-requires
-    same-length
+    (λ c κs. search needs)
+    (λ c κs. search needs)
+    (λ c. search needs)
+    (λ c. search needs)
+    (λ c. search needs)
+    (λ c κs. search needs)
+    (λ c κs. search needs)
+    (λ c. search needs)
     returns)

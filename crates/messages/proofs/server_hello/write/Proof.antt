@@ -19,9 +19,6 @@ use Rattle.messages.proofs.Hellos.{front-rules, length-body, tail-bound
 use Rattle.messages.proofs.server_hello.write.Statement.{statement}
 use Rattle.messages.proofs.server_hello.write.Tie as tie
 
-front-valid-requires : tie.Need-front-valid-requires
-front-valid-requires c κs = search needs
-
 -- the fields that are given
 abbrev fields : tie.Start → ServerHello
 fields c =
@@ -66,21 +63,12 @@ returns-2 c =
     writes-none serverHello (fields s) (s .args .out .now)
     (valid-rules serverHello (fields s) (rw (le-ltb (s .args .suite) 65536 (omega arith)) (and-false (frontRules (s .args .version) (s .args .random .now) (s .args .session-id .now)))))
 
-tail-valid-requires : tie.Need-tail-valid-requires
-tail-valid-requires c κs = search needs
-
 returns-3 : tie.Need-returns-3
 returns-3 c =
     let s = c .before .before .before .before .before .before .before .before .before in
     let bad : blockRules false (given (s .args .present) (s .args .block .now)) ≡ false =
     sym (c .before .tail-valid .ensures) ∙ not-true (c .before .tail-valid .result) (c .if3 .taken) in
     writes-none serverHello (fields s) (s .args .out .now) (valid-rules serverHello (fields s) (simp (bad, and-false)))
-
-add-body-len : tie.Need-add-body-len
-add-body-len c = search needs
-
-tail-len-requires : tie.Need-tail-len-requires
-tail-len-requires c κs = search needs
 
 add-body-len-2 : tie.Need-add-body-len-2
 add-body-len-2 c = record { fits = omega (arith, c .tail-len .ensures, front-ok (c .before .before .before .before), c .before .before .before .before .before .before .before .before .before .before .good, tail-bound (c .before .before .before .before .before .before .before .before .before .before .args .present) (c .before .before .before .before .before .before .before .before .before .before .args .block .now)) }
@@ -90,9 +78,6 @@ returns-4 c =
     let s = c .before .before .before .before .before .before .before .before .before .before .before in
     let n = sized (c .before) in
     writes-none serverHello (fields s) (s .args .out .now) (valid-long serverHello (fields s) (omega arith))
-
-add-if5 : tie.Need-add-if5
-add-if5 c = search needs
 
 returns-5 : tie.Need-returns-5
 returns-5 c =
@@ -105,9 +90,6 @@ put-all-requires c κs =
     let f = front-ok (c .before .before .before .before .before .before .before) in
     let n = sized (c .before .before .before) in
     (f .1, f .2, omega arith, omega arith)
-
-same-length : tie.Need-same-length
-same-length c = search needs
 
 returns-6 : tie.Need-returns-6
 returns-6 c =
@@ -123,17 +105,17 @@ pub write-spec : {M : Type 1} → statement M
 write-spec =
     tie.close
     (tie.spec
-    front-valid-requires
+    (λ c κs. search needs)
     returns
     returns-2
-    tail-valid-requires
+    (λ c κs. search needs)
     returns-3
-    add-body-len
-    tail-len-requires
+    (λ c. search needs)
+    (λ c κs. search needs)
     add-body-len-2
     returns-4
-    add-if5
+    (λ c. search needs)
     returns-5
     put-all-requires
-    same-length
+    (λ c. search needs)
     returns-6)

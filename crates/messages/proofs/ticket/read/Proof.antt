@@ -13,12 +13,6 @@ use Rattle.refusal.proofs.Copy.{take-window}
 use Rattle.messages.proofs.ticket.read.Statement.{statement}
 use Rattle.messages.proofs.ticket.read.Tie as tie
 
-last16-of-requires : tie.Need-last16-of-requires
-last16-of-requires c κs = search needs
-
-enum-known-start : tie.Need-enum-known-start
-enum-known-start c = search needs
-
 -- where the ticket stands
 found : (c : tie.After-known-told)
     → afterHeader (header 4 (c .before .before .before .before .before .args .message .now)) (lastAt 2 (c .before .before .before .before .before .args .message .now) 8)
@@ -41,12 +35,6 @@ shared-slice-read-number32-3 c = omega (arith, inside (c .before .before .before
 shared-slice-read-number32-4 : tie.Need-shared-slice-read-number32-4
 shared-slice-read-number32-4 c = omega (arith, inside (c .before .before .before .before))
 
-number32-requires : tie.Need-number32-requires
-number32-requires c κs = search needs
-
-enum-known-r : tie.Need-enum-known-r
-enum-known-r c = search needs
-
 returns : tie.Need-returns
 returns c =
     rw (found (c .before .before .before .before .before), take-window 4 4 (c .before .before .before .before .before .before .before .before .before .before .args .message .now) (omega (arith, inside (c .before .before .before .before .before))), ← c .number32 .ensures)
@@ -58,13 +46,13 @@ pub read-spec : {M : Type 1} → statement M
 read-spec =
     tie.close
     (tie.spec
-    last16-of-requires
-    enum-known-start
+    (λ c κs. search needs)
+    (λ c. search needs)
     shared-slice-read-number32
     shared-slice-read-number32-2
     shared-slice-read-number32-3
     shared-slice-read-number32-4
-    number32-requires
-    enum-known-r
+    (λ c κs. search needs)
+    (λ c. search needs)
     returns
     returns-2)

@@ -33,20 +33,8 @@ module _ (c : tie.After-known-told) where
   there : (length m ≡ 16) × (from ≡ 4) × (size ≡ 12)
   there = filled-there 12 m from size here
 
-read-finished-body-requires : tie.Need-read-finished-body-requires
-read-finished-body-requires c κs = search needs
-
-enum-known-start : tie.Need-enum-known-start
-enum-known-start c = search needs
-
 add-right : tie.Need-add-right
 add-right c = let at = there c in omega arith
-
-sub-right : tie.Need-sub-right
-sub-right c = search needs
-
-part-right-start : tie.Need-part-right-start
-part-right-start c = search needs
 
 part-right-end : tie.Need-part-right-end
 part-right-end c = let at = there c in omega arith
@@ -57,9 +45,6 @@ right-requires c κs =
     let rest : length (drop (from (c .before)) (m (c .before))) ≡ 12 = simp length-drop (omega arith) in
     length-take-le (from (c .before) + size (c .before) - from (c .before)) _ (omega arith) ∙ omega arith
 
-refuse-requires : tie.Need-refuse-requires
-refuse-requires c κs = search needs
-
 returns : tie.Need-returns
 returns c =
     let args = c .before .before .before .before .before .before .before .before .before .before .args in
@@ -67,18 +52,6 @@ returns c =
     let there = here (c .before .before .before .before) in
     rw (judged-right (args .c) (args .m .now) there (right .ensures), not-true (right .result) (c .before .if1 .taken))
     (silent-does _ _ refusing (c .refuse .ensures))
-
-complete-requires : tie.Need-complete-requires
-complete-requires c κs = search needs
-
-enum-told : tie.Need-enum-told
-enum-told c = search needs
-
-refuse-requires-2 : tie.Need-refuse-requires-2
-refuse-requires-2 c κs = search needs
-
-same-length : tie.Need-same-length
-same-length c = search needs
 
 returns-2 : tie.Need-returns-2
 returns-2 c =
@@ -96,18 +69,18 @@ pub body-spec : {M : Type 1} → statement M
 body-spec =
     tie.close
     (tie.spec
-    read-finished-body-requires
-    enum-known-start
+    (λ c κs. search needs)
+    (λ c. search needs)
     add-right
-    sub-right
-    part-right-start
+    (λ c. search needs)
+    (λ c. search needs)
     part-right-end
     right-requires
-    refuse-requires
+    (λ c κs. search needs)
     returns
-    complete-requires
-    enum-told
-    refuse-requires-2
-    same-length
+    (λ c κs. search needs)
+    (λ c. search needs)
+    (λ c κs. search needs)
+    (λ c. search needs)
     returns-2
     returns-3)

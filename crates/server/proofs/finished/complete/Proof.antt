@@ -37,38 +37,11 @@ given c =
     let at-value = c .before .before in
     made (wanted at-value) (value at-value) (not-false (at-value .value-of .result .made) (c .if1 .left))
 
-with-message-requires : tie.Need-with-message-requires
-with-message-requires c κs = search needs
-
-value-of-requires : tie.Need-value-of-requires
-value-of-requires c κs = search needs
-
-refuse-requires : tie.Need-refuse-requires
-refuse-requires c κs = search needs
-
 returns : tie.Need-returns
 returns c =
     let at-value = c .before .before .before in
     rw (not-made (wanted at-value) (value at-value) (not-true (at-value .value-of .result .made) (c .before .if1 .taken)))
     (silent-does _ _ refusing (c .refuse .ensures))
-
-slice-aggregate-write-finished : tie.Need-slice-aggregate-write-finished
-slice-aggregate-write-finished c = search needs
-
-write-finished-requires : tie.Need-write-finished-requires
-write-finished-requires c κs = search needs
-
-enum-told : tie.Need-enum-told
-enum-told c = search needs
-
-ended-requires : tie.Need-ended-requires
-ended-requires c κs = search needs
-
-enum-told-2 : tie.Need-enum-told-2
-enum-told-2 c = search needs
-
-same-length : tie.Need-same-length
-same-length c = search needs
 
 returns-2 : tie.Need-returns-2
 returns-2 c =
@@ -77,9 +50,6 @@ returns-2 c =
     let at-value = at-if .before .before in
     rw (given at-if, c .ended .ensures)
     (accepted _ _ (rw (valid-value at-value) at (write .write-finished .ensures)) (c .before .enum-told .given .1))
-
-same-length-2 : tie.Need-same-length-2
-same-length-2 c = search needs
 
 returns-3 : tie.Need-returns-3
 returns-3 c =
@@ -92,16 +62,16 @@ pub complete-spec : {M : Type 1} → statement M
 complete-spec =
     tie.close
     (tie.spec
-    with-message-requires
-    value-of-requires
-    refuse-requires
+    (λ c κs. search needs)
+    (λ c κs. search needs)
+    (λ c κs. search needs)
     returns
-    slice-aggregate-write-finished
-    write-finished-requires
-    enum-told
-    ended-requires
-    enum-told-2
-    same-length
+    (λ c. search needs)
+    (λ c κs. search needs)
+    (λ c. search needs)
+    (λ c κs. search needs)
+    (λ c. search needs)
+    (λ c. search needs)
     returns-2
-    same-length-2
+    (λ c. search needs)
     returns-3)

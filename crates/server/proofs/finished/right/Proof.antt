@@ -20,15 +20,6 @@ asked c =
     let args = c .before .before .before .before .args in
     rw (is-value (args .value .now) (finishedOf Client (args .c .master) (args .c .transcript)) (c .value-of .ensures))
 
-value-of-requires : tie.Need-value-of-requires
-value-of-requires c κs = search needs
-
-slice-aggregate-equal : tie.Need-slice-aggregate-equal
-slice-aggregate-equal c = search needs
-
-equal-requires : tie.Need-equal-requires
-equal-requires c κs = search needs
-
 returns : tie.Need-returns
 returns c =
     let equal = c .before .equal in
@@ -55,4 +46,4 @@ returns-3 c =
 pub right-spec : {M : Type 1} → statement M
 right-spec =
     tie.close
-    (tie.spec value-of-requires slice-aggregate-equal equal-requires returns returns-2 returns-3)
+    (tie.spec (λ c κs. search needs) (λ c. search needs) (λ c κs. search needs) returns returns-2 returns-3)

@@ -7,30 +7,6 @@ use borrow.Author.Needs.{needs}
 use Rattle.server.proofs.finished.value_of.Statement.{statement}
 use Rattle.server.proofs.finished.value_of.Tie as tie
 
-slice-aggregate-hash-of : tie.Need-slice-aggregate-hash-of
-slice-aggregate-hash-of c = search needs
-
-hash-of-requires : tie.Need-hash-of-requires
-hash-of-requires c κs = search needs
-
-enum-told : tie.Need-enum-told
-enum-told c = search needs
-
-slice-aggregate-finished : tie.Need-slice-aggregate-finished
-slice-aggregate-finished c = search needs
-
-slice-aggregate-finished-2 : tie.Need-slice-aggregate-finished-2
-slice-aggregate-finished-2 c = search needs
-
-slice-aggregate-finished-3 : tie.Need-slice-aggregate-finished-3
-slice-aggregate-finished-3 c = search needs
-
-finished-requires : tie.Need-finished-requires
-finished-requires c κs = search needs
-
-enum-told-2 : tie.Need-enum-told-2
-enum-told-2 c = search needs
-
 returns : tie.Need-returns
 returns c =
     let start = c .before .before .before .before .before .before .before .before .before .before in
@@ -52,13 +28,13 @@ pub value-of-spec : {M : Type 1} → statement M
 value-of-spec =
     tie.close
     (tie.spec
-    slice-aggregate-hash-of
-    hash-of-requires
-    enum-told
-    slice-aggregate-finished
-    slice-aggregate-finished-2
-    slice-aggregate-finished-3
-    finished-requires
-    enum-told-2
+    (λ c. search needs)
+    (λ c κs. search needs)
+    (λ c. search needs)
+    (λ c. search needs)
+    (λ c. search needs)
+    (λ c. search needs)
+    (λ c κs. search needs)
+    (λ c. search needs)
     returns
     returns-2)

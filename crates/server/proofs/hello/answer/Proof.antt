@@ -14,18 +14,12 @@ use borrow.Author.Needs.{needs}
 use Rattle.server.proofs.hello.answer.Statement.{statement}
 use Rattle.server.proofs.hello.answer.Tie as tie
 
-in-field-requires : tie.Need-in-field-requires
-in-field-requires c κs = search needs
-
 -- the hint's field has 128 bytes, and the random 32
 field : (c : tie.Start) → length (c .args .c .hint) ≡ 128
 field c = search (needs, c .good)
 
 random : (c : tie.Start) → length (c .args .c .«server_random») ≡ 32
 random c = search (needs, c .good)
-
-slice-aggregate-write-flight : tie.Need-slice-aggregate-write-flight
-slice-aggregate-write-flight c = search needs
 
 array-share-prefix-hint : tie.Need-array-share-prefix-hint
 array-share-prefix-hint c = omega (arith, field (c .before .before .before .before .before .before))
@@ -50,9 +44,6 @@ told c =
     let start = c .before .before .before .before .before .before .before .before .before in
     rw (c .before .before .before .before .in-field .ensures .1 (start .args .c .hint) (field start)) at (c .write-flight .ensures)
 
-enum-known-said : tie.Need-enum-known-said
-enum-known-said c = search needs
-
 -- what was written is the flight
 written : (c : tie.After-known-told) →
     let at-write = c .before .before .before .before .before in
@@ -68,15 +59,6 @@ slice-reshare-prefix-after-hello c = omega (arith, written c)
 slice-aggregate-after-hello : tie.Need-slice-aggregate-after-hello
 slice-aggregate-after-hello c = sym (ap length (written (c .before) .2) ∙ sym (written (c .before) .1))
 
-after-hello-requires : tie.Need-after-hello-requires
-after-hello-requires c κs = search needs
-
-enum-told : tie.Need-enum-told
-enum-told c = search needs
-
-same-length : tie.Need-same-length
-same-length c = search needs
-
 returns : tie.Need-returns
 returns c =
     let at-write = c .before .before .before .before .before .before .before in
@@ -85,9 +67,6 @@ returns c =
     let next : c .after-hello .result ≡ afterHelloWith (a .c) (a .m .now) (a .suite) (flightFor (a .c) (a .suite)) =
     c .after-hello .ensures ∙ ap (afterHelloWith (a .c) (a .m .now) (a .suite)) (written (c .before .before) .2) in
     rw next (accepted (a .c) _ (rw (known .1) at (told at-write)) refl)
-
-same-length-2 : tie.Need-same-length-2
-same-length-2 c = search needs
 
 returns-2 : tie.Need-returns-2
 returns-2 c =
@@ -99,17 +78,17 @@ pub answer-spec : {M : Type 1} → statement M
 answer-spec =
     tie.close
     (tie.spec
-    in-field-requires
-    slice-aggregate-write-flight
+    (λ c κs. search needs)
+    (λ c. search needs)
     array-share-prefix-hint
     slice-aggregate-write-flight-2
     write-flight-requires
-    enum-known-said
+    (λ c. search needs)
     slice-reshare-prefix-after-hello
     slice-aggregate-after-hello
-    after-hello-requires
-    enum-told
-    same-length
+    (λ c κs. search needs)
+    (λ c. search needs)
+    (λ c. search needs)
     returns
-    same-length-2
+    (λ c. search needs)
     returns-2)

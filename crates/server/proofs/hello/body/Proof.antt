@@ -18,12 +18,6 @@ use borrow.Author.Needs.{needs}
 use Rattle.server.proofs.hello.body.Statement.{statement}
 use Rattle.server.proofs.hello.body.Tie as tie
 
-read-body-requires : tie.Need-read-body-requires
-read-body-requires c κs = search needs
-
-enum-known-version : tie.Need-enum-known-version
-enum-known-version c = search needs
-
 -- what was found, and where
 found : (c : tie.After-known-told) →
     let g = c .before .version .given .0 in
@@ -59,9 +53,6 @@ read c e =
     let a = c .before .before .before .args in
     ap (λ (f : Client). helloFields suites (a .c) (a .m .now) (clientFields (a .m .now) f)) (sym (c .read-body .ensures) ∙ e)
 
-refuse-requires : tie.Need-refuse-requires
-refuse-requires c κs = search needs
-
 returns : tie.Need-returns
 returns c =
     let known = c .before .before in
@@ -73,24 +64,12 @@ returns c =
 add-offers-null : tie.Need-add-offers-null
 add-offers-null c = record { fits = omega (arith, inside (c .before)) }
 
-sub-offers-null : tie.Need-sub-offers-null
-sub-offers-null c = search needs
-
-part-offers-null-start : tie.Need-part-offers-null-start
-part-offers-null-start c = search needs
-
 part-offers-null-end : tie.Need-part-offers-null-end
 part-offers-null-end c = omega (arith, inside (c .before))
-
-offers-null-requires : tie.Need-offers-null-requires
-offers-null-requires c κs = search needs
 
 -- whether null is among the methods
 null-found : (c : tie.After-offers-null) → c .offers-null .result ≡ offersNull (fields (c .before .before .before) .methods)
 null-found c = rw add-sub-cancel-left at (c .offers-null .ensures)
-
-refuse-requires-2 : tie.Need-refuse-requires-2
-refuse-requires-2 c κs = search needs
 
 returns-2 : tie.Need-returns-2
 returns-2 c =
@@ -102,23 +81,11 @@ returns-2 c =
     same-step (step ∙ null-missing (a .c) (a .m .now) (fields known) (test .before .before .if1 .left) missing)
     (silent-does _ _ refusing (c .refuse2 .ensures))
 
-slice-aggregate-choose : tie.Need-slice-aggregate-choose
-slice-aggregate-choose c = search needs
-
 add-choose : tie.Need-add-choose
 add-choose c = record { fits = omega (arith, inside (c .before .before .before .before .before)) }
 
-sub-choose : tie.Need-sub-choose
-sub-choose c = search needs
-
-part-choose-start : tie.Need-part-choose-start
-part-choose-start c = search needs
-
 part-choose-end : tie.Need-part-choose-end
 part-choose-end c = omega (arith, inside (c .before .before .before .before .before))
-
-choose-requires : tie.Need-choose-requires
-choose-requires c κs = search needs
 
 -- what was chosen decides
 choice : (c : tie.After-choose) →
@@ -137,23 +104,8 @@ choice c =
 suite-found : (c : tie.After-choose) → c .choose .result ≡ asChoice (chosen suites (fields (c .before .before .before .before .before .before .before) .suites))
 suite-found c = rw add-sub-cancel-left at (c .choose .ensures)
 
-enum-told : tie.Need-enum-told
-enum-told c = search needs
-
-refuse-requires-3 : tie.Need-refuse-requires-3
-refuse-requires-3 c κs = search needs
-
-enum-known-suite : tie.Need-enum-known-suite
-enum-known-suite c = search needs
-
 answer-requires : tie.Need-answer-requires
 answer-requires c κs = inside (c .before .before .before .before .before .before .before .before .before .before .before) .0
-
-enum-told-2 : tie.Need-enum-told-2
-enum-told-2 c = search needs
-
-refuse-requires-4 : tie.Need-refuse-requires-4
-refuse-requires-4 c κs = search needs
 
 returns-3 : tie.Need-returns-3
 returns-3 c =
@@ -163,9 +115,6 @@ returns-3 c =
     let none = none-chosen (chosen suites (fields known .suites)) (sym (suite-found at-choice) ∙ c .before .enum-told .given .1) in
     same-step (choice at-choice ∙ ap (helloChosen (a .c) (a .m .now) (fields known)) none)
     (silent-does _ _ refusing (c .refuse3 .ensures))
-
-same-length : tie.Need-same-length
-same-length c = search needs
 
 returns-4 : tie.Need-returns-4
 returns-4 c =
@@ -183,30 +132,30 @@ pub body-spec : {M : Type 1} → statement M
 body-spec =
     tie.close
     (tie.spec
-    read-body-requires
-    enum-known-version
-    refuse-requires
+    (λ c κs. search needs)
+    (λ c. search needs)
+    (λ c κs. search needs)
     returns
     add-offers-null
-    sub-offers-null
-    part-offers-null-start
+    (λ c. search needs)
+    (λ c. search needs)
     part-offers-null-end
-    offers-null-requires
-    refuse-requires-2
+    (λ c κs. search needs)
+    (λ c κs. search needs)
     returns-2
-    slice-aggregate-choose
+    (λ c. search needs)
     add-choose
-    sub-choose
-    part-choose-start
+    (λ c. search needs)
+    (λ c. search needs)
     part-choose-end
-    choose-requires
-    enum-told
-    refuse-requires-3
-    enum-known-suite
+    (λ c κs. search needs)
+    (λ c. search needs)
+    (λ c κs. search needs)
+    (λ c. search needs)
     answer-requires
-    enum-told-2
-    refuse-requires-4
+    (λ c. search needs)
+    (λ c κs. search needs)
     returns-3
-    same-length
+    (λ c. search needs)
     returns-4
     returns-5)

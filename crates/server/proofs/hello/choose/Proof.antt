@@ -19,27 +19,12 @@ abbrev μ-loop : tie.MeasureT-loop
 loop-holds : tie.Need-loop-holds Inv-loop μ-loop
 loop-holds c = (zero-le, refl)
 
-mul-suite : tie.Need-mul-suite Inv-loop μ-loop
-mul-suite c = search needs
-
-shared-slice-read-suite : tie.Need-shared-slice-read-suite Inv-loop μ-loop
-shared-slice-read-suite c = search needs
-
-offers-requires : tie.Need-offers-requires Inv-loop μ-loop
-offers-requires c κs = search needs
-
 returns : tie.Need-returns Inv-loop μ-loop
 returns c =
     let l = c .before .before .before .before .loop in
     let a = c .before .before .before .before .before .before .before .args in
     let one = chosen-one (a .ours .now) (l .i) (a .offered .now) (c .before .before .before .loop-test .taken) in
     rw (← l .inv .1, one, ← c .before .offers .ensures, c .if1 .taken)
-
-add-i : tie.Need-add-i Inv-loop μ-loop
-add-i c = search needs
-
-loop-less : tie.Need-loop-less Inv-loop μ-loop
-loop-less c = search needs
 
 loop-again : tie.Need-loop-again Inv-loop μ-loop
 loop-again c =
@@ -60,11 +45,11 @@ choose-spec =
     Inv-loop
     μ-loop
     loop-holds
-    mul-suite
-    shared-slice-read-suite
-    offers-requires
+    (λ c. search needs)
+    (λ c. search needs)
+    (λ c κs. search needs)
     returns
-    add-i
-    loop-less
+    (λ c. search needs)
+    (λ c. search needs)
     loop-again
     returns-2)

@@ -8,11 +8,8 @@ use Rattle.server.proofs.hello.flight_length.Tie as tie
 returns : tie.Need-returns
 returns c = rw (eq-eqb (c .before .args .hint) 0 (c .if1 .taken))
 
-add-result : tie.Need-add-result
-add-result c = search needs
-
 returns-2 : tie.Need-returns-2
 returns-2 c = rw (ne-eqb (c .before .args .hint) 0 (c .if1 .left))
 
 pub flight-length-spec : {M : Type 1} → statement M
-flight-length-spec = tie.close (tie.spec returns add-result returns-2)
+flight-length-spec = tie.close (tie.spec returns (λ c. search needs) returns-2)

@@ -15,33 +15,6 @@ use borrow.Author.Needs.{needs}
 use Rattle.server.proofs.hello.put_flight.Statement.{statement}
 use Rattle.server.proofs.hello.put_flight.Tie as tie
 
-sub-none : tie.Need-sub-none
-sub-none c = search needs
-
-part-none-start : tie.Need-part-none-start
-part-none-start c = search needs
-
-part-none-end : tie.Need-part-none-end
-part-none-end c = search needs
-
-write-requires : tie.Need-write-requires
-write-requires c κs = search needs
-
-sub-put-rest : tie.Need-sub-put-rest
-sub-put-rest c = search needs
-
-part-put-rest-start : tie.Need-part-put-rest-start
-part-put-rest-start c = search needs
-
-part-put-rest-end : tie.Need-part-put-rest-end
-part-put-rest-end c = search needs
-
-put-rest-requires : tie.Need-put-rest-requires
-put-rest-requires c κs = search needs
-
-same-length : tie.Need-same-length
-same-length c = search needs
-
 returns : tie.Need-returns
 returns c =
     let at-write = c .before .before .before .before .before .before in
@@ -62,13 +35,13 @@ pub put-flight-spec : {M : Type 1} → statement M
 put-flight-spec =
     tie.close
     (tie.spec
-    sub-none
-    part-none-start
-    part-none-end
-    write-requires
-    sub-put-rest
-    part-put-rest-start
-    part-put-rest-end
-    put-rest-requires
-    same-length
+    (λ c. search needs)
+    (λ c. search needs)
+    (λ c. search needs)
+    (λ c κs. search needs)
+    (λ c. search needs)
+    (λ c. search needs)
+    (λ c. search needs)
+    (λ c κs. search needs)
+    (λ c. search needs)
     returns)

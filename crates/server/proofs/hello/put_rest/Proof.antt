@@ -19,23 +19,11 @@ use borrow.Author.Needs.{needs}
 use Rattle.server.proofs.hello.put_rest.Statement.{statement}
 use Rattle.server.proofs.hello.put_rest.Tie as tie
 
-write-done-requires : tie.Need-write-done-requires
-write-done-requires c κs = search needs
-
-same-length : tie.Need-same-length
-same-length c = search needs
-
 returns : tie.Need-returns
 returns c =
     let start = c .before .before .before .before .before .before .before in
     rw (hint-absent (start .args .hint .now) (c .before .before .before .before .if1 .taken))
     (at-front serverHelloDone [] refl (omega arith) (c .before .before .write-done .ensures))
-
-write-hint-requires : tie.Need-write-hint-requires
-write-hint-requires c κs = search needs
-
-add-at : tie.Need-add-at
-add-at c = search needs
 
 -- there is a hint
 present : (c : tie.Else1) → hintMessage (c .before .before .before .args .hint .now) ≡ bytes serverKeyExchange (c .before .before .before .args .hint .now)
@@ -46,15 +34,6 @@ sub-write-done c = search (needs, ap length (present (c .before .before .before 
 
 part-write-done-start : tie.Need-part-write-done-start
 part-write-done-start c = search (needs, ap length (present (c .before .before .before .before)))
-
-part-write-done-end : tie.Need-part-write-done-end
-part-write-done-end c = search needs
-
-write-done-requires-2 : tie.Need-write-done-requires-2
-write-done-requires-2 c κs = search needs
-
-same-length-2 : tie.Need-same-length-2
-same-length-2 c = search needs
 
 returns-2 : tie.Need-returns-2
 returns-2 c =
@@ -78,14 +57,14 @@ pub put-rest-spec : {M : Type 1} → statement M
 put-rest-spec =
     tie.close
     (tie.spec
-    write-done-requires
-    same-length
+    (λ c κs. search needs)
+    (λ c. search needs)
     returns
-    write-hint-requires
-    add-at
+    (λ c κs. search needs)
+    (λ c. search needs)
     sub-write-done
     part-write-done-start
-    part-write-done-end
-    write-done-requires-2
-    same-length-2
+    (λ c. search needs)
+    (λ c κs. search needs)
+    (λ c. search needs)
     returns-2)

@@ -12,9 +12,6 @@ use borrow.Author.Needs.{needs}
 use Rattle.server.proofs.hello.write_flight.Statement.{statement}
 use Rattle.server.proofs.hello.write_flight.Tie as tie
 
-flight-length-requires : tie.Need-flight-length-requires
-flight-length-requires c κs = search needs
-
 -- the length that was found is the flight's
 sized : (c : tie.After-flight-length)
     → let a = c .before .before .before .before .args in
@@ -34,9 +31,6 @@ returns c =
 put-flight-requires : tie.Need-put-flight-requires
 put-flight-requires c κs = search (needs, sized (c .before .before))
 
-same-length : tie.Need-same-length
-same-length c = search needs
-
 returns-2 : tie.Need-returns-2
 returns-2 c =
     let a = c .before .before .before .before .before .before .before .before .before .args in
@@ -46,4 +40,4 @@ returns-2 c =
 pub write-flight-spec : {M : Type 1} → statement M
 write-flight-spec =
     tie.close
-    (tie.spec flight-length-requires returns put-flight-requires same-length returns-2)
+    (tie.spec (λ c κs. search needs) returns put-flight-requires (λ c. search needs) returns-2)

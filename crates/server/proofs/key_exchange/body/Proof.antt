@@ -6,24 +6,6 @@ use borrow.Author.Needs.{needs}
 use Rattle.server.proofs.key_exchange.body.Statement.{statement}
 use Rattle.server.proofs.key_exchange.body.Tie as tie
 
-read-identity-body-requires : tie.Need-read-identity-body-requires
-read-identity-body-requires c κs = search needs
-
-enum-told : tie.Need-enum-told
-enum-told c = search needs
-
-identity-requires : tie.Need-identity-requires
-identity-requires c κs = search needs
-
-look-up-requires : tie.Need-look-up-requires
-look-up-requires c κs = search needs
-
-enum-told-2 : tie.Need-enum-told-2
-enum-told-2 c = search needs
-
-refuse-requires : tie.Need-refuse-requires
-refuse-requires c κs = search needs
-
 returns : tie.Need-returns
 returns c =
     let read = c .before .before .before .before in
@@ -38,11 +20,11 @@ pub body-spec : {M : Type 1} → statement M
 body-spec =
     tie.close
     (tie.spec
-    read-identity-body-requires
-    enum-told
-    identity-requires
-    look-up-requires
-    enum-told-2
-    refuse-requires
+    (λ c κs. search needs)
+    (λ c. search needs)
+    (λ c κs. search needs)
+    (λ c κs. search needs)
+    (λ c. search needs)
+    (λ c κs. search needs)
     returns
     returns-2)

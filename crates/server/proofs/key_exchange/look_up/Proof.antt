@@ -36,15 +36,6 @@ module _ (c : tie.After-known-told) where
       let size : length buffer ≡ 64 = search needs in
       omega (arith, put .0)
 
-slice-aggregate-lookup : tie.Need-slice-aggregate-lookup
-slice-aggregate-lookup c = search needs
-
-lookup-requires : tie.Need-lookup-requires
-lookup-requires c κs = search needs
-
-enum-known-n : tie.Need-enum-known-n
-enum-known-n c = search needs
-
 array-share-prefix-key : tie.Need-array-share-prefix-key
 array-share-prefix-key c = fits c
 
@@ -53,12 +44,6 @@ slice-aggregate-after-keys c = sym (length-take-le (n (c .before)) (buffer (c .b
 
 after-keys-requires : tie.Need-after-keys-requires
 after-keys-requires c κs = key-size (table (c .before)) (identity (c .before)) _ (put (c .before) .1)
-
-enum-told : tie.Need-enum-told
-enum-told c = search needs
-
-unlisted-requires : tie.Need-unlisted-requires
-unlisted-requires c κs = search needs
 
 returns : tie.Need-returns
 returns c = rw (put (c .before .before) .1, c .after-keys .ensures)
@@ -73,13 +58,13 @@ pub look-up-spec : {M : Type 1} → statement M
 look-up-spec =
     tie.close
     (tie.spec
-    slice-aggregate-lookup
-    lookup-requires
-    enum-known-n
+    (λ c. search needs)
+    (λ c κs. search needs)
+    (λ c. search needs)
     array-share-prefix-key
     slice-aggregate-after-keys
     after-keys-requires
-    enum-told
-    unlisted-requires
+    (λ c. search needs)
+    (λ c κs. search needs)
     returns
     returns-2)

@@ -12,33 +12,12 @@ use borrow.Author.Needs.{needs}
 use Rattle.server.proofs.key_exchange.master_under.Statement.{statement}
 use Rattle.server.proofs.key_exchange.master_under.Tie as tie
 
-slice-aggregate-premaster : tie.Need-slice-aggregate-premaster
-slice-aggregate-premaster c = search needs
-
-premaster-requires : tie.Need-premaster-requires
-premaster-requires c κs = search needs
-
-mul-premaster : tie.Need-mul-premaster
-mul-premaster c = search needs
-
-add-premaster : tie.Need-add-premaster
-add-premaster c = search needs
-
-array-share-prefix-premaster : tie.Need-array-share-prefix-premaster
-array-share-prefix-premaster c = search needs
-
 slice-aggregate-master : tie.Need-slice-aggregate-master
 slice-aggregate-master c =
     let start = c .before .before .before .before .before .before .before in
     let buffer = c .before .before .premaster2 .last .1 .0 in
     let size : length buffer ≡ 132 = search needs in
     sym (length-take-le (4 + 2 * length (start .args .key .now)) buffer (omega (arith, start .pre .1)))
-
-slice-aggregate-master-2 : tie.Need-slice-aggregate-master-2
-slice-aggregate-master-2 c = search needs
-
-master-requires : tie.Need-master-requires
-master-requires c κs = search needs
 
 returns : tie.Need-returns
 returns c =
@@ -57,12 +36,12 @@ pub master-under-spec : {M : Type 1} → statement M
 master-under-spec =
     tie.close
     (tie.spec
-    slice-aggregate-premaster
-    premaster-requires
-    mul-premaster
-    add-premaster
-    array-share-prefix-premaster
+    (λ c. search needs)
+    (λ c κs. search needs)
+    (λ c. search needs)
+    (λ c. search needs)
+    (λ c. search needs)
     slice-aggregate-master
-    slice-aggregate-master-2
-    master-requires
+    (λ c. search needs)
+    (λ c κs. search needs)
     returns)

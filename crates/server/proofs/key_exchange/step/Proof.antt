@@ -11,18 +11,6 @@ use Rattle.server.proofs.key_exchange.step.Tie as tie
 accepted : (c : tie.After-enum-told) → header 16 (c .before .before .before .before .before .args .m .now) ≡ Verdict.Accepted
 accepted c = sym (c .before .before .test .ensures) ∙ c .enum-told .given .1
 
-test-requires : tie.Need-test-requires
-test-requires c κs = search needs
-
-enum-told : tie.Need-enum-told
-enum-told c = search needs
-
-well-formed-requires : tie.Need-well-formed-requires
-well-formed-requires c κs = search needs
-
-refuse-requires : tie.Need-refuse-requires
-refuse-requires c κs = search needs
-
 returns : tie.Need-returns
 returns c =
     let formed = c .before .before .well-formed in
@@ -30,12 +18,6 @@ returns c =
 
 body-requires : tie.Need-body-requires
 body-requires c κs = accepted (c .before .before)
-
-enum-known-r : tie.Need-enum-known-r
-enum-known-r c = search needs
-
-refuse-requires-2 : tie.Need-refuse-requires-2
-refuse-requires-2 c κs = search needs
 
 returns-2 : tie.Need-returns-2
 returns-2 c =
@@ -49,13 +31,13 @@ pub step-spec : {M : Type 1} → statement M
 step-spec =
     tie.close
     (tie.spec
-    test-requires
-    enum-told
-    well-formed-requires
-    refuse-requires
+    (λ c κs. search needs)
+    (λ c. search needs)
+    (λ c κs. search needs)
+    (λ c κs. search needs)
     returns
     body-requires
-    enum-known-r
-    refuse-requires-2
+    (λ c. search needs)
+    (λ c κs. search needs)
     returns-2
     returns-3)

@@ -7,18 +7,6 @@ use borrow.Author.Needs.{needs}
 use Rattle.server.proofs.key_exchange.unlisted.Statement.{statement}
 use Rattle.server.proofs.key_exchange.unlisted.Tie as tie
 
-enum-told : tie.Need-enum-told
-enum-told c = search needs
-
-refuse-requires : tie.Need-refuse-requires
-refuse-requires c κs = search needs
-
-enum-told-2 : tie.Need-enum-told-2
-enum-told-2 c = search needs
-
-slice-aggregate-after-keys : tie.Need-slice-aggregate-after-keys
-slice-aggregate-after-keys c = search needs
-
 after-keys-requires : tie.Need-after-keys-requires
 after-keys-requires c κs =
     let start = c .before .before .before .before .before in
@@ -35,10 +23,10 @@ pub unlisted-spec : {M : Type 1} → statement M
 unlisted-spec =
     tie.close
     (tie.spec
-    enum-told
-    refuse-requires
-    enum-told-2
-    slice-aggregate-after-keys
+    (λ c. search needs)
+    (λ c κs. search needs)
+    (λ c. search needs)
+    (λ c. search needs)
     after-keys-requires
     returns
     returns-2)

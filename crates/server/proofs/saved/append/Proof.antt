@@ -8,21 +8,6 @@ use borrow.Author.Needs.{needs}
 use Rattle.server.proofs.saved.append.Statement.{statement}
 use Rattle.server.proofs.saved.append.Tie as tie
 
-add-end : tie.Need-add-end
-add-end c = search needs
-
-sub-copy : tie.Need-sub-copy
-sub-copy c = search needs
-
-part-next-start : tie.Need-part-next-start
-part-next-start c = search needs
-
-part-next-end : tie.Need-part-next-end
-part-next-end c = search needs
-
-copy-requires : tie.Need-copy-requires
-copy-requires c κs = search needs
-
 returns : tie.Need-returns
 returns c =
     let start = c .before .before .before .before in
@@ -31,4 +16,4 @@ returns c =
 
 pub append-spec : {M : Type 1} → statement M
 append-spec =
-    tie.close (tie.spec add-end sub-copy part-next-start part-next-end copy-requires returns)
+    tie.close (tie.spec (λ c. search needs) (λ c. search needs) (λ c. search needs) (λ c. search needs) (λ c κs. search needs) returns)

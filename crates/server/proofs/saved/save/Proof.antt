@@ -28,18 +28,6 @@ fits c =
 abbrev entry : tie.After-append → tie.Start
 entry c = c .before .before .before .before .before .before .before .before .before .before
 
-save-requires : tie.Need-save-requires
-save-requires c κs = search needs
-
-head-requires : tie.Need-head-requires
-head-requires c κs = search needs
-
-slice-aggregate-append : tie.Need-slice-aggregate-append
-slice-aggregate-append c = search needs
-
-append-requires : tie.Need-append-requires
-append-requires c κs = search needs
-
 slice-aggregate-append-2 : tie.Need-slice-aggregate-append-2
 slice-aggregate-append-2 c = sym (fits (entry (c .before)) .hint)
 
@@ -69,12 +57,6 @@ slice-aggregate-append-6 c = sym (fits (entry (c .before .before .before .before
 
 append-requires-6 : tie.Need-append-requires-6
 append-requires-6 c κs = rw (fits (entry (c .before .before .before .before .before .before .before .before .before)) .master) (omega arith)
-
-slice-aggregate-append-7 : tie.Need-slice-aggregate-append-7
-slice-aggregate-append-7 c = search needs
-
-append-requires-7 : tie.Need-append-requires-7
-append-requires-7 c κs = search needs
 
 returns : tie.Need-returns
 unfolding saved
@@ -113,10 +95,10 @@ pub save-spec : {M : Type 1} → statement M
 save-spec =
     tie.close
     (tie.spec
-    save-requires
-    head-requires
-    slice-aggregate-append
-    append-requires
+    (λ c κs. search needs)
+    (λ c κs. search needs)
+    (λ c. search needs)
+    (λ c κs. search needs)
     slice-aggregate-append-2
     append-requires-2
     slice-aggregate-append-3
@@ -127,6 +109,6 @@ save-spec =
     append-requires-5
     slice-aggregate-append-6
     append-requires-6
-    slice-aggregate-append-7
-    append-requires-7
+    (λ c. search needs)
+    (λ c κs. search needs)
     returns)

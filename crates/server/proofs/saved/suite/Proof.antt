@@ -13,15 +13,6 @@ use borrow.Author.Needs.{needs}
 use Rattle.server.proofs.saved.suite.Statement.{statement}
 use Rattle.server.proofs.saved.suite.Tie as tie
 
-array-read-number16 : tie.Need-array-read-number16
-array-read-number16 c = search needs
-
-array-read-number16-2 : tie.Need-array-read-number16-2
-array-read-number16-2 c = search needs
-
-number16-requires : tie.Need-number16-requires
-number16-requires c κs = search needs
-
 cast-result : tie.Need-cast-result
 cast-result c =
     let start = c .before in
@@ -39,4 +30,4 @@ returns c =
 pub suite-spec : {M : Type 1} → statement M
 suite-spec =
     tie.close
-    (tie.spec array-read-number16 array-read-number16-2 number16-requires cast-result returns)
+    (tie.spec (λ c. search needs) (λ c. search needs) (λ c κs. search needs) cast-result returns)

@@ -11,21 +11,6 @@ use borrow.Author.Needs.{needs}
 use Rattle.server.proofs.saved.to_phase.Statement.{statement}
 use Rattle.server.proofs.saved.to_phase.Tie as tie
 
-returns : tie.Need-returns
-returns c = search needs
-
-returns-2 : tie.Need-returns-2
-returns-2 c = search needs
-
-returns-3 : tie.Need-returns-3
-returns-3 c = search needs
-
-returns-4 : tie.Need-returns-4
-returns-4 c = search needs
-
-returns-5 : tie.Need-returns-5
-returns-5 c = search needs
-
 other : (b : ℕ) → ¬ (b ≡ 1) → ¬ (b ≡ 2) → ¬ (b ≡ 3) → ¬ (b ≡ 4) → ¬ (b ≡ 5) → toPhase b ≡ Phase.Closed
 other b h1 h2 h3 h4 h5 = elim (decLe 6 b) [
   | yes past ↦ List·getD-eq-default phases Phase.Closed past
@@ -38,4 +23,4 @@ returns-6 c =
     sym (other (c .before .args .byte) (r .0 .0 .0 .0 .1) (r .0 .0 .0 .1) (r .0 .0 .1) (r .0 .1) (r .1))
 
 pub to-phase-spec : {M : Type 1} → statement M
-to-phase-spec = tie.close (tie.spec returns returns-2 returns-3 returns-4 returns-5 returns-6)
+to-phase-spec = tie.close (tie.spec (λ c. search needs) (λ c. search needs) (λ c. search needs) (λ c. search needs) (λ c. search needs) returns-6)

@@ -9,24 +9,6 @@ use borrow.Author.Needs.{needs}
 use Rattle.server.proofs.saved.transcript.Statement.{statement}
 use Rattle.server.proofs.saved.transcript.Tie as tie
 
-sub-copy : tie.Need-sub-copy
-sub-copy c = search needs
-
-part-copy-start : tie.Need-part-copy-start
-part-copy-start c = search needs
-
-part-copy-end : tie.Need-part-copy-end
-part-copy-end c = search needs
-
-slice-aggregate-copy : tie.Need-slice-aggregate-copy
-slice-aggregate-copy c = search needs
-
-copy-requires : tie.Need-copy-requires
-copy-requires c κs = search needs
-
-restore-requires : tie.Need-restore-requires
-restore-requires c κs = search needs
-
 returns : tie.Need-returns
 returns c =
     let at-copy = c .before .before in
@@ -40,10 +22,10 @@ pub transcript-spec : {M : Type 1} → statement M
 transcript-spec =
     tie.close
     (tie.spec
-    sub-copy
-    part-copy-start
-    part-copy-end
-    slice-aggregate-copy
-    copy-requires
-    restore-requires
+    (λ c. search needs)
+    (λ c. search needs)
+    (λ c. search needs)
+    (λ c. search needs)
+    (λ c κs. search needs)
+    (λ c κs. search needs)
     returns)

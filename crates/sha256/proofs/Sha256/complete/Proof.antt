@@ -10,18 +10,6 @@ use borrow.Author.Needs.{needs}
 use Rattle.sha256.proofs.Sha256.complete.Statement.{statement}
 use Rattle.sha256.proofs.Sha256.complete.Tie as tie
 
-add-count : tie.Need-add-count
-add-count c = search needs
-
-filled-requires : tie.Need-filled-requires
-filled-requires c κs = search needs
-
-slice-aggregate-next-value : tie.Need-slice-aggregate-next-value
-slice-aggregate-next-value c = search needs
-
-next-value-requires : tie.Need-next-value-requires
-next-value-requires c κs = search needs
-
 returns : tie.Need-returns
 unfolding completed
 returns c =
@@ -35,4 +23,4 @@ returns c =
 pub complete-spec : {M : Type 1} → statement M
 complete-spec =
     tie.close
-    (tie.spec add-count filled-requires slice-aggregate-next-value next-value-requires returns)
+    (tie.spec (λ c. search needs) (λ c κs. search needs) (λ c. search needs) (λ c κs. search needs) returns)

@@ -11,9 +11,6 @@ use borrow.Author.Needs.{needs}
 use Rattle.sha256.proofs.Sha256.complete_first.Statement.{statement}
 use Rattle.sha256.proofs.Sha256.complete_first.Tie as tie
 
-sub-room : tie.Need-sub-room
-sub-room c = search needs
-
 slice-aggregate-complete : tie.Need-slice-aggregate-complete
 slice-aggregate-complete c = sym (length-take-le _ _ (omega arith))
 
@@ -23,15 +20,6 @@ complete-requires c κs =
     let room = 64 - args .self .count % 64 in
     let size : length (take room (args .«data» .now)) ≡ room = length-take-le room (args .«data» .now) (omega arith) in
     omega arith
-
-sub-straight : tie.Need-sub-straight
-sub-straight c = search needs
-
-part-straight-start : tie.Need-part-straight-start
-part-straight-start c = search needs
-
-part-straight-end : tie.Need-part-straight-end
-part-straight-end c = search needs
 
 straight-requires : tie.Need-straight-requires
 straight-requires c κs =
@@ -55,11 +43,11 @@ pub complete-first-spec : {M : Type 1} → statement M
 complete-first-spec =
     tie.close
     (tie.spec
-    sub-room
+    (λ c. search needs)
     slice-aggregate-complete
     complete-requires
-    sub-straight
-    part-straight-start
-    part-straight-end
+    (λ c. search needs)
+    (λ c. search needs)
+    (λ c. search needs)
     straight-requires
     returns)

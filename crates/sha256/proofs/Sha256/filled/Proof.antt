@@ -9,23 +9,11 @@ use borrow.Author.Needs.{needs}
 use Rattle.sha256.proofs.Sha256.filled.Statement.{statement}
 use Rattle.sha256.proofs.Sha256.filled.Tie as tie
 
-add-end : tie.Need-add-end
-add-end c = search needs
-
-sub-copy : tie.Need-sub-copy
-sub-copy c = search needs
-
-part-block-start : tie.Need-part-block-start
-part-block-start c = search needs
-
 part-block-end : tie.Need-part-block-end
 part-block-end c =
     let start = c .before .before .before in
     let size : length (start .args .self .block) ≡ 64 = search (needs, start .good) in
     omega arith
-
-copy-requires : tie.Need-copy-requires
-copy-requires c κs = search needs
 
 returns : tie.Need-returns
 returns c =
@@ -38,4 +26,4 @@ returns c =
 
 pub filled-spec : {M : Type 1} → statement M
 filled-spec =
-    tie.close (tie.spec add-end sub-copy part-block-start part-block-end copy-requires returns)
+    tie.close (tie.spec (λ c. search needs) (λ c. search needs) (λ c. search needs) part-block-end (λ c κs. search needs) returns)

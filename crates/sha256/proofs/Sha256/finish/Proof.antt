@@ -16,21 +16,6 @@ returns : tie.Need-returns
 unfolding finished
 returns c = rw (lt-leb _ _ (c .if1 .taken)) (refused BadValue _)
 
-padded-requires : tie.Need-padded-requires
-padded-requires c κs = search needs
-
-concatenation-requires : tie.Need-concatenation-requires
-concatenation-requires c κs = search needs
-
-slice-aggregate-put : tie.Need-slice-aggregate-put
-slice-aggregate-put c = search needs
-
-put-requires : tie.Need-put-requires
-put-requires c κs = search needs
-
-same-length : tie.Need-same-length
-same-length c = search needs
-
 returns-2 : tie.Need-returns-2
 unfolding finished
 returns-2 c =
@@ -46,9 +31,9 @@ finish-spec =
     tie.close
     (tie.spec
     returns
-    padded-requires
-    concatenation-requires
-    slice-aggregate-put
-    put-requires
-    same-length
+    (λ c κs. search needs)
+    (λ c κs. search needs)
+    (λ c. search needs)
+    (λ c κs. search needs)
+    (λ c. search needs)
     returns-2)

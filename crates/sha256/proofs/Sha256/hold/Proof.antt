@@ -7,12 +7,6 @@ use borrow.Author.Needs.{needs}
 use Rattle.sha256.proofs.Sha256.hold.Statement.{statement}
 use Rattle.sha256.proofs.Sha256.hold.Tie as tie
 
-add-count : tie.Need-add-count
-add-count c = search needs
-
-filled-requires : tie.Need-filled-requires
-filled-requires c κs = search needs
-
 returns : tie.Need-returns
 unfolding filled
 returns c =
@@ -21,4 +15,4 @@ returns c =
     rw (c .filled .ensures, absorb-held (start .args .self) (start .args .«data» .now) (start .pre .0) (start .pre .1) size)
 
 pub hold-spec : {M : Type 1} → statement M
-hold-spec = tie.close (tie.spec add-count filled-requires returns)
+hold-spec = tie.close (tie.spec (λ c. search needs) (λ c κs. search needs) returns)

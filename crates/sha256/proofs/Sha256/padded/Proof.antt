@@ -15,39 +15,12 @@ held c =
     let size : length (c .args .self .block) ≡ 64 = search needs in
     length-take-le (c .args .self .count % 64) (c .args .self .block) (omega arith)
 
-marked-requires : tie.Need-marked-requires
-marked-requires c κs = search needs
-
-with-length-requires : tie.Need-with-length-requires
-with-length-requires c κs = search needs
-
-slice-aggregate-next-value : tie.Need-slice-aggregate-next-value
-slice-aggregate-next-value c = search needs
-
-next-value-requires : tie.Need-next-value-requires
-next-value-requires c κs = search needs
-
 returns : tie.Need-returns
 returns c =
     let at-marked = c .before .before .before .before in
     let start = at-marked .before .before .before .before in
     let s = start .args .self in
     rw (c .next-value .ensures, c .before .before .with-length .ensures, at-marked .marked .ensures, padded-one (s .words) (take (s .count % 64) (s .block)) (s .count) (held start) (omega arith))
-
-slice-aggregate-next-value-2 : tie.Need-slice-aggregate-next-value-2
-slice-aggregate-next-value-2 c = search needs
-
-next-value-requires-2 : tie.Need-next-value-requires-2
-next-value-requires-2 c κs = search needs
-
-with-length-requires-2 : tie.Need-with-length-requires-2
-with-length-requires-2 c κs = search needs
-
-slice-aggregate-next-value-3 : tie.Need-slice-aggregate-next-value-3
-slice-aggregate-next-value-3 c = search needs
-
-next-value-requires-3 : tie.Need-next-value-requires-3
-next-value-requires-3 c κs = search needs
 
 returns-2 : tie.Need-returns-2
 returns-2 c =
@@ -62,14 +35,14 @@ pub padded-spec : {M : Type 1} → statement M
 padded-spec =
     tie.close
     (tie.spec
-    marked-requires
-    with-length-requires
-    slice-aggregate-next-value
-    next-value-requires
+    (λ c κs. search needs)
+    (λ c κs. search needs)
+    (λ c. search needs)
+    (λ c κs. search needs)
     returns
-    slice-aggregate-next-value-2
-    next-value-requires-2
-    with-length-requires-2
-    slice-aggregate-next-value-3
-    next-value-requires-3
+    (λ c. search needs)
+    (λ c κs. search needs)
+    (λ c κs. search needs)
+    (λ c. search needs)
+    (λ c κs. search needs)
     returns-2)

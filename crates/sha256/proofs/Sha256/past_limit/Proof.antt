@@ -6,12 +6,9 @@ use borrow.Author.Needs.{needs}
 use Rattle.sha256.proofs.Sha256.past_limit.Statement.{statement}
 use Rattle.sha256.proofs.Sha256.past_limit.Tie as tie
 
-add-t3 : tie.Need-add-t3
-add-t3 c = search needs
-
 returns : tie.Need-returns
 unfolding over
 returns c = refl
 
 pub past-limit-spec : {M : Type 1} → statement M
-past-limit-spec = tie.close (tie.spec add-t3 returns)
+past-limit-spec = tie.close (tie.spec (λ c. search needs) returns)

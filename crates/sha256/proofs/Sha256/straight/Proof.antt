@@ -11,35 +11,8 @@ use borrow.Author.Needs.{needs}
 use Rattle.sha256.proofs.Sha256.straight.Statement.{statement}
 use Rattle.sha256.proofs.Sha256.straight.Tie as tie
 
-hold-requires : tie.Need-hold-requires
-hold-requires c κs = search needs
-
-returns : tie.Need-returns
-returns c = search needs
-
-sub-whole : tie.Need-sub-whole
-sub-whole c = search needs
-
 slice-aggregate-all-blocks : tie.Need-slice-aggregate-all-blocks
 slice-aggregate-all-blocks c = sym (length-take-le _ _ (omega arith))
-
-all-blocks-requires : tie.Need-all-blocks-requires
-all-blocks-requires c κs = search needs
-
-add-t14 : tie.Need-add-t14
-add-t14 c = search needs
-
-sub-hold : tie.Need-sub-hold
-sub-hold c = search needs
-
-part-hold-start : tie.Need-part-hold-start
-part-hold-start c = search needs
-
-part-hold-end : tie.Need-part-hold-end
-part-hold-end c = search needs
-
-hold-requires-2 : tie.Need-hold-requires-2
-hold-requires-2 c κs = search needs
 
 returns-2 : tie.Need-returns-2
 returns-2 c =
@@ -54,14 +27,14 @@ pub straight-spec : {M : Type 1} → statement M
 straight-spec =
     tie.close
     (tie.spec
-    hold-requires
-    returns
-    sub-whole
+    (λ c κs. search needs)
+    (λ c. search needs)
+    (λ c. search needs)
     slice-aggregate-all-blocks
-    all-blocks-requires
-    add-t14
-    sub-hold
-    part-hold-start
-    part-hold-end
-    hold-requires-2
+    (λ c κs. search needs)
+    (λ c. search needs)
+    (λ c. search needs)
+    (λ c. search needs)
+    (λ c. search needs)
+    (λ c κs. search needs)
     returns-2)

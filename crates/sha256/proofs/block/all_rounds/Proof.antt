@@ -28,12 +28,6 @@ extend-requires c κs = (search needs, omega arith)
 eight-rounds-requires : tie.Need-eight-rounds-requires Inv-loop μ-loop
 eight-rounds-requires c κs = (refl, omega arith)
 
-add-t : tie.Need-add-t Inv-loop μ-loop
-add-t c = search needs
-
-loop-less : tie.Need-loop-less Inv-loop μ-loop
-loop-less c = search needs
-
 loop-again : tie.Need-loop-again Inv-loop μ-loop
 loop-again c =
     let at-loop = c .before .before .before .before .before in
@@ -61,4 +55,4 @@ returns c =
 pub all-rounds-spec : {M : Type 1} → statement M
 all-rounds-spec =
     tie.close
-    (tie.spec Inv-loop μ-loop loop-holds extend-requires eight-rounds-requires add-t loop-less loop-again returns)
+    (tie.spec Inv-loop μ-loop loop-holds extend-requires eight-rounds-requires (λ c. search needs) (λ c. search needs) loop-again returns)

@@ -19,30 +19,6 @@ abbrev μ-loop : tie.MeasureT-loop
 loop-holds : tie.Need-loop-holds Inv-loop μ-loop
 loop-holds c = (search needs, search needs, λ s e. e)
 
-add-loop : tie.Need-add-loop Inv-loop μ-loop
-add-loop c = search needs
-
-mul-one-round : tie.Need-mul-one-round Inv-loop μ-loop
-mul-one-round c = search needs
-
-element-copy-out-one-round : tie.Need-element-copy-out-one-round Inv-loop μ-loop
-element-copy-out-one-round c = search needs
-
-mul-one-round-2 : tie.Need-mul-one-round-2 Inv-loop μ-loop
-mul-one-round-2 c = search needs
-
-element-copy-out-one-round-2 : tie.Need-element-copy-out-one-round-2 Inv-loop μ-loop
-element-copy-out-one-round-2 c = search needs
-
-one-round-requires : tie.Need-one-round-requires Inv-loop μ-loop
-one-round-requires c κs = search needs
-
-add-t : tie.Need-add-t Inv-loop μ-loop
-add-t c = search needs
-
-loop-less : tie.Need-loop-less Inv-loop μ-loop
-loop-less c = search needs
-
 loop-again : tie.Need-loop-again Inv-loop μ-loop
 loop-again c =
     let at-loop = c .before .before .before .before in
@@ -62,13 +38,13 @@ eight-rounds-spec =
     Inv-loop
     μ-loop
     loop-holds
-    add-loop
-    mul-one-round
-    element-copy-out-one-round
-    mul-one-round-2
-    element-copy-out-one-round-2
-    one-round-requires
-    add-t
-    loop-less
+    (λ c. search needs)
+    (λ c. search needs)
+    (λ c. search needs)
+    (λ c. search needs)
+    (λ c. search needs)
+    (λ c κs. search needs)
+    (λ c. search needs)
+    (λ c. search needs)
     loop-again
     returns)

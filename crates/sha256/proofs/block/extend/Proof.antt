@@ -23,60 +23,6 @@ abbrev μ-loop : tie.MeasureT-loop
 loop-holds : tie.Need-loop-holds Inv-loop μ-loop
 loop-holds c = (search needs, search needs, search needs, refl, λ M e. e)
 
-add-loop : tie.Need-add-loop Inv-loop μ-loop
-add-loop c = search needs
-
-add-later : tie.Need-add-later Inv-loop μ-loop
-add-later c = search needs
-
-mul-later : tie.Need-mul-later Inv-loop μ-loop
-mul-later c = search needs
-
-slice-read-later : tie.Need-slice-read-later Inv-loop μ-loop
-slice-read-later c = search needs
-
-add-later-2 : tie.Need-add-later-2 Inv-loop μ-loop
-add-later-2 c = search needs
-
-mul-later-2 : tie.Need-mul-later-2 Inv-loop μ-loop
-mul-later-2 c = search needs
-
-slice-read-later-2 : tie.Need-slice-read-later-2 Inv-loop μ-loop
-slice-read-later-2 c = search needs
-
-add-later-3 : tie.Need-add-later-3 Inv-loop μ-loop
-add-later-3 c = search needs
-
-mul-later-3 : tie.Need-mul-later-3 Inv-loop μ-loop
-mul-later-3 c = search needs
-
-slice-read-later-3 : tie.Need-slice-read-later-3 Inv-loop μ-loop
-slice-read-later-3 c = search needs
-
-mul-later-4 : tie.Need-mul-later-4 Inv-loop μ-loop
-mul-later-4 c = search needs
-
-slice-read-later-4 : tie.Need-slice-read-later-4 Inv-loop μ-loop
-slice-read-later-4 c = search needs
-
-later-requires : tie.Need-later-requires Inv-loop μ-loop
-later-requires c κs = search needs
-
-add-w : tie.Need-add-w Inv-loop μ-loop
-add-w c = search needs
-
-mul-w : tie.Need-mul-w Inv-loop μ-loop
-mul-w c = search needs
-
-slice-write-w : tie.Need-slice-write-w Inv-loop μ-loop
-slice-write-w c = search needs
-
-add-n : tie.Need-add-n Inv-loop μ-loop
-add-n c = search needs
-
-loop-less : tie.Need-loop-less Inv-loop μ-loop
-loop-less c = search needs
-
 loop-again : tie.Need-loop-again Inv-loop μ-loop
 loop-again c =
     let at-loop = c .before .before .before .before .before .before in
@@ -92,9 +38,6 @@ loop-again c =
           rw same (front-grows w (schedule n M) (n + 16) x (omega arith) front ∙ next-later n w M x front (c .later .ensures)),
     )
 
-same-length : tie.Need-same-length Inv-loop μ-loop
-same-length c = search needs
-
 returns : tie.Need-returns Inv-loop μ-loop
 returns c =
     let done : c .before .loop .n ≡ c .before .before .before .args .from + 8 = omega arith in
@@ -107,24 +50,24 @@ extend-spec =
     Inv-loop
     μ-loop
     loop-holds
-    add-loop
-    add-later
-    mul-later
-    slice-read-later
-    add-later-2
-    mul-later-2
-    slice-read-later-2
-    add-later-3
-    mul-later-3
-    slice-read-later-3
-    mul-later-4
-    slice-read-later-4
-    later-requires
-    add-w
-    mul-w
-    slice-write-w
-    add-n
-    loop-less
+    (λ c. search needs)
+    (λ c. search needs)
+    (λ c. search needs)
+    (λ c. search needs)
+    (λ c. search needs)
+    (λ c. search needs)
+    (λ c. search needs)
+    (λ c. search needs)
+    (λ c. search needs)
+    (λ c. search needs)
+    (λ c. search needs)
+    (λ c. search needs)
+    (λ c κs. search needs)
+    (λ c. search needs)
+    (λ c. search needs)
+    (λ c. search needs)
+    (λ c. search needs)
+    (λ c. search needs)
     loop-again
-    same-length
+    (λ c. search needs)
     returns)

@@ -20,53 +20,11 @@ loop-holds : tie.Need-loop-holds Inv-loop μ-loop
 unfolding words
 loop-holds c = (search needs, search needs, refl)
 
-mul-at : tie.Need-mul-at Inv-loop μ-loop
-mul-at c = search needs
-
-shared-slice-read-number32 : tie.Need-shared-slice-read-number32 Inv-loop μ-loop
-shared-slice-read-number32 c = search needs
-
-add-number32 : tie.Need-add-number32 Inv-loop μ-loop
-add-number32 c = search needs
-
-shared-slice-read-number32-2 : tie.Need-shared-slice-read-number32-2 Inv-loop μ-loop
-shared-slice-read-number32-2 c = search needs
-
-add-number32-2 : tie.Need-add-number32-2 Inv-loop μ-loop
-add-number32-2 c = search needs
-
-shared-slice-read-number32-3 : tie.Need-shared-slice-read-number32-3 Inv-loop μ-loop
-shared-slice-read-number32-3 c = search needs
-
-add-number32-3 : tie.Need-add-number32-3 Inv-loop μ-loop
-add-number32-3 c = search needs
-
-shared-slice-read-number32-4 : tie.Need-shared-slice-read-number32-4 Inv-loop μ-loop
-shared-slice-read-number32-4 c = search needs
-
-number32-requires : tie.Need-number32-requires Inv-loop μ-loop
-number32-requires c κs = search needs
-
-mul-w : tie.Need-mul-w Inv-loop μ-loop
-mul-w c = search needs
-
-slice-write-w : tie.Need-slice-write-w Inv-loop μ-loop
-slice-write-w c = search needs
-
-add-t : tie.Need-add-t Inv-loop μ-loop
-add-t c = search needs
-
-loop-less : tie.Need-loop-less Inv-loop μ-loop
-loop-less c = search needs
-
 loop-again : tie.Need-loop-again Inv-loop μ-loop
 loop-again c =
     let at-loop = c .before .before .before .before .before .before in
     let block = at-loop .before .before .before .args .block .now in
     (search needs, search needs, front-grows (at-loop .loop .w) (words (at-loop .loop .t) block) (at-loop .loop .t) (c .number32 .result) (omega arith) (at-loop .loop .inv .2) ∙ next-word (at-loop .loop .t) block (c .number32 .result) (omega arith) (c .number32 .ensures))
-
-same-length : tie.Need-same-length Inv-loop μ-loop
-same-length c = search needs
 
 returns : tie.Need-returns Inv-loop μ-loop
 returns c =
@@ -80,19 +38,19 @@ load-spec =
     Inv-loop
     μ-loop
     loop-holds
-    mul-at
-    shared-slice-read-number32
-    add-number32
-    shared-slice-read-number32-2
-    add-number32-2
-    shared-slice-read-number32-3
-    add-number32-3
-    shared-slice-read-number32-4
-    number32-requires
-    mul-w
-    slice-write-w
-    add-t
-    loop-less
+    (λ c. search needs)
+    (λ c. search needs)
+    (λ c. search needs)
+    (λ c. search needs)
+    (λ c. search needs)
+    (λ c. search needs)
+    (λ c. search needs)
+    (λ c. search needs)
+    (λ c κs. search needs)
+    (λ c. search needs)
+    (λ c. search needs)
+    (λ c. search needs)
+    (λ c. search needs)
     loop-again
-    same-length
+    (λ c. search needs)
     returns)

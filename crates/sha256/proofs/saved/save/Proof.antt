@@ -27,29 +27,8 @@ fits c =
       count = search needs;
     }
 
-concatenation-requires : tie.Need-concatenation-requires
-concatenation-requires c κs = search needs
-
-bytes64-requires : tie.Need-bytes64-requires
-bytes64-requires c κs = search needs
-
-slice-aggregate-append : tie.Need-slice-aggregate-append
-slice-aggregate-append c = search needs
-
-append-requires : tie.Need-append-requires
-append-requires c κs = search needs
-
-slice-aggregate-append-2 : tie.Need-slice-aggregate-append-2
-slice-aggregate-append-2 c = search needs
-
 append-requires-2 : tie.Need-append-requires-2
 append-requires-2 c κs = rw (fits (c .before .before .before .before .before .before) .size) (omega arith)
-
-slice-aggregate-append-3 : tie.Need-slice-aggregate-append-3
-slice-aggregate-append-3 c = search needs
-
-append-requires-3 : tie.Need-append-requires-3
-append-requires-3 c κs = search needs
 
 returns : tie.Need-returns
 unfolding saved concatenated
@@ -74,12 +53,12 @@ pub save-spec : {M : Type 1} → statement M
 save-spec =
     tie.close
     (tie.spec
-    concatenation-requires
-    bytes64-requires
-    slice-aggregate-append
-    append-requires
-    slice-aggregate-append-2
+    (λ c κs. search needs)
+    (λ c κs. search needs)
+    (λ c. search needs)
+    (λ c κs. search needs)
+    (λ c. search needs)
     append-requires-2
-    slice-aggregate-append-3
-    append-requires-3
+    (λ c. search needs)
+    (λ c κs. search needs)
     returns)
