@@ -28,7 +28,12 @@ use Rattle.messages.specs.Fixed.{readFixed}
 use Rattle.server.specs.declared.Phase.{Phase}
 use Rattle.server.specs.declared.Connection.{Connection}
 use Rattle.server.specs.Connection.{Settings, acceptable, started, ended}
-use Rattle.server.specs.Steps.{Step, refuse, accept, View, suites, flight, masterUnder, finishedOf, isValue, judged, finishedValue, messageStep}
+use Rattle.server.specs.Step.{Step, refuse, accept}
+use Rattle.server.specs.KeyExchange.{View, masterUnder}
+use Rattle.server.specs.Connection.{suites}
+use Rattle.server.specs.Hello.{flight}
+use Rattle.server.specs.Finished.{finishedOf, isValue, judged, finishedValue}
+use Rattle.server.specs.Message.{messageStep}
 use Rattle.server.specs.Inner.{flightLength}
 use Rattle.server.proofs.Hellos.{length-flight}
 use Rattle.demands.specs.Series.{Call, message, changeOfCipher, alert, call}

@@ -20,7 +20,11 @@ use Rattle.server.specs.declared.Rule.{Rule}
 use Rattle.server.specs.declared.Phase.{Phase}
 use Rattle.server.specs.declared.Connection.{Connection}
 use Rattle.server.specs.Connection.{Settings, ruleOf, acceptable, started, ended}
-use Rattle.server.specs.Steps.{View, viewOf, Step, refuse, accept, suites, keyFound, messageStep, isOver, alertStep, Settled, outcome, settled, alertCall}
+use Rattle.server.specs.KeyExchange.{View, viewOf, keyFound}
+use Rattle.server.specs.Step.{Step, refuse, accept, Settled, outcome, settled}
+use Rattle.server.specs.Connection.{suites, isOver}
+use Rattle.server.specs.Message.{messageStep}
+use Rattle.server.specs.Alert.{alertStep, alertCall}
 use Rattle.demands.specs.Series.{Call, message, changeOfCipher, alert, call, Seen, seen, answers}
 use Rattle.demands.specs.Terms.{LegalKeyExchange, IgnoredWarning, Aside, BadTableCall, HelloCame, KeyExchangeCame, ChangeCame, named, ShortFinished}
 use Rattle.demands.specs.Demand3.{JudgedRight, Sameness}

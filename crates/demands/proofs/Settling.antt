@@ -19,7 +19,9 @@ use Rattle.messages.specs.Header.{header}
 use Rattle.server.specs.declared.Phase.{Phase}
 use Rattle.server.specs.declared.Connection.{Connection}
 use Rattle.server.specs.Connection.{ended}
-use Rattle.server.specs.Steps.{Step, refuse, accept, View, afterTests, isOver, settled}
+use Rattle.server.specs.Step.{Step, refuse, accept, afterTests, settled}
+use Rattle.server.specs.KeyExchange.{View}
+use Rattle.server.specs.Connection.{isOver}
 use Rattle.server.proofs.Refusals.{alerts-close}
 use Rattle.demands.specs.Series.{Call, message, changeOfCipher, alert, call}
 use Rattle.demands.specs.Terms.{IgnoredWarning}

@@ -22,7 +22,12 @@ use Rattle.server.specs.declared.Rule.{Rule}
 use Rattle.server.specs.declared.Phase.{Phase}
 use Rattle.server.specs.declared.Connection.{Connection}
 use Rattle.server.specs.Connection.{Settings, ruleOf, started, ended, hintOf}
-use Rattle.server.specs.Steps.{Step, refuse, accept, View, suites, chosen, offersNull, flight, flightFor, afterHello, helloChosen, helloFields, afterKeys, keyFound, keyIdentity, messageStep, afterChange, settled}
+use Rattle.server.specs.Step.{Step, refuse, accept, settled}
+use Rattle.server.specs.KeyExchange.{View, afterKeys, keyFound, keyIdentity}
+use Rattle.server.specs.Connection.{suites}
+use Rattle.server.specs.Hello.{chosen, offersNull, flight, flightFor, afterHello, helloChosen, helloFields}
+use Rattle.server.specs.Message.{messageStep}
+use Rattle.server.specs.Change.{afterChange}
 use Rattle.server.proofs.Hellos.{version-old, null-missing, null-there}
 use Rattle.demands.specs.Series.{Call, message, changeOfCipher, alert, call}
 use Rattle.demands.specs.Terms.{LegalHello, LegalKeyExchange, flightTo, IgnoredWarning, Aside, ShortHello, BadTableCall}

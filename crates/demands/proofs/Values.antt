@@ -18,7 +18,8 @@ use Rattle.keys.specs.declared.Side.the-variants.{Client, Server}
 use Rattle.keys.specs.Secrets.{verifyData}
 use Rattle.keys.proofs.Lengths.{value-given, value-master}
 use Rattle.keytable.proofs.Apart.{same-eq, same-refl}
-use Rattle.server.specs.Steps.{andThen, bytesOf, finishedOf, isValue}
+use Rattle.server.specs.KeyExchange.{andThen, bytesOf}
+use Rattle.server.specs.Finished.{finishedOf, isValue}
 
 none-without-master : (o : Outcome) (value : List ℕ) → isValue value (andThen o (verifyData Client [])) ≡ false
 unfolding verifyData

@@ -7,7 +7,7 @@ use mathlib.Core.Bool.{true}
 use mathlib.Core.List.{List}
 use Rattle.server.specs.declared.Rule.{Rule}
 use Rattle.server.specs.Connection.{Settings, ruleOf, acceptable, startAnswer}
-use Rattle.server.specs.Steps.{View}
+use Rattle.server.specs.KeyExchange.{View}
 use Rattle.demands.specs.Series.{Call, answers}
 use Rattle.demands.specs.Demand3.{NoneJudgedRight}
 

@@ -18,7 +18,9 @@ use Rattle.messages.specs.KeyExchange.{readVector}
 use Rattle.messages.specs.Fixed.{readFixed}
 use Rattle.keytable.specs.WellFormed.{Each}
 use Rattle.server.specs.Connection.{Settings}
-use Rattle.server.specs.Steps.{View, andThen, suites, chosen, offersNull, flight, masterUnder}
+use Rattle.server.specs.KeyExchange.{View, andThen, masterUnder}
+use Rattle.server.specs.Connection.{suites}
+use Rattle.server.specs.Hello.{chosen, offersNull, flight}
 use Rattle.demands.specs.Series.{Call, message, changeOfCipher, alert}
 
 -- ---- "Legal: a ClientHello, ClientKeyExchange or Finished that meets the tests on its header and limit and, of its step, all that answer with an alert,

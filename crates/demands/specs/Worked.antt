@@ -21,7 +21,11 @@ use Rattle.keytable.specs.Utf8.{validUtf8}
 use Rattle.keytable.specs.Table.{wellFormed, keyOf}
 use Rattle.server.specs.declared.Phase.{Phase}
 use Rattle.server.specs.declared.Connection.{Connection}
-use Rattle.server.specs.Steps.{View, viewOf, refuse, accept, suites, chosen, offersNull, flightFor, afterHello, helloFields, messageStep}
+use Rattle.server.specs.KeyExchange.{View, viewOf}
+use Rattle.server.specs.Step.{refuse, accept}
+use Rattle.server.specs.Connection.{suites}
+use Rattle.server.specs.Hello.{chosen, offersNull, flightFor, afterHello, helloFields}
+use Rattle.server.specs.Message.{messageStep}
 
 -- ---- the bytes that it names
 

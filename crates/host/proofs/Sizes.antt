@@ -39,9 +39,18 @@ use Rattle.server.specs.declared.Rule.{Rule}
 use Rattle.server.specs.declared.Phase.{Phase}
 use Rattle.server.specs.declared.Connection.{Connection}
 use Rattle.server.specs.Connection.{ended, hintOf}
-use Rattle.server.specs.Steps.{Step, refuse, accept, View, andThen, suites, chosen, offersNull, hintMessage, flightFor, helloChosen, helloFields}
-use Rattle.server.specs.Steps.{unlisted, keyFound, keyIdentity, finishedOf, isValue, completed, finishedValue, afterTests, messageStep, changeStep}
-use Rattle.server.specs.Steps.{isOver, alertStep, outcome}
+use Rattle.server.specs.Step.{Step, refuse, accept}
+use Rattle.server.specs.KeyExchange.{View, andThen}
+use Rattle.server.specs.Connection.{suites}
+use Rattle.server.specs.Hello.{chosen, offersNull, hintMessage, flightFor, helloChosen, helloFields}
+use Rattle.server.specs.KeyExchange.{unlisted, keyFound, keyIdentity}
+use Rattle.server.specs.Finished.{finishedOf, isValue, completed, finishedValue}
+use Rattle.server.specs.Step.{afterTests}
+use Rattle.server.specs.Message.{messageStep}
+use Rattle.server.specs.Change.{changeStep}
+use Rattle.server.specs.Connection.{isOver}
+use Rattle.server.specs.Alert.{alertStep}
+use Rattle.server.specs.Step.{outcome}
 use Rattle.server.specs.Saved.{known, restored}
 use Rattle.server.proofs.Hellos.{hello}
 use Rattle.host.proofs.Answers.{size}

@@ -2,16 +2,16 @@
 ghost use mathlib.Core.Path.{_≡_};
 ghost use lib.ListN.{length};
 ghost use Rattle.keytable.specs.Table.{same};
-ghost use Rattle.messages.specs.Header.{header};
 ghost use Rattle.messages.specs.Place.{filledBy, contents};
-ghost use Rattle.server.specs.Steps.{finishedOf, finishedValue, afterTests};
+ghost use Rattle.server.specs.Finished.{finishedOf, finishedFlight, finishedValue};
 ghost use Rattle.server.specs.Inner as Inner;
-ghost use Rattle.server.specs.Inner.{Does, asValue};
-use crate::Answer;
+ghost use Rattle.server.specs.Inner.{Decides, Sends, asValue};
 use crate::Connection;
 use crate::Phase;
 use crate::ended;
-use crate::refuse;
+use crate::step;
+use crate::step::Decision;
+use crate::step::Outgoing;
 use keys::Side;
 use messages::Part;
 use messages::Verdict;
@@ -61,7 +61,9 @@ fn right(c: Connection, value: &[u8]) -> bool
     requires { ⌜ length (now value) ≡ 12 ⌝ }
     ensures { λ r. ⌜ r ≡ Inner.rightValue c (now (value .entry)) ⌝ }
 {
-    let master = c.master;
+    let secrets = c.secrets;
+    let master = secrets.master;
+    let client = c.client;
     let transcript = c.transcript;
     let expected = value_of(Side::Client, master, transcript);
     let bytes = expected.bytes;
@@ -71,51 +73,54 @@ fn right(c: Connection, value: &[u8]) -> bool
     if !expected.made {
         return false;
     }
-    c.listed
+    client.listed
+}
+
+// The server's Finished.
+fn answer(value: &[u8; 12]) -> Outgoing
+    ensures { λ o. ⌜ Sends o (finishedFlight (now (value .entry))) ⌝ }
+{
+    let mut bytes = [0u8; 180];
+    messages::fixed::write_finished(value, &mut bytes);
+    Outgoing {
+        bytes,
+        lengths: [16, 0, 0],
+        plain: 0,
+    }
 }
 
 // The server's Finished, to a client's that was right.
-fn complete(c: Connection, m: &[u8], out: &mut [u8]) -> Answer
-    ensures { λ a. ⌜ Does c (now (out .entry)) (Inner.completion c (now (m .entry))) a (now (out .exit)) ⌝ }
+fn complete(c: Connection, m: &[u8]) -> Decision
+    ensures { λ d. ⌜ Decides d (Inner.completion c (now (m .entry))) ⌝ }
 {
-    let master = c.master;
+    let secrets = c.secrets;
+    let master = secrets.master;
     let transcript = transcript::with_message(c.transcript, m);
     let value = value_of(Side::Server, master, transcript);
     if !value.made {
-        return refuse(c, Refusal::DecryptError);
+        return step::refused(c, Refusal::DecryptError);
     }
     let bytes = value.bytes;
-    let said = messages::fixed::write_finished(&bytes, out);
-    match said {
-        Written::Wrote(_) => {
-            let next = ended(Phase::Complete);
-            Answer { said, next }
-        }
-        Written::Refused(_) => Answer { said, next: c },
+    let outgoing = answer(&bytes);
+    let next = ended(Phase::Complete);
+    Decision {
+        verdict: Verdict::Accepted,
+        outgoing,
+        next,
     }
 }
 
 // A Finished whose header is tested already.
-fn body(c: Connection, m: &[u8], out: &mut [u8]) -> Answer
-    ensures { λ a. ⌜ Does c (now (out .entry)) (finishedValue c (now (m .entry)) (contents (now (m .entry)) (filledBy 12 (now (m .entry))))) a (now (out .exit)) ⌝ }
+pub fn body(c: Connection, m: &[u8]) -> Decision
+    ensures { λ d. ⌜ Decides d (finishedValue c (now (m .entry)) (contents (now (m .entry)) (filledBy 12 (now (m .entry))))) ⌝ }
 {
     match messages::fixed::read_finished_body(m) {
         Part::At { start, len } => {
             if !right(c, &m[start..start + len]) {
-                return refuse(c, Refusal::DecryptError);
+                return step::refused(c, Refusal::DecryptError);
             }
-            complete(c, m, out)
+            complete(c, m)
         }
-        Part::Refused(_) => refuse(c, Refusal::DecodeError),
-    }
-}
-
-// A message where a Finished is awaited.
-pub fn step(c: Connection, m: &[u8], out: &mut [u8]) -> Answer
-    ensures { λ a. ⌜ Does c (now (out .entry)) (afterTests (header 20 (now (m .entry))) (finishedValue c (now (m .entry)) (contents (now (m .entry)) (filledBy 12 (now (m .entry)))))) a (now (out .exit)) ⌝ }
-{
-    match messages::header::test(20, m) {
-        Verdict::Accepted => body(c, m, out),
-        Verdict::Refused(r) => refuse(c, r),
+        Part::Refused(_) => step::refused(c, Refusal::DecodeError),
     }
 }

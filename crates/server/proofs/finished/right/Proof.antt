@@ -5,20 +5,20 @@ use mathlib.Core.Bool.{_&&_, and-false, and-true}
 use borrow.Author.Tests.{not-true, not-false}
 use Rattle.keytable.specs.Table.{same}
 use Rattle.keys.specs.declared.Side.the-variants.{Client}
-use Rattle.server.specs.Steps.{finishedOf}
+use Rattle.server.specs.Finished.{finishedOf}
 use Rattle.server.specs.Inner.{rightValue}
-use Rattle.server.proofs.Secrets.{is-value}
+use Rattle.server.proofs.Values.{is-value}
 use borrow.Author.Needs.{needs}
 use Rattle.server.proofs.finished.right.Statement.{statement}
 use Rattle.server.proofs.finished.right.Tie as tie
 
 -- by what was made and what it is compared with
 asked : (c : tie.After-value-of) →
-    let args = c .before .before .before .before .args in
-    rightValue (args .c) (args .value .now) ≡ (args .c .listed && (c .value-of .result .made && same (args .value .now) (c .value-of .result .bytes)))
+    let args = c .before .before .before .before .before .before .args in
+    rightValue (args .c) (args .value .now) ≡ (args .c .client .listed && (c .value-of .result .made && same (args .value .now) (c .value-of .result .bytes)))
 asked c =
-    let args = c .before .before .before .before .args in
-    rw (is-value (args .value .now) (finishedOf Client (args .c .master) (args .c .transcript)) (c .value-of .ensures))
+    let args = c .before .before .before .before .before .before .args in
+    rw (is-value (args .value .now) (finishedOf Client (args .c .secrets .master) (args .c .transcript)) (c .value-of .ensures))
 
 returns : tie.Need-returns
 returns c =

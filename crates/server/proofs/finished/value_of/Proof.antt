@@ -2,7 +2,7 @@
 -- Assumes nothing.
 use mathlib.Core.Path.{_≡_, refl}
 use lib.ListN.{length}
-use Rattle.server.proofs.Secrets.{hash-left, hash-refused, value-left}
+use Rattle.server.proofs.Values.{hash-left, hash-refused, value-left}
 use borrow.Author.Needs.{needs}
 use Rattle.server.proofs.finished.value_of.Statement.{statement}
 use Rattle.server.proofs.finished.value_of.Tie as tie

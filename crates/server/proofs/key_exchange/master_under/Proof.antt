@@ -7,7 +7,7 @@ use lib.ListN.{length}
 use lib.Seq.{length-take-le}
 use Rattle.keys.specs.Secrets.{premasterBytes}
 use Rattle.keys.proofs.Lengths.{length-premaster, premaster-given}
-use Rattle.server.proofs.Secrets.{premaster-left, master-left}
+use Rattle.server.proofs.Values.{premaster-left, master-left}
 use borrow.Author.Needs.{needs}
 use Rattle.server.proofs.key_exchange.master_under.Statement.{statement}
 use Rattle.server.proofs.key_exchange.master_under.Tie as tie
