@@ -1,6 +1,6 @@
 -- Equal byte strings, and the loop that compares two.
 -- Assumes nothing.
-use mathlib.Core.Path.{_≡_, refl, sym, ap₂, _∙_}
+use mathlib.Core.Path.{_≡_, refl, sym, ap, ap₂, _∙_}
 use Prim.Native.Nat.{ℕ, _+_, _≤_, _<_}
 use native.Mathlib.Omega.{arith}
 use mathlib.Core.Bool.{Bool, true, false, _&&_, true≢false, and-false, and-true}
@@ -29,6 +29,13 @@ same-not a b other = go (same a b) refl
     go : (t : Bool) → same a b ≡ t → same a b ≡ false
     go true e = absurd (other (same-eq a b e))
     go false e = e
+
+pub same-either : (a b : List ℕ) → same a b ≡ same b a
+same-either a b = go (same b a) refl
+  where
+    go : (t : Bool) → same b a ≡ t → same a b ≡ t
+    go true e = ap (λ (l : List ℕ). same l b) (sym (same-eq b a e)) ∙ same-refl b
+    go false e = same-not a b (λ f. true≢false (sym (same-refl a) ∙ ap (λ (l : List ℕ). same l a) f ∙ e))
 
 -- ---- the loop
 
