@@ -9,7 +9,7 @@ use lib.Dec.{leb, ltb, eqb}
 use Rattle.lists.specs.Lists.{each, same}
 use Rattle.refusal.specs.Lent.{Outcome, gives, refuses}
 use Rattle.refusal.specs.declared.Refusal.the-variants.{UnknownPskIdentity}
-use Rattle.keytable.specs.Utf8.{validUtf8}
+use Rattle.utf8.specs.Utf8.{validUtf8}
 
 abbrev pub lineEnd : ℕ
 lineEnd = 0x0A

@@ -10,7 +10,6 @@ ghost use Rattle.keytable.specs.Table.{identityOf, lines, among, apart};
 ghost use Rattle.keytable.specs.Inner.{identityAt, earlier, fingerprint, Kept};
 use crate::entries::find;
 use crate::entries::line_end;
-use crate::utf8::wide;
 
 // A number that equal byte strings have alike.
 fn fingerprint(s: &[u8]) -> u32
@@ -19,7 +18,7 @@ fn fingerprint(s: &[u8]) -> u32
     let mut p = 0u32;
     let mut i = 0;
     while i < s.len() {
-        p = p % 8388608 * 257 + wide(s[i]);
+        p = p % 8388608 * 257 + s[i] as u32;
         i += 1;
     }
     p

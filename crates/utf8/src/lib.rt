@@ -1,11 +1,10 @@
 // UTF-8 by RFC 3629.
 ghost use mathlib.Core.Path.{_≡_};
 ghost use Prim.Native.Nat.{_<_};
-ghost use mathlib.Core.List.{[], _∷_};
 ghost use lib.ListN.{length, take, getD};
-ghost use Rattle.keytable.specs.Utf8.{size, tail, allowed, character, validUtf8};
+ghost use Rattle.utf8.specs.Utf8.{size, row, tail, allowed, character, validUtf8};
 
-pub(crate) fn wide(b: u8) -> u32
+fn wide(b: u8) -> u32
     ensures { λ r. ⌜ r ≡ b ⌝ }
 {
     b as u32
@@ -55,52 +54,35 @@ fn allowed(least: u32, v: u32) -> bool
     false
 }
 
-// Whether the bytes are a character of two bytes, as the first byte has it.
-fn two(a: u8, b: u8) -> bool
-    requires { ⌜ size a ≡ 2 ⌝ }
-    ensures { λ r. ⌜ r ≡ character (a ∷ b ∷ []) ⌝ }
-{
-    if !tail(b) {
-        return false;
-    }
-    allowed(0x80, wide(a) % 32 * 64 + wide(b) % 64)
+// The first byte's part of a character of n bytes: its bits of the character number, and the least number
+// that takes so many bytes.
+pub struct Row {
+    bits: u32,
+    least: u32,
 }
 
-// The same for three bytes.
-fn three(a: u8, b: u8, c: u8) -> bool
-    requires { ⌜ size a ≡ 3 ⌝ }
-    ensures { λ r. ⌜ r ≡ character (a ∷ b ∷ c ∷ []) ⌝ }
+fn row_of(n: usize, a: u8) -> Row
+    ensures { λ r. ⌜ r ≡ row n a ⌝ }
 {
-    if !tail(b) {
-        return false;
+    let bits = wide(a);
+    match n {
+        1 => Row {
+            bits: bits % 128,
+            least: 0,
+        },
+        2 => Row {
+            bits: bits % 32,
+            least: 0x80,
+        },
+        3 => Row {
+            bits: bits % 16,
+            least: 0x800,
+        },
+        _ => Row {
+            bits: bits % 8,
+            least: 0x10000,
+        },
     }
-    if !tail(c) {
-        return false;
-    }
-    allowed(
-        0x800,
-        wide(a) % 16 * 4096 + wide(b) % 64 * 64 + wide(c) % 64,
-    )
-}
-
-// The same for four bytes.
-fn four(a: u8, b: u8, c: u8, d: u8) -> bool
-    requires { ⌜ size a ≡ 4 ⌝ }
-    ensures { λ r. ⌜ r ≡ character (a ∷ b ∷ c ∷ d ∷ []) ⌝ }
-{
-    if !tail(b) {
-        return false;
-    }
-    if !tail(c) {
-        return false;
-    }
-    if !tail(d) {
-        return false;
-    }
-    allowed(
-        0x10000,
-        wide(a) % 8 * 262144 + wide(b) % 64 * 4096 + wide(c) % 64 * 64 + wide(d) % 64,
-    )
 }
 
 // Whether s begins with a character, of n bytes as its first byte has it.
@@ -109,16 +91,23 @@ fn begins(s: &[u8], n: usize) -> bool
     requires { ⌜ n ≡ size (getD (now s) 0 0) ⌝ }
     ensures { λ r. ⌜ r ≡ character (take n (now (s .entry))) ⌝ }
 {
+    if n < 2 {
+        return n == 1;
+    }
     if s.len() < n {
         return false;
     }
-    match n {
-        1 => true,
-        2 => two(s[0], s[1]),
-        3 => three(s[0], s[1], s[2]),
-        4 => four(s[0], s[1], s[2], s[3]),
-        _ => false,
+    let first = row_of(n, s[0]);
+    let mut v = first.bits;
+    let mut i = 1;
+    while i < n {
+        if !tail(s[i]) {
+            return false;
+        }
+        v = v * 64 + wide(s[i]) % 64;
+        i += 1;
     }
+    allowed(first.least, v)
 }
 
 // Whether s is valid UTF-8.

@@ -1,9 +1,9 @@
--- `keytable::utf8::size`: each return is what its tests leave of the definition.
+-- `utf8::size`: each return is what its tests leave of the definition.
 -- Assumes nothing.
 use borrow.Author.Needs.{needs}
 use borrow.Author.Tests.{le-leb, lt-leb, eq-eqb, ne-eqb}
-use Rattle.keytable.proofs.utf8.size.Statement.{statement}
-use Rattle.keytable.proofs.utf8.size.Tie as tie
+use Rattle.utf8.proofs.size.Statement.{statement}
+use Rattle.utf8.proofs.size.Tie as tie
 
 returns : tie.Need-returns
 returns c = simp (eq-eqb _ _ (c .if1 .taken))

@@ -1,8 +1,8 @@
--- `keytable::utf8::allowed`: each return is what its tests leave of the definition.
+-- `utf8::allowed`: each return is what its tests leave of the definition.
 -- Assumes nothing.
 use borrow.Author.Tests.{le-leb, lt-leb}
-use Rattle.keytable.proofs.utf8.allowed.Statement.{statement}
-use Rattle.keytable.proofs.utf8.allowed.Tie as tie
+use Rattle.utf8.proofs.allowed.Statement.{statement}
+use Rattle.utf8.proofs.allowed.Tie as tie
 
 returns : tie.Need-returns
 returns c = simp (lt-leb _ _ (c .if1 .taken))

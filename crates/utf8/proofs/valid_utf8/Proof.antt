@@ -1,4 +1,4 @@
--- `keytable::utf8::valid_utf8`: what is left of the text is as good as the whole, and each turn takes one character off.
+-- `utf8::valid_utf8`: what is left of the text is as good as the whole, and each turn takes one character off.
 -- Assumes nothing.
 use borrow.Author.Needs.{needs}
 use mathlib.Core.Path.{_≡_, _∙_, sym, ap}
@@ -8,12 +8,12 @@ use mathlib.Core.Bool.{true}
 use mathlib.Core.List.{List}
 use denote.Ref.{now}
 use lib.ListN.{length, take, drop, drop-of-length-le}
-use Rattle.keytable.specs.Utf8.{character, validAfter, validUtf8}
+use Rattle.utf8.specs.Utf8.{character, validAfter, validUtf8}
 use Rattle.lists.proofs.Parts.{rest}
 use Rattle.lists.proofs.Tests.{failed, passed}
-use Rattle.keytable.proofs.Characters.{turn-begins, turn-ends, turn-moves, turn-within, turn-again}
-use Rattle.keytable.proofs.utf8.valid_utf8.Statement.{statement}
-use Rattle.keytable.proofs.utf8.valid_utf8.Tie as tie
+use Rattle.utf8.proofs.Characters.{turn-begins, turn-ends, turn-moves, turn-within, turn-again}
+use Rattle.utf8.proofs.valid_utf8.Statement.{statement}
+use Rattle.utf8.proofs.valid_utf8.Tie as tie
 
 abbrev Inv-loop : tie.InvT-loop
 Inv-loop s at₀ at = (at ≤ length s) × (validAfter 0 s ≡ validAfter 0 (drop at s))
