@@ -8,7 +8,10 @@ use lib.ListN.{length}
 use lib.Dec.{leb, ltb, eqb}
 use Rattle.lists.specs.Lists.{each, same}
 use Rattle.refusal.specs.Lent.{Outcome, gives, refuses}
-use Rattle.refusal.specs.declared.Refusal.the-variants.{UnknownPskIdentity}
+use Rattle.refusal.specs.declared.Refusal.{Refusal}
+use Rattle.refusal.specs.declared.Refusal.the-variants.{BadTable, UnknownPskIdentity}
+use Rattle.keytable.specs.declared.Judged.{Judged}
+use Rattle.keytable.specs.declared.Judged.the-variants.{Good, Refused}
 use Rattle.utf8.specs.Utf8.{validUtf8}
 
 abbrev pub lineEnd : ℕ
@@ -108,6 +111,15 @@ apart earlier (x ∷ xs) = not (among x earlier) && apart (earlier ++ (x ∷ [])
 unfoldable pub wellFormed : List ℕ → Bool
 wellFormed t =
     leb (length t) 65536 && ended t && leb (length (lines t)) 256 && each validLine (lines t) && apart [] (map identityOf (lines t))
+
+-- What a table comes to by itself, before anything is looked up in it.
+abbrev pub tableRefusal : List ℕ → Option Refusal
+tableRefusal t = cond (wellFormed t) none (some BadTable)
+
+-- the same as the code's type has it
+abbrev pub judged : Option Refusal → Judged
+judged none = Good
+judged (some r) = Refused r
 
 -- ---- lookup
 
