@@ -10,7 +10,7 @@ use lib.ListN.{length, take, drop, getD, length-drop, drop-of-length-le}
 use lib.Seq.{drop-drop}
 use lib.Dec.{eqb}
 use Rattle.lists.proofs.Parts.{part-to-end, rest}
-use Rattle.lists.specs.Lists.{each, part}
+use Rattle.lists.specs.Lists.{part}
 use Rattle.keytable.specs.Table.{lineEnd, colon, before, lines, upto, past, identityOf, validIdentity, validKey, validLine, ended}
 
 pub length-upto : (x : ℕ) (s : List ℕ) → length (upto x s) ≤ length s
@@ -74,14 +74,6 @@ module _ (s : List ℕ) (at end : ℕ) (h : at ≤ length s) (e : end ≡ at + l
   module _ (inside : at < length s) where
     pub count-on : (n : ℕ) → length (lines s) ≡ n + length (lines (drop at s)) → length (lines s) ≡ n + 1 + length (lines (drop (end + 1) s))
     count-on n now = let one : length (lines (drop at s)) ≡ suc (length (lines (drop (end + 1) s))) = ap length (line-here inside) in omega arith
-
-    pub valid-on : validLine (part at (end - at) s) ≡ true → each validLine (lines s) ≡ each validLine (lines (drop at s))
-        → each validLine (lines s) ≡ each validLine (lines (drop (end + 1) s))
-    valid-on good now = now ∙ ap (each validLine) (line-here inside) ∙ rw good
-
-    pub valid-ends : validLine (part at (end - at) s) ≡ false → each validLine (lines s) ≡ each validLine (lines (drop at s))
-        → false ≡ each validLine (lines s)
-    valid-ends bad now = sym (now ∙ ap (each validLine) (line-here inside) ∙ rw bad)
 
 -- no lines are left at the end
 pub no-lines : (s : List ℕ) (at : ℕ) → length s ≤ at → lines (drop at s) ≡ []

@@ -2,11 +2,11 @@
 // starts of the lines and a fingerprint of each identity are kept, so that the bytes of two
 // identities are compared only where their fingerprints are equal.
 ghost use mathlib.Core.Path.{_≡_};
-ghost use mathlib.Core.List.{[], map};
+ghost use mathlib.Core.List.{map};
 ghost use Prim.Native.Nat.{_≤_, _+_};
 ghost use lib.ListN.{length};
-ghost use Rattle.lists.specs.Lists.{same};
-ghost use Rattle.keytable.specs.Table.{identityOf, lines, among, apart};
+ghost use Rattle.lists.specs.Lists.{any, distinct, same};
+ghost use Rattle.keytable.specs.Table.{identityOf, lines};
 ghost use Rattle.keytable.specs.Inner.{identityAt, earlier, fingerprint, Kept};
 use crate::entries::find;
 use crate::entries::line_end;
@@ -55,7 +55,7 @@ fn repeated(
     requires { ⌜ n ≤ length (now starts) ⌝ }
     requires { ⌜ p ≡ fingerprint 0 (now identity) ⌝ }
     requires { ⌜ Kept (now table) (now starts) (now fingerprints) n ⌝ }
-    ensures { λ r. ⌜ r ≡ among (now (identity .entry)) (earlier (now (table .entry)) (now (starts .entry)) n) ⌝ }
+    ensures { λ r. ⌜ r ≡ any (same (now (identity .entry))) (earlier (now (table .entry)) (now (starts .entry)) n) ⌝ }
 {
     let mut k = 0;
     while k < n {
@@ -73,7 +73,7 @@ fn repeated(
 pub(crate) fn distinct(table: &[u8]) -> bool
     requires { ⌜ length (now table) ≤ 65536 ⌝ }
     requires { ⌜ length (lines (now table)) ≤ 256 ⌝ }
-    ensures { λ r. ⌜ r ≡ apart [] (map identityOf (lines (now (table .entry)))) ⌝ }
+    ensures { λ r. ⌜ r ≡ distinct same (map identityOf (lines (now (table .entry)))) ⌝ }
 {
     let mut starts = [0u32; 256];
     let mut fingerprints = [0u32; 256];

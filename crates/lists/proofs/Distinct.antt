@@ -6,7 +6,7 @@ use mathlib.Core.List.{List, [], _∷_, _++_, append-assoc}
 use borrow.Author.Tests.{not-true}
 use Rattle.lists.specs.Lists.{any, distinct, Each, Distinct}
 use Rattle.lists.proofs.Tests.{and-left, and-right}
-use Rattle.lists.proofs.Every.{every-map}
+use Rattle.lists.proofs.Every.{every-map, every-middle}
 
 module _ {A : Type 0} where
   pub any-append : (p : A → Bool) (xs ys : List A) → any p (xs ++ ys) ≡ (any p xs || any p ys)
@@ -28,6 +28,14 @@ module _ {A : Type 0} where
   none-complete : (p : A → Bool) (xs : List A) → Each (λ x. p x ≡ false) xs → any p xs ≡ false
   none-complete p [] h = refl
   none-complete p (x ∷ xs) h = rw (h .0) (none-complete p xs (h .1))
+
+  -- one that stands in the middle is no other
+  pub distinct-middle : (xs : List A) (y : A) (ys : List A) → Distinct (xs ++ (y ∷ ys)) → Each (λ x. ¬ (y ≡ x)) xs × Each (λ x. ¬ (y ≡ x)) ys
+  distinct-middle [] y ys d = (tt, d .0)
+  distinct-middle (x ∷ xs) y ys d =
+      let rest = distinct-middle xs y ys (d .1) in
+      let other = every-middle (λ z. ¬ (x ≡ z)) xs y ys (d .0) in
+      (((λ e. other (sym e)), rest .0), rest .1)
 
 -- for a test that holds of equal elements and no others
 module _ {A : Type 0} (equal : A → A → Bool) (alike : (x : A) → equal x x ≡ true) (unlike : (x y : A) → ¬ (x ≡ y) → equal x y ≡ false) where
