@@ -18,7 +18,7 @@ use Rattle.refusal.specs.declared.Refusal.the-variants.{DecryptError}
 use Rattle.sha256.specs.State.{fresh, absorb}
 use Rattle.sha256.proofs.Absorb.{absorb-append}
 use Rattle.keys.specs.declared.Side.the-variants.{Client}
-use Rattle.keytable.specs.Utf8.{validUtf8}
+use Rattle.utf8.specs.Utf8.{validUtf8}
 use Rattle.messages.specs.Layout.{bytes, limit}
 use Rattle.messages.specs.Header.{header}
 use Rattle.messages.specs.Place.{lastAt, filledBy, afterHeader, contents}

@@ -16,7 +16,7 @@ use Rattle.messages.specs.Header.{header}
 use Rattle.messages.specs.ClientHello.{ClientHello, readClientHello}
 use Rattle.messages.specs.KeyExchange.{readVector}
 use Rattle.messages.specs.Fixed.{readFixed}
-use Rattle.keytable.specs.WellFormed.{Each}
+use Rattle.lists.specs.Lists.{Each}
 use Rattle.server.specs.Connection.{Settings}
 use Rattle.server.specs.KeyExchange.{View, andThen, masterUnder}
 use Rattle.server.specs.Connection.{suites}

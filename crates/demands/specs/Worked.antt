@@ -17,7 +17,7 @@ use Rattle.messages.specs.KeyExchange.{serverKeyExchange, clientKeyExchange, re
 use Rattle.messages.specs.Fixed.{serverHelloDone}
 use Rattle.messages.specs.NewSessionTicket.{newSessionTicket}
 use Rattle.messages.specs.ClientHello.{ClientHello, clientHello}
-use Rattle.keytable.specs.Utf8.{validUtf8}
+use Rattle.utf8.specs.Utf8.{validUtf8}
 use Rattle.keytable.specs.Table.{wellFormed, keyOf}
 use Rattle.server.specs.declared.Phase.{Phase}
 use Rattle.server.specs.declared.Connection.{Connection}

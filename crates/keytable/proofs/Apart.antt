@@ -1,57 +1,21 @@
--- No identity twice: the comparison of two byte strings, of one with those before it, and the numbers that spare most comparisons.
+-- No identity twice: the comparison of one with those before it, and the numbers that spare most comparisons.
 -- Assumes nothing.
-use mathlib.Core.Path.{_≡_, refl, sym, ap, ap₂, _∙_}
+use mathlib.Core.Path.{_≡_, refl, sym, ap, _∙_}
 use Prim.Native.Nat.{ℕ, zero, suc, _+_, _-_, _*_, _%_, _≤_, _<_}
 use native.Mathlib.Omega.{arith}
 use native.Mathlib.Numerals.{add-one}
 use native.Mathlib.Decide.{ℕ-discrete}
-use mathlib.Core.Bool.{Bool, true, false, _||_, true≢false, or-true}
-use mathlib.Core.List.{List, [], _∷_, _++_, map, map-append}
+use mathlib.Core.Bool.{Bool, true, false, or-true}
+use mathlib.Core.List.{List, [], _∷_, _++_, map, map-append, append-assoc, append-nil}
 use lib.ListN.{length, take, drop, getD, set, drop-of-length-le, length-drop}
 use lib.Seq.{take-suc, take-take, take-suc-set, getD-set-same, getD-set-other}
-use lib.Dec.{eqb}
-use borrow.Author.Tests.{eq-eqb, ne-eqb, eqb-true}
-use Rattle.keytable.specs.Table.{lineEnd, colon, upto, lines, identityOf, same, among, apart}
-use Rattle.keytable.specs.Inner.{part, identityAt, earlier, fingerprint, Kept}
-use Rattle.keytable.proofs.Flags.{and-left, and-right}
-use Rattle.keytable.proofs.Walks.{left-cons}
-use Rattle.keytable.proofs.Lines.{length-upto, take-upto, line-is, line-here}
-
--- ---- equal bytes
-
-pub same-eq : (a b : List ℕ) → same a b ≡ true → a ≡ b
-same-eq [] [] h = refl
-same-eq [] (y ∷ b) h = absurd (true≢false (sym h))
-same-eq (x ∷ a) [] h = absurd (true≢false (sym h))
-same-eq (x ∷ a) (y ∷ b) h =
-    ap₂ (λ (z : ℕ) (l : List ℕ). z ∷ l) (eqb-true x y (and-left (eqb x y) (same a b) h)) (same-eq a b (and-right (eqb x y) (same a b) h))
-
-pub same-refl : (a : List ℕ) → same a a ≡ true
-same-refl [] = refl
-same-refl (x ∷ a) = rw (eq-eqb x x refl) (same-refl a)
-
-pub same-not : (a b : List ℕ) → (a ≡ b → ⊥) → same a b ≡ false
-same-not a b other = go (same a b) refl
-  where
-    go : (t : Bool) → same a b ≡ t → same a b ≡ false
-    go true e = absurd (other (same-eq a b e))
-    go false e = e
-
-pub same-lengths : (a b : List ℕ) → (length a ≡ length b → ⊥) → false ≡ same a b
-same-lengths a b other = sym (same-not a b (λ e. other (ap length e)))
-
-module _ (a b : List ℕ) (i : ℕ) (lengths : length a ≡ length b) where
-  abbrev Left : Type 0
-  Left = same a b ≡ same (drop i a) (drop i b)
-
-  pub same-more : i < length a → getD a i 0 ≡ getD b i 0 → Left → same a b ≡ same (drop (i + 1) a) (drop (i + 1) b)
-  same-more h alike now = now ∙ rw (left-cons a i h, left-cons b i (omega arith)) (rw (eq-eqb _ _ alike))
-
-  pub same-stop : i < length a → (getD a i 0 ≡ getD b i 0 → ⊥) → Left → false ≡ same a b
-  same-stop h other now = sym (now ∙ rw (left-cons a i h, left-cons b i (omega arith)) (rw (ne-eqb _ _ other)))
-
-  pub same-end : length a ≤ i → Left → true ≡ same a b
-  same-end h now = sym (now ∙ rw (drop-of-length-le a h, drop-of-length-le b {i = i} (omega arith)))
+use Rattle.lists.specs.Lists.{any, distinct, same, part}
+use Rattle.keytable.specs.Table.{lineEnd, colon, upto, lines, identityOf}
+use Rattle.keytable.specs.Inner.{identityAt, earlier, fingerprint, Kept}
+use Rattle.lists.proofs.Walks.{left-cons}
+use Rattle.lists.proofs.Equal.{same-not, same-either}
+use Rattle.lists.proofs.Distinct.{any-append, distinct-snoc, distinct-repeat}
+use Rattle.keytable.proofs.Lines.{length-upto, take-upto, line-is, line-here, no-lines}
 
 -- ---- the number of a byte string
 
@@ -65,7 +29,7 @@ module _ (s : List ℕ) (i p : ℕ) where
 -- ---- the identity of a line, as a part of the table
 
 module _ (t : List ℕ) (at end : ℕ) (h : at ≤ length t) (e : end ≡ at + length (identityAt t at)) where
-  pub identity-part : part at end t ≡ identityAt t at
+  pub identity-part : part at (end - at) t ≡ identityAt t at
   identity-part =
       let size : end - at ≡ length (identityAt t at) = omega arith in
       rw size (sym (take-take (length (identityAt t at)) (length (upto lineEnd (drop at t))) (drop at t) (length-upto colon (upto lineEnd (drop at t))))
@@ -78,20 +42,11 @@ identity-within t at h =
 
 -- ---- the identities before
 
-pub among-none : (x : List ℕ) (ys : List (List ℕ)) (y : List ℕ) → among x ys ≡ false → same x y ≡ false → among x (ys ++ (y ∷ [])) ≡ false
-among-none x [] y none other = rw other
-among-none x (z ∷ ys) y none other = go (same x z) none (λ e. among-none x ys y e other)
-  where
-    go : (t : Bool) → (t || among x ys) ≡ false → (among x ys ≡ false → among x (ys ++ (y ∷ [])) ≡ false) → (t || among x (ys ++ (y ∷ []))) ≡ false
-    go true e ih = e
-    go false e ih = ih e
-
-among-at : (f : ℕ → List ℕ) (x : List ℕ) (n : ℕ) (s : List ℕ) (k : ℕ) → k < n → k < length s → same x (f (getD s k 0)) ≡ true
-    → among x (map f (take n s)) ≡ true
-among-at f x zero s k below inside e = absurd (omega arith)
-among-at f x (suc n) [] k below inside e = absurd (omega arith)
-among-at f x (suc n) (a ∷ s) zero below inside e = rw e
-among-at f x (suc n) (a ∷ s) (suc k) below inside e = rw (among-at f x n s k (omega arith) (omega arith) e) (or-true (same x (f a)))
+any-at : (p : List ℕ → Bool) (f : ℕ → List ℕ) (n : ℕ) (s : List ℕ) (k : ℕ) → k < n → k < length s → p (f (getD s k 0)) ≡ true → any p (map f (take n s)) ≡ true
+any-at p f zero s k below inside e = absurd (omega arith)
+any-at p f (suc n) [] k below inside e = absurd (omega arith)
+any-at p f (suc n) (a ∷ s) zero below inside e = rw e
+any-at p f (suc n) (a ∷ s) (suc k) below inside e = rw (any-at p f n s k (omega arith) (omega arith) e) (or-true (p (f a)))
 
 module _ (t starts identity : List ℕ) (k : ℕ) (inside : k < length starts) where
   earlier-more : earlier t starts (k + 1) ≡ earlier t starts k ++ (identityAt t (getD starts k 0) ∷ [])
@@ -99,12 +54,12 @@ module _ (t starts identity : List ℕ) (k : ℕ) (inside : k < length starts) w
       ap (λ (n : ℕ). earlier t starts n) (add-one k) ∙ ap (map (identityAt t)) (take-suc starts k 0 inside)
       ∙ map-append (identityAt t) (take k starts) (getD starts k 0 ∷ [])
 
-  pub among-on : same identity (identityAt t (getD starts k 0)) ≡ false → among identity (earlier t starts k) ≡ false
-      → among identity (earlier t starts (k + 1)) ≡ false
-  among-on other now = rw earlier-more (among-none identity (earlier t starts k) (identityAt t (getD starts k 0)) now other)
+  pub none-on : same identity (identityAt t (getD starts k 0)) ≡ false → any (same identity) (earlier t starts k) ≡ false
+      → any (same identity) (earlier t starts (k + 1)) ≡ false
+  none-on other now = ap (any (same identity)) earlier-more ∙ any-append (same identity) (earlier t starts k) _ ∙ rw (now, other)
 
-  pub among-hit : (n : ℕ) → k < n → same identity (identityAt t (getD starts k 0)) ≡ true → true ≡ among identity (earlier t starts n)
-  among-hit n below e = sym (among-at (identityAt t) identity n starts k below inside e)
+  pub one-hit : (n : ℕ) → k < n → same identity (identityAt t (getD starts k 0)) ≡ true → true ≡ any (same identity) (earlier t starts n)
+  one-hit n below e = sym (any-at (same identity) (identityAt t) n starts k below inside e)
 
 -- identities with other numbers are others
 pub fingerprint-other : (a b : List ℕ) (p q : ℕ) → p ≡ fingerprint 0 a → q ≡ fingerprint 0 b → (q ≡ p → ⊥) → same a b ≡ false
@@ -116,25 +71,40 @@ pub some-line : (t : List ℕ) (at : ℕ) → at < length t → 0 < length (line
 some-line t at inside = rw (line-here t at _ (omega arith) refl inside) (omega arith)
 
 module _ (t starts : List ℕ) (at end n : ℕ) (inside : at < length t) (e : end ≡ at + length (upto lineEnd (drop at t)))
-    (now : apart [] (map identityOf (lines t)) ≡ apart (earlier t starts n) (map identityOf (lines (drop at t)))) where
-  identities-here : map identityOf (lines (drop at t)) ≡ identityAt t at ∷ map identityOf (lines (drop (end + 1) t))
-  identities-here =
-      ap (map identityOf) (line-here t at end (omega arith) e inside)
-      ∙ ap (λ (l : List ℕ). upto colon l ∷ map identityOf (lines (drop (end + 1) t))) (line-is t at end (omega arith) e)
+    (all : map identityOf (lines t) ≡ earlier t starts n ++ map identityOf (lines (drop at t))) where
+  abbrev later : List (List ℕ)
+  later = map identityOf (lines (drop (end + 1) t))
 
-  pub apart-stop : among (identityAt t at) (earlier t starts n) ≡ true → false ≡ apart [] (map identityOf (lines t))
-  apart-stop again = sym (now ∙ ap (apart (earlier t starts n)) identities-here ∙ rw again)
+  -- the lines passed, this one, and those behind it
+  split : map identityOf (lines t) ≡ earlier t starts n ++ (identityAt t at ∷ later)
+  split =
+      all ∙ ap (λ (ls : List (List ℕ)). earlier t starts n ++ map identityOf ls) (line-here t at end (omega arith) e inside)
+      ∙ ap (λ (l : List ℕ). earlier t starts n ++ (upto colon l ∷ later)) (line-is t at end (omega arith) e)
 
-  pub apart-on : n < length starts → among (identityAt t at) (earlier t starts n) ≡ false
-      → apart [] (map identityOf (lines t)) ≡ apart (earlier t (set starts n at) (n + 1)) (map identityOf (lines (drop (end + 1) t)))
-  apart-on h fresh =
-      now ∙ ap (apart (earlier t starts n)) identities-here ∙ rw fresh
-      (ap (λ (l : List (List ℕ)). apart l (map identityOf (lines (drop (end + 1) t)))) (sym more))
-    where
-      more : earlier t (set starts n at) (n + 1) ≡ earlier t starts n ++ (identityAt t at ∷ [])
-      more =
-          ap (λ (m : ℕ). earlier t (set starts n at) m) (add-one n) ∙ ap (map (identityAt t)) (take-suc-set starts n at h)
-          ∙ map-append (identityAt t) (take n starts) (at ∷ [])
+  pub distinct-stop : any (same (identityAt t at)) (earlier t starts n) ≡ true → false ≡ distinct same (map identityOf (lines t))
+  distinct-stop again = sym (ap (distinct same) split ∙ distinct-repeat same same-either (earlier t starts n) (identityAt t at) later again)
+
+  module _ (room : n < length starts) where
+    more : earlier t (set starts n at) (n + 1) ≡ earlier t starts n ++ (identityAt t at ∷ [])
+    more =
+        ap (λ (m : ℕ). earlier t (set starts n at) m) (add-one n) ∙ ap (map (identityAt t)) (take-suc-set starts n at room)
+        ∙ map-append (identityAt t) (take n starts) (at ∷ [])
+
+    pub all-on : map identityOf (lines t) ≡ earlier t (set starts n at) (n + 1) ++ later
+    all-on =
+        split ∙ sym (append-assoc (earlier t starts n) (identityAt t at ∷ []) later)
+        ∙ ap (λ (ids : List (List ℕ)). ids ++ later) (sym more)
+
+    pub distinct-on : distinct same (earlier t starts n) ≡ true → any (same (identityAt t at)) (earlier t starts n) ≡ false
+        → distinct same (earlier t (set starts n at) (n + 1)) ≡ true
+    distinct-on now fresh =
+        ap (distinct same) more ∙ distinct-snoc same same-either (earlier t starts n) (identityAt t at) ∙ rw (now, fresh)
+
+-- no line is left
+pub distinct-end : (t starts : List ℕ) (at n : ℕ) → length t ≤ at → map identityOf (lines t) ≡ earlier t starts n ++ map identityOf (lines (drop at t))
+    → distinct same (earlier t starts n) ≡ true → true ≡ distinct same (map identityOf (lines t))
+distinct-end t starts at n end all now =
+    sym (ap (distinct same) (all ∙ ap (λ (ls : List (List ℕ)). earlier t starts n ++ map identityOf ls) (no-lines t at end) ∙ append-nil (earlier t starts n)) ∙ now)
 
 pub kept-on : (t starts fingerprints : List ℕ) (at n p : ℕ) → at ≤ length t → n < length starts → n < length fingerprints → p ≡ fingerprint 0 (identityAt t at)
     → Kept t starts fingerprints n → Kept t (set starts n at) (set fingerprints n p) (n + 1)

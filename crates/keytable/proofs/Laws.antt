@@ -8,13 +8,16 @@ use mathlib.Core.List.{List, [], _∷_, _++_, map, append-assoc, map-append}
 use mathlib.Core.Option.{Option, none, some}
 use lib.ListN.{length}
 use lib.Dec.{leb, eqb}
-use Rattle.keytable.specs.Table.{lineEnd, colon, upto, past, before, lines, each, identityOf, decoded, keyText, orElse, firstText, keyOfText, keyOf, validIdentity, validKey, validLine, ended, apart, wellFormed}
-use Rattle.keytable.specs.WellFormed.{Each, Distinct, HexDigit, Line, ValidLine, text, WellFormed, LineRemoved}
-use Rattle.keytable.proofs.Flags.{and-left, and-right, both}
+use Rattle.lists.specs.Lists.{each, distinct, same, Each}
+use Rattle.keytable.specs.Table.{lineEnd, colon, upto, past, before, lines, identityOf, decoded, keyText, orElse, firstText, keyOfText, keyOf, validIdentity, validKey, validLine, ended, wellFormed}
+use Rattle.keytable.specs.WellFormed.{HexDigit, Line, ValidLine, text, WellFormed, LineRemoved}
+use Rattle.lists.proofs.Tests.{and-left, and-right}
 use Rattle.keytable.proofs.Tests.{key-sound}
-use Rattle.keytable.proofs.Texts.{every-map, digit-no-colon, upto-append, past-append, parted, lineOf, valid-parted, identity-no-colon, hex-no-colon, line-no-end, lines-end, text-cons, ended-text}
+use Rattle.lists.proofs.Every.{every-map, each-append, every-middle}
+use Rattle.lists.proofs.Distinct.{distinct-middle}
+use Rattle.keytable.proofs.Texts.{digit-no-colon, upto-append, past-append, parted, lineOf, valid-parted, identity-no-colon, hex-no-colon, line-no-end, lines-end, text-cons, ended-text}
 use Rattle.keytable.proofs.Lines.{lines-cons}
-use Rattle.keytable.proofs.Agreement.{apart-sound, line-sound}
+use Rattle.keytable.proofs.Agreement.{identities-sound, line-sound}
 use Rattle.keytable.proofs.Lookups.{own-text, other-text, key-is}
 
 -- ---- lists of lines
@@ -38,25 +41,6 @@ lines-append (c ∷ d ∷ a) b h = go (eqb c lineEnd) (lines (d ∷ a)) refl (li
     go true ls e ih = ap (λ (r : List (List ℕ)). [] ∷ r) ih
     go false [] e ih = let z : _≡_ {A = ℕ} 0 1 = cc (lines-cons (d ∷ a) (omega arith)) in absurd (omega arith)
     go false (l ∷ ls) e ih = rw ih (rw e)
-
-each-append : (p : List ℕ → Bool) (xs ys : List (List ℕ)) → each p (xs ++ ys) ≡ true → (each p xs ≡ true) × (each p ys ≡ true)
-each-append p [] ys h = (refl, h)
-each-append p (x ∷ xs) ys h =
-    let rest = each-append p xs ys (and-right (p x) (each p (xs ++ ys)) h) in
-    (both (and-left (p x) (each p (xs ++ ys)) h) (rest .0), rest .1)
-
-every-middle : {A : Type 0} (P : A → Type 0) (xs : List A) (y : A) (ys : List A) → Each P (xs ++ (y ∷ ys)) → P y
-every-middle P [] y ys h = h .0
-every-middle P (x ∷ xs) y ys h = every-middle P xs y ys (h .1)
-
--- one that stands in the middle is no other
-distinct-middle : (xs : List (List ℕ)) (y : List ℕ) (ys : List (List ℕ)) → Distinct (xs ++ (y ∷ ys))
-    → Each (λ x. ¬ (y ≡ x)) xs × Each (λ x. ¬ (y ≡ x)) ys
-distinct-middle [] y ys d = (tt, d .0)
-distinct-middle (x ∷ xs) y ys d =
-    let rest = distinct-middle xs y ys (d .1) in
-    let other = every-middle (λ z. ¬ (x ≡ z)) xs y ys (d .0) in
-    (((λ e. other (sym e)), rest .0), rest .1)
 
 -- valid lines with other identities have nothing for this one
 none-in : (i : List ℕ) (ls : List (List ℕ)) → each validLine ls ≡ true → Each (λ x. ¬ (i ≡ x)) (map identityOf ls) → firstText i ls ≡ none
@@ -88,7 +72,7 @@ module _ (identity t t' : List ℕ) (r : LineRemoved identity t t') (h : wellFor
   all-valid =
       ap (each validLine) (sym lines-first)
       ∙ and-right (leb (length t) 65536 && ended t && leb (length (lines t)) 256) (each validLine (lines t))
-      (and-left (leb (length t) 65536 && ended t && leb (length (lines t)) 256 && each validLine (lines t)) (apart [] (map identityOf (lines t))) h)
+      (and-left (leb (length t) 65536 && ended t && leb (length (lines t)) 256 && each validLine (lines t)) (distinct same (map identityOf (lines t))) h)
 
   identity-is : identityOf removed ≡ identity
   identity-is = upto-append colon identity (r .hex) (r .one-colon)
@@ -98,15 +82,15 @@ module _ (identity t t' : List ℕ) (r : LineRemoved identity t t') (h : wellFor
 
   others : Each (λ x. ¬ (identity ≡ x)) (map identityOf (lines (r .front))) × Each (λ x. ¬ (identity ≡ x)) (map identityOf (lines (r .back)))
   unfolding wellFormed
-  others = distinct-middle (map identityOf (lines (r .front))) identity (map identityOf (lines (r .back))) (rw (← identities) (apart-sound (map identityOf (lines t)) apart-first))
+  others = distinct-middle (map identityOf (lines (r .front))) identity (map identityOf (lines (r .back))) (rw (← identities) (identities-sound (map identityOf (lines t)) distinct-first))
     where
       identities : map identityOf (lines t) ≡ map identityOf (lines (r .front)) ++ (identity ∷ map identityOf (lines (r .back)))
       identities =
           ap (map identityOf) lines-first ∙ map-append identityOf (lines (r .front)) (removed ∷ lines (r .back))
           ∙ ap (λ (i : List ℕ). map identityOf (lines (r .front)) ++ (i ∷ map identityOf (lines (r .back)))) identity-is
 
-      apart-first : apart [] (map identityOf (lines t)) ≡ true
-      apart-first = and-right (leb (length t) 65536 && ended t && leb (length (lines t)) 256 && each validLine (lines t)) (apart [] (map identityOf (lines t))) h
+      distinct-first : distinct same (map identityOf (lines t)) ≡ true
+      distinct-first = and-right (leb (length t) 65536 && ended t && leb (length (lines t)) 256 && each validLine (lines t)) (distinct same (map identityOf (lines t))) h
 
   front-valid : each validLine (lines (r .front)) ≡ true
   front-valid = each-append validLine (lines (r .front)) (removed ∷ lines (r .back)) all-valid .0

@@ -1,12 +1,12 @@
 // Whether a table is well formed.
 ghost use mathlib.Core.Path.{_≡_};
 ghost use lib.ListN.{length};
-ghost use Rattle.keytable.specs.Table.{lines, each, plain, validIdentity, validLine, ended, wellFormed};
+ghost use Rattle.lists.specs.Lists.{each};
+ghost use Rattle.keytable.specs.Table.{lines, plain, validIdentity, validLine, ended, wellFormed};
 use crate::distinct::distinct;
 use crate::entries::find;
 use crate::entries::line_end;
 use crate::hex::valid_key;
-use crate::utf8::valid_utf8;
 
 // A byte that an identity may have.
 fn plain(b: u8) -> bool
@@ -51,7 +51,7 @@ fn valid_identity(s: &[u8]) -> bool
     if !all_plain(s) {
         return false;
     }
-    valid_utf8(s)
+    utf8::valid_utf8(s)
 }
 
 // Whether the line, without its 0A, is an identity, a colon and a key.

@@ -2,31 +2,14 @@
 // starts of the lines and a fingerprint of each identity are kept, so that the bytes of two
 // identities are compared only where their fingerprints are equal.
 ghost use mathlib.Core.Path.{_≡_};
-ghost use mathlib.Core.List.{[], map};
+ghost use mathlib.Core.List.{map};
 ghost use Prim.Native.Nat.{_≤_, _+_};
 ghost use lib.ListN.{length};
-ghost use Rattle.keytable.specs.Table.{identityOf, lines, same, among, apart};
+ghost use Rattle.lists.specs.Lists.{any, distinct, same};
+ghost use Rattle.keytable.specs.Table.{identityOf, lines};
 ghost use Rattle.keytable.specs.Inner.{identityAt, earlier, fingerprint, Kept};
 use crate::entries::find;
 use crate::entries::line_end;
-use crate::utf8::wide;
-
-// Whether two byte strings are the same.
-fn equal(a: &[u8], b: &[u8]) -> bool
-    ensures { λ r. ⌜ r ≡ same (now (a .entry)) (now (b .entry)) ⌝ }
-{
-    if a.len() != b.len() {
-        return false;
-    }
-    let mut i = 0;
-    while i < a.len() {
-        if a[i] != b[i] {
-            return false;
-        }
-        i += 1;
-    }
-    true
-}
 
 // A number that equal byte strings have alike.
 fn fingerprint(s: &[u8]) -> u32
@@ -35,7 +18,7 @@ fn fingerprint(s: &[u8]) -> u32
     let mut p = 0u32;
     let mut i = 0;
     while i < s.len() {
-        p = p % 8388608 * 257 + wide(s[i]);
+        p = p % 8388608 * 257 + s[i] as u32;
         i += 1;
     }
     p
@@ -56,7 +39,7 @@ fn same_identity(table: &[u8], at: usize, identity: &[u8]) -> bool
     ensures { λ r. ⌜ r ≡ same (now (identity .entry)) (identityAt (now (table .entry)) at) ⌝ }
 {
     let end = identity_end(table, at);
-    equal(identity, &table[at..end])
+    lists::same(identity, &table[at..end])
 }
 
 // Whether one of the first n lines has the identity, whose fingerprint is p.
@@ -72,7 +55,7 @@ fn repeated(
     requires { ⌜ n ≤ length (now starts) ⌝ }
     requires { ⌜ p ≡ fingerprint 0 (now identity) ⌝ }
     requires { ⌜ Kept (now table) (now starts) (now fingerprints) n ⌝ }
-    ensures { λ r. ⌜ r ≡ among (now (identity .entry)) (earlier (now (table .entry)) (now (starts .entry)) n) ⌝ }
+    ensures { λ r. ⌜ r ≡ any (same (now (identity .entry))) (earlier (now (table .entry)) (now (starts .entry)) n) ⌝ }
 {
     let mut k = 0;
     while k < n {
@@ -90,7 +73,7 @@ fn repeated(
 pub(crate) fn distinct(table: &[u8]) -> bool
     requires { ⌜ length (now table) ≤ 65536 ⌝ }
     requires { ⌜ length (lines (now table)) ≤ 256 ⌝ }
-    ensures { λ r. ⌜ r ≡ apart [] (map identityOf (lines (now (table .entry)))) ⌝ }
+    ensures { λ r. ⌜ r ≡ distinct same (map identityOf (lines (now (table .entry)))) ⌝ }
 {
     let mut starts = [0u32; 256];
     let mut fingerprints = [0u32; 256];

@@ -1,4 +1,4 @@
--- A connection as 382 bytes, and what 382 bytes stand for: for a host that keeps a connection between calls in memory of its own.
+-- A connection as 388 bytes, and what 388 bytes stand for: for a host that keeps a connection between calls in memory of its own.
 -- proofs/Saving.antt has the law that what was saved is restored, for every value of the type.
 use Prim.Native.Nat.{ℕ}
 use mathlib.Core.Bool.{Bool, true, false, cond, _&&_, _||_}
@@ -7,11 +7,12 @@ use lib.ListN.{getD}
 use lib.Dec.{leb, eqb}
 use Rattle.endian.specs.Number.{be, number}
 use Rattle.sha256.specs.Saved as Hash
-use Rattle.sha256.specs.Saved.{part}
+use Rattle.lists.specs.Lists.{part}
 use Rattle.server.specs.declared.Rule.{Rule}
 use Rattle.server.specs.declared.Phase.{Phase}
+use Rattle.server.specs.declared.Setup.{Setup}
 use Rattle.server.specs.declared.Connection.{Connection}
 use Rattle.server.specs.Connection.{ended}
 
 -- a phase in one byte, closed being 0
 abbrev pub phaseByte : Phase → ℕ
@@ -32,12 +33,23 @@ abbrev pub listedByte : Bool → ℕ
 listedByte false = 0
 listedByte true = 1
 
--- phase, rule, whether listed, and the hint's length (1 byte each), suite (2), the hint's field (128), stand-in key (32), server random (32),
--- client random (32), master secret (48), transcript (104)
+-- numbers of two bytes each, one behind the other
+abbrev pub pairs : List ℕ → List ℕ
+pairs [] = []
+pairs (n ∷ ns) = be 2 n ++ pairs ns
+
+-- phase, rule, whether the identity is listed, and the hint's length (1 byte each), the suite that was chosen (2) and ours (6)
+abbrev pub head : Connection → List ℕ
+head c =
+    phaseByte (c .phase) ∷ ruleByte (c .setup .rule) ∷ listedByte (c .client .listed) ∷ c .setup .«hint_length»
+    ∷ (be 2 (c .client .suite) ++ pairs (c .setup .suites))
+
+-- those 12 bytes, the hint's field (128), stand-in key (32), server random (32), client random (32), master secret (48), transcript (104)
 unfoldable pub saved : Connection → List ℕ
 saved c =
-    phaseByte (c .phase) ∷ ruleByte (c .rule) ∷ listedByte (c .listed) ∷ c .«hint_length» ∷ be 2 (c .suite)
-    ++ c .hint ++ c .«stand_in» ++ c .«server_random» ++ c .«client_random» ++ c .master ++ Hash.saved (c .transcript)
+    head c
+    ++ (c .setup .hint
+    ++ (c .setup .«stand_in» ++ (c .setup .random ++ (c .client .random ++ (c .secrets .master ++ Hash.saved (c .transcript))))))
 
 -- the phases in the order of their bytes
 abbrev pub phases : List Phase
@@ -55,6 +67,18 @@ toRule byte = cond (eqb byte 1) Rule.Tell Rule.Hide
 abbrev pub known : ℕ → ℕ → ℕ → Bool
 known phase rule listed = leb phase 5 && leb listed 1 && (eqb rule 1 || eqb rule 2)
 
+-- what start was given, each field read where `saved` puts it
+abbrev pub setupIn : List ℕ → Setup
+setupIn bytes =
+    record {
+      rule = toRule (getD bytes 1 0);
+      suites = number (part 6 2 bytes) ∷ number (part 8 2 bytes) ∷ number (part 10 2 bytes) ∷ [];
+      «hint_length» = getD bytes 3 0;
+      hint = part 12 128 bytes;
+      «stand_in» = part 140 32 bytes;
+      random = part 172 32 bytes;
+    }
+
 -- The connection that the bytes stand for, each field read where `saved` puts it. Bytes that can't have come from `saved`, cleared memory among
 -- them, stand for a closed one, which answers every call with R4.
 unfoldable pub restored : List ℕ → Connection
@@ -62,15 +86,9 @@ restored bytes =
     cond (known (getD bytes 0 0) (getD bytes 1 0) (getD bytes 2 0))
     (record {
       phase = toPhase (getD bytes 0 0);
-      rule = toRule (getD bytes 1 0);
-      «hint_length» = getD bytes 3 0;
-      suite = number (part 4 2 bytes);
-      listed = eqb (getD bytes 2 0) 1;
-      hint = part 6 128 bytes;
-      «stand_in» = part 134 32 bytes;
-      «server_random» = part 166 32 bytes;
-      «client_random» = part 198 32 bytes;
-      master = part 230 48 bytes;
-      transcript = Hash.restored (part 278 104 bytes);
+      setup = setupIn bytes;
+      client = record { random = part 204 32 bytes; suite = number (part 4 2 bytes); listed = eqb (getD bytes 2 0) 1 };
+      secrets = record { master = part 236 48 bytes };
+      transcript = Hash.restored (part 284 104 bytes);
     })
     (ended Phase.Closed)

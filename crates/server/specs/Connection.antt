@@ -7,7 +7,7 @@ use lib.Dec.{leb, eqb}
 use Rattle.refusal.specs.declared.Refusal.{Refusal}
 use Rattle.refusal.specs.Table.{Effect, unchanged, closed, noneMade, noneInvolved, row}
 use Rattle.sha256.specs.State.{fresh}
-use Rattle.keytable.specs.Utf8.{validUtf8}
+use Rattle.utf8.specs.Utf8.{validUtf8}
 use Rattle.server.specs.declared.Rule.{Rule}
 use Rattle.server.specs.declared.Named.{Named}
 use Rattle.server.specs.declared.Phase.{Phase}

@@ -5,26 +5,19 @@ use mathlib.Core.List.{List, [], _∷_}
 use mathlib.Core.Option.{Option, none, some}
 use Rattle.refusal.specs.declared.Refusal.the-variants.{DecodeError, DecryptError}
 use Rattle.refusal.specs.Lent.{Outcome, gives, refuses}
-use Rattle.sha256.specs.State.{absorb, finished}
-use Rattle.sha256.specs.declared.Sha256.{Sha256}
-use Rattle.keys.specs.declared.Side.{Side}
+use Rattle.sha256.specs.State.{absorb}
 use Rattle.keys.specs.declared.Side.the-variants.{Client, Server}
-use Rattle.keys.specs.Secrets.{verifyData}
+use Rattle.keys.specs.Secrets.{finishedOf}
 use Rattle.messages.specs.Layout.{bytes}
 use Rattle.messages.specs.Fixed as Fixed
-use Rattle.keytable.specs.Table.{same}
+use Rattle.lists.specs.Lists.{same}
 use Rattle.server.specs.declared.Phase.{Phase}
 use Rattle.server.specs.declared.Connection.{Connection}
 use Rattle.server.specs.Connection.{ended}
 use Rattle.server.specs.Flight.{Flight}
 use Rattle.server.specs.Step.{Step, refuse, accept}
-use Rattle.server.specs.KeyExchange.{andThen}
 
--- the Finished value of a side, whose seed is SHA-256 of all messages in the transcript; none past the hash's limit, which no series of calls reaches
-abbrev pub finishedOf : Side → List ℕ → Sha256 → Outcome
-finishedOf side secret transcript = andThen (finished transcript) (verifyData side secret)
-
--- the value is that one
+-- the value is that one; none is where the transcript is past the hash's limit, which no series of calls reaches
 abbrev pub isValue : List ℕ → Outcome → Bool
 isValue value (gives b) = same value b
 isValue value (refuses r) = false

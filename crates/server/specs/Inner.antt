@@ -1,13 +1,13 @@
 -- What the contracts of private functions cite: results as the code's own types have them, and parts of a step. Nothing that a public contract says stands here.
 use Prim.Native.Nat.{ℕ, _+_, _≤_}
 use mathlib.Core.Path.{_≡_}
-use mathlib.Core.Bool.{Bool, true, false, cond, _&&_}
+use mathlib.Core.Bool.{Bool, false, cond, _&&_}
 use mathlib.Core.List.{List, [], _∷_, _++_}
 use mathlib.Core.Option.{Option, none, some}
-use lib.ListN.{length, take, drop, replicate}
+use lib.ListN.{length, take, drop}
 use lib.Dec.{eqb}
-use Rattle.refusal.specs.Lent.{Outcome, gives, refuses}
 use Rattle.sha256.specs.State.{absorb}
+use Rattle.keys.specs.Secrets.{finishedOf}
 use Rattle.keys.specs.declared.Side.the-variants.{Client, Server}
 use Rattle.messages.specs.declared.Verdict.{Verdict}
 use Rattle.messages.specs.Layout.{bytes}
@@ -19,11 +19,10 @@ use Rattle.server.specs.declared.step.Outgoing.{Outgoing}
 use Rattle.server.specs.declared.step.Decision.{Decision}
 use Rattle.server.specs.declared.calls.Awaited.{Awaited}
 use Rattle.server.specs.declared.hello.Choice.{Choice}
-use Rattle.server.specs.declared.finished.Value.{Value}
 use Rattle.server.specs.Flight.{Flight, joined}
 use Rattle.server.specs.Step.{Step, refuse, accept, settled, answered}
 use Rattle.server.specs.Hello.{hintMessage}
-use Rattle.server.specs.Finished.{isValue, finishedOf, completed}
+use Rattle.server.specs.Finished.{isValue, completed}
 
 -- ---- messages at the front of an array, and their lengths
 
@@ -99,11 +98,6 @@ afterHelloWith c m suite flight =
       secrets = c .secrets;
       transcript = absorb (absorb (c .transcript) m) flight;
     }
-
--- zeros where no value is made
-abbrev pub asValue : Outcome → Value
-asValue (gives bytes) = record { made = true; bytes = bytes }
-asValue (refuses r) = record { made = false; bytes = replicate 12 0 }
 
 -- the client's value is right, and its identity is listed
 abbrev pub rightValue : Connection → List ℕ → Bool

@@ -1,14 +1,14 @@
 -- Step 2: a ClientKeyExchange (document 01, "The server's steps"; RFC 4279, section 2).
 use Prim.Native.Nat.{ℕ}
-use mathlib.Core.Bool.{Bool, true, false, cond}
-use mathlib.Core.List.{List, []}
+use mathlib.Core.Bool.{Bool, true, false}
+use mathlib.Core.List.{List}
 use mathlib.Core.Option.{Option, none, some}
 use Rattle.refusal.specs.declared.Refusal.{Refusal}
-use Rattle.refusal.specs.declared.Refusal.the-variants.{BadTable, DecodeError, UnknownPskIdentity}
-use Rattle.refusal.specs.Lent.{Outcome, gives, refuses}
+use Rattle.refusal.specs.declared.Refusal.the-variants.{DecodeError, UnknownPskIdentity}
+use Rattle.refusal.specs.Lent.{bytesOf}
 use Rattle.sha256.specs.State.{absorb}
-use Rattle.keys.specs.Secrets.{premaster, master}
-use Rattle.keytable.specs.Table.{wellFormed, keyOf}
+use Rattle.keys.specs.Secrets.{masterUnder}
+use Rattle.keytable.specs.Table.{tableRefusal, keyOf}
 use Rattle.server.specs.declared.Rule.{Rule}
 use Rattle.server.specs.declared.Phase.{Phase}
 use Rattle.server.specs.declared.Connection.{Connection}
@@ -21,23 +21,9 @@ pub record View : Type 0 where
   pub lookup : List ℕ → Option (List ℕ)
 
 abbrev pub viewOf : List ℕ → View
-viewOf table = record { refusal = cond (wellFormed table) none (some BadTable); lookup = keyOf table }
+viewOf table = record { refusal = tableRefusal table; lookup = keyOf table }
 
--- a value made from another one, which may be refused
-abbrev pub andThen : Outcome → (List ℕ → Outcome) → Outcome
-andThen (gives b) next = next b
-andThen (refuses r) next = refuses r
-
--- the master secret from a key and the two randoms
-abbrev pub masterUnder : (key client server : List ℕ) → Outcome
-masterUnder key client server = andThen (premaster key) (λ secret. master secret client server)
-
--- the bytes of a value; a key of 1 to 64 bytes, which every key of a table is, has a master secret
-abbrev pub bytesOf : Outcome → List ℕ
-bytesOf (gives b) = b
-bytesOf (refuses r) = []
-
--- after the key exchange m
+-- After the key exchange m. A key of 1 to 64 bytes, which every key of a table is, has a master secret.
 abbrev pub afterKeys : Connection → List ℕ → List ℕ → Bool → Connection
 afterKeys c m key listed =
     record {

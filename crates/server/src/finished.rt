@@ -1,11 +1,9 @@
 // Step 4: the client's Finished, judged over every message before it, and the server's.
 ghost use mathlib.Core.Path.{_≡_};
-ghost use lib.ListN.{length};
-ghost use Rattle.keytable.specs.Table.{same};
 ghost use Rattle.messages.specs.Place.{filledBy, contents};
-ghost use Rattle.server.specs.Finished.{finishedOf, finishedFlight, finishedValue};
+ghost use Rattle.server.specs.Finished.{finishedFlight, finishedValue};
 ghost use Rattle.server.specs.Inner as Inner;
-ghost use Rattle.server.specs.Inner.{Decides, Sends, asValue};
+ghost use Rattle.server.specs.Inner.{Decides, Sends};
 use crate::Connection;
 use crate::Phase;
 use crate::ended;
@@ -17,63 +15,25 @@ use messages::Part;
 use messages::Verdict;
 use refusal::Refusal;
 use refusal::Written;
-use sha256::Sha256;
 
-// A Finished value; none is made past the hash's limit.
-pub struct Value {
-    made: bool,
-    bytes: [u8; 12],
-}
-
-// The value of a side over every message in the transcript.
-fn value_of(side: Side, master: [u8; 48], transcript: Sha256) -> Value
-    ensures { λ r. ⌜ r ≡ asValue (finishedOf side master transcript) ⌝ }
-{
-    let mut hash = [0u8; 32];
-    let mut bytes = [0u8; 12];
-    match transcript::hash_of(transcript, &mut hash) {
-        Written::Wrote(_) => {
-            keys::finished(side, &master, &hash, &mut bytes);
-            Value { made: true, bytes }
-        }
-        Written::Refused(_) => Value { made: false, bytes },
-    }
-}
-
-// Whether the two are the same. All twelve bytes are read, whatever they are.
-fn equal(a: &[u8], b: &[u8]) -> bool
-    requires { ⌜ (length (now a) ≡ 12) × (length (now b) ≡ 12) ⌝ }
-    ensures { λ r. ⌜ r ≡ same (now (a .entry)) (now (b .entry)) ⌝ }
-{
-    let mut different: usize = 0;
-    let mut i: usize = 0;
-    while i < 12 {
-        if a[i] != b[i] {
-            different = different + 1;
-        }
-        i = i + 1;
-    }
-    different == 0
-}
-
-// Whether the client's value is right, of a listed identity.
+// Whether the client's value is right, of a listed identity. All of it is compared, whatever its bytes
+// are, before the identity is looked at.
 fn right(c: Connection, value: &[u8]) -> bool
-    requires { ⌜ length (now value) ≡ 12 ⌝ }
     ensures { λ r. ⌜ r ≡ Inner.rightValue c (now (value .entry)) ⌝ }
 {
     let secrets = c.secrets;
     let master = secrets.master;
     let client = c.client;
-    let transcript = c.transcript;
-    let expected = value_of(Side::Client, master, transcript);
-    let bytes = expected.bytes;
-    if !equal(value, &bytes) {
-        return false;
+    let mut expected = [0u8; 12];
+    match keys::finished_of(Side::Client, &master, c.transcript, &mut expected) {
+        Written::Wrote(_) => {
+            if !lists::same(value, &expected) {
+                return false;
+            }
+            client.listed
+        }
+        Written::Refused(_) => false,
     }
-    if !expected.made {
-        return false;
-    }
-    client.listed
 }
 
 // The server's Finished.
@@ -96,17 +56,18 @@ fn complete(c: Connection, m: &[u8]) -> Decision
     let secrets = c.secrets;
     let master = secrets.master;
     let transcript = transcript::with_message(c.transcript, m);
-    let value = value_of(Side::Server, master, transcript);
-    if !value.made {
-        return step::refused(c, Refusal::DecryptError);
-    }
-    let bytes = value.bytes;
-    let outgoing = answer(&bytes);
-    let next = ended(Phase::Complete);
-    Decision {
-        verdict: Verdict::Accepted,
-        outgoing,
-        next,
+    let mut value = [0u8; 12];
+    match keys::finished_of(Side::Server, &master, transcript, &mut value) {
+        Written::Wrote(_) => {
+            let outgoing = answer(&value);
+            let next = ended(Phase::Complete);
+            Decision {
+                verdict: Verdict::Accepted,
+                outgoing,
+                next,
+            }
+        }
+        Written::Refused(_) => step::refused(c, Refusal::DecryptError),
     }
 }
 

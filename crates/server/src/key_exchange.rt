@@ -8,7 +8,7 @@ ghost use Rattle.messages.specs.Place.{lastAt, contents};
 ghost use Rattle.keytable.specs.Table.{keyOf};
 ghost use Rattle.server.specs.declared.Phase.{Phase};
 ghost use Rattle.server.specs.KeyExchange as Exchange;
-ghost use Rattle.server.specs.KeyExchange.{bytesOf, masterUnder, afterKeys, keyFound, keyIdentity, viewOf};
+ghost use Rattle.server.specs.KeyExchange.{afterKeys, keyFound, keyIdentity, viewOf};
 ghost use Rattle.server.specs.Message.{bodyStep};
 ghost use Rattle.server.specs.Inner.{Decides};
 use crate::Connection;
@@ -18,21 +18,10 @@ use crate::Rule;
 use crate::Secrets;
 use crate::step;
 use crate::step::Decision;
+use keytable::Judged;
 use messages::Part;
 use refusal::Refusal;
 use refusal::Written;
-
-// The master secret from a key.
-fn master_under(key: &[u8], client: &[u8], server: &[u8]) -> [u8; 48]
-    requires { ⌜ (1 ≤ length (now key)) × (length (now key) ≤ 64) × (length (now client) ≡ 32) × (length (now server) ≡ 32) ⌝ }
-    ensures { λ r. ⌜ r ≡ bytesOf (masterUnder (now (key .entry)) (now (client .entry)) (now (server .entry))) ⌝ }
-{
-    let mut premaster = [0u8; 132];
-    let mut master = [0u8; 48];
-    keys::premaster(key, &mut premaster);
-    keys::master(&premaster[..4 + 2 * key.len()], client, server, &mut master);
-    master
-}
 
 // The connection when the key exchange has come.
 fn after_keys(c: Connection, m: &[u8], key: &[u8], listed: bool) -> Connection
@@ -43,7 +32,8 @@ fn after_keys(c: Connection, m: &[u8], key: &[u8], listed: bool) -> Connection
     let said = c.client;
     let own = setup.random;
     let random = said.random;
-    let master = master_under(key, &random, &own);
+    let mut master = [0u8; 48];
+    keys::master_under(key, &random, &own, &mut master);
     let client = Negotiated {
         random,
         suite: said.suite,
@@ -85,7 +75,7 @@ fn look_up(c: Connection, table: &[u8], m: &[u8], identity: &[u8]) -> Decision
     }
 }
 
-// The identity that the message names, of a table that is well formed.
+// The identity that the message names, of a table that does not refuse.
 fn identified(c: Connection, table: &[u8], m: &[u8]) -> Decision
     requires { ⌜ header 16 (now m) ≡ Accepted ⌝ }
     ensures { λ d. ⌜ Decides d (keyIdentity (keyOf (now (table .entry))) c (now (m .entry)) (contents (now (m .entry)) (lastAt 2 (now (m .entry)) 4))) ⌝ }
@@ -101,8 +91,8 @@ pub fn body(c: Connection, table: &[u8], m: &[u8]) -> Decision
     requires { ⌜ header 16 (now m) ≡ Accepted ⌝ }
     ensures { λ d. ⌜ Decides d (bodyStep (viewOf (now (table .entry))) c (now (m .entry)) Phase.KeyExchange) ⌝ }
 {
-    if !keytable::well_formed(table) {
-        return step::refused(c, Refusal::BadTable);
+    match keytable::judge(table) {
+        Judged::Good => identified(c, table, m),
+        Judged::Refused(r) => step::refused(c, r),
     }
-    identified(c, table, m)
 }

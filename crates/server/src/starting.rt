@@ -98,7 +98,7 @@ pub fn start(random: &[u8], hint: &[u8], stand_in: &[u8], named: Named) -> Answe
     if 128 < hint.len() {
         return bad_setting();
     }
-    if !keytable::valid_utf8(hint) {
+    if !utf8::valid_utf8(hint) {
         return bad_setting();
     }
     if stand_in.len() != 32 {

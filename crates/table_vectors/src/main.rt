@@ -22,7 +22,7 @@ fn print_bytes(bytes: &[u8]) {
 // A line: the bytes, and whether they are UTF-8.
 fn print_text(text: &[u8]) {
     print_bytes(text);
-    if keytable::valid_utf8(text) {
+    if utf8::valid_utf8(text) {
         io::write_all(STDOUT_FILENO, b" UTF-8\n");
     } else {
         io::write_all(STDOUT_FILENO, b" bad\n");

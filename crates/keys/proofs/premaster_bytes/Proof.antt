@@ -5,7 +5,8 @@ use Prim.Native.Nat.{ℕ}
 use native.Mathlib.Omega.{arith}
 use lib.ListN.{length, take, replicate}
 use lib.Seq.{length-take-le}
-use Rattle.keys.proofs.PremasterParts.{premaster-parts, take-replicate}
+use Rattle.keys.proofs.PremasterParts.{premaster-parts}
+use Rattle.lists.proofs.Parts.{take-replicate}
 use borrow.Author.Needs.{needs}
 use Rattle.keys.proofs.premaster_bytes.Statement.{statement}
 use Rattle.keys.proofs.premaster_bytes.Tie as tie

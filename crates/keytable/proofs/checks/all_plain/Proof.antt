@@ -2,11 +2,13 @@
 -- Assumes nothing.
 use borrow.Author.Needs.{needs}
 use mathlib.Core.Path.{_≡_}
-use Prim.Native.Nat.{_-_, _≤_}
-use lib.ListN.{length, drop}
-use Rattle.keytable.specs.Table.{each, plain}
-use Rattle.keytable.proofs.Walks.{each-more, each-stop, each-end}
-use Rattle.keytable.proofs.Flags.{failed, passed}
+use Prim.Native.Nat.{ℕ, _-_, _≤_}
+use mathlib.Core.List.{List}
+use lib.ListN.{length, drop, drop-of-length-le}
+use Rattle.lists.specs.Lists.{each}
+use Rattle.lists.proofs.Tests.{failed, passed}
+use Rattle.lists.proofs.Walks.{left-cons, each-more, each-stop, each-end}
+use Rattle.keytable.specs.Table.{plain}
 use Rattle.keytable.proofs.checks.all_plain.Statement.{statement}
 use Rattle.keytable.proofs.checks.all_plain.Tie as tie
 
@@ -16,22 +18,23 @@ Inv-loop s i₀ i = (i ≤ length s) × (each plain s ≡ each plain (drop i s))
 abbrev μ-loop : tie.MeasureT-loop
 μ-loop s i₀ i = length s - i
 
+abbrev text : tie.At-loop Inv-loop μ-loop → List ℕ
+text c = c .before .before .args .s .now
+
 returns : tie.Need-returns Inv-loop μ-loop
 returns c =
-    each-stop plain _ _ (c .before .before .before .loop-test .taken)
-    (failed _ _ (c .before .plain .ensures) (c .if1 .taken))
-    (c .before .before .before .before .loop .inv .1)
+    let turn = c .before .before .before in
+    each-stop plain (text (turn .before)) _ (turn .before .loop .inv .1) (left-cons _ _ (turn .loop-test .taken)) (failed _ _ (c .before .plain .ensures) (c .if1 .taken))
 
 loop-again : tie.Need-loop-again Inv-loop μ-loop
-loop-again c = (
-  search needs,
-  each-more plain _ _ (c .before .before .before .loop-test .taken)
-      (passed _ _ (c .before .plain .ensures) (c .if1 .left))
-      (c .before .before .before .before .loop .inv .1),
-)
+loop-again c =
+    let turn = c .before .before .before in (
+      search needs,
+      each-more plain (text (turn .before)) _ (turn .before .loop .inv .1) (left-cons _ _ (turn .loop-test .taken)) (passed _ _ (c .before .plain .ensures) (c .if1 .left)),
+    )
 
 returns-2 : tie.Need-returns-2 Inv-loop μ-loop
-returns-2 c = each-end plain _ _ (c .loop-test .left) (c .before .loop .inv .1)
+returns-2 c = each-end plain (text (c .before)) _ (c .before .loop .inv .1) (drop-of-length-le _ (c .loop-test .left))
 
 pub all-plain-spec : {M : Type 1} → statement M
 all-plain-spec =

@@ -4,13 +4,15 @@ use borrow.Author.Needs.{needs}
 use mathlib.Core.Path.{_≡_, refl, sym, _∙_, ap}
 use Prim.Native.Nat.{ℕ, _+_, _-_, _≤_, _<_}
 use native.Mathlib.Omega.{arith}
-use mathlib.Core.List.{List, [], map}
+use mathlib.Core.Bool.{true}
+use mathlib.Core.List.{List, _++_, map}
 use denote.Ref.{now}
 use lib.ListN.{length, drop, length-set}
-use Rattle.keytable.specs.Inner.{part, identityAt, earlier, fingerprint, Kept}
-use Rattle.keytable.specs.Table.{lines, identityOf, among, apart}
-use Rattle.keytable.proofs.Apart.{identity-part, identity-within, some-line, apart-stop, apart-on, kept-on}
-use Rattle.keytable.proofs.Lines.{line-within, line-here, no-lines}
+use Rattle.lists.specs.Lists.{any, distinct, same, part}
+use Rattle.keytable.specs.Inner.{identityAt, earlier, fingerprint, Kept}
+use Rattle.keytable.specs.Table.{lines, identityOf}
+use Rattle.keytable.proofs.Apart.{identity-part, identity-within, some-line, distinct-stop, all-on, distinct-on, distinct-end, kept-on}
+use Rattle.keytable.proofs.Lines.{line-within, line-here}
 use Rattle.keytable.proofs.distinct.distinct.Statement.{statement}
 use Rattle.keytable.proofs.distinct.distinct.Tie as tie
 
@@ -18,13 +20,13 @@ abbrev Inv-loop : tie.InvT-loop
 Inv-loop table starts₀ fingerprints₀ n₀ at₀ starts fingerprints n at =
     (at ≤ length table + 1) × (length starts ≡ 256) × (length fingerprints ≡ 256) × (n + length (lines (drop at table)) ≤ 256)
     × Kept table starts fingerprints n
-    × (apart [] (map identityOf (lines table)) ≡ apart (earlier table starts n) (map identityOf (lines (drop at table))))
+    × (map identityOf (lines table) ≡ earlier table starts n ++ map identityOf (lines (drop at table))) × (distinct same (earlier table starts n) ≡ true)
 
 abbrev μ-loop : tie.MeasureT-loop
 μ-loop table starts₀ fingerprints₀ n₀ at₀ starts fingerprints n at = length table + 1 - at
 
 loop-holds : tie.Need-loop-holds Inv-loop μ-loop
-loop-holds c = (search needs, search needs, search needs, search needs, (λ k h. absurd (omega arith)), search needs)
+loop-holds c = (search needs, search needs, search needs, search needs, (λ k h. absurd (omega arith)), refl, refl)
 
 -- where the identity of a line is known
 module _ (c : tie.After-identity-end Inv-loop μ-loop) where
@@ -43,11 +45,20 @@ module _ (c : tie.After-identity-end Inv-loop μ-loop) where
   within : c .identity-end .result ≤ length table
   within = omega (arith, identity-within table place in-table, c .identity-end .ensures)
 
-  identity-is : part place (c .identity-end .result) table ≡ identityAt table place
+  identity-is : part place (c .identity-end .result - place) table ≡ identityAt table place
   identity-is = identity-part table place _ in-table (c .identity-end .ensures)
 
   below : c .before .before .loop .n < 256
   below = omega (arith, some-line table place inside, c .before .before .loop .inv .3)
+
+-- what the search among the lines passed says of the line's identity
+judged : (c : tie.After-repeated Inv-loop μ-loop)
+    → let i = c .before .before .before .before .before .before in
+    any (same (identityAt (table i) (place i))) (earlier (table i) (i .before .before .loop .starts) (i .before .before .loop .n)) ≡ c .repeated .result
+judged c =
+    let i = c .before .before .before .before .before .before in
+    ap (λ (x : List ℕ). any (same x) (earlier (table i) (i .before .before .loop .starts) (i .before .before .loop .n))) (sym (identity-is i))
+    ∙ sym (c .repeated .ensures)
 
 part-fingerprint-end : tie.Need-part-fingerprint-end Inv-loop μ-loop
 part-fingerprint-end c = within c
@@ -66,9 +77,7 @@ returns c =
     let r = c .before in
     let i = r .before .before .before .before .before .before in
     let l = i .before .before .loop in
-    apart-stop (table i) (l .starts) (place i) _ (l .n) (inside i) refl (l .inv .5)
-    (ap (λ (x : List ℕ). among x (earlier (table i) (l .starts) (l .n))) (sym (identity-is i))
-    ∙ sym (r .repeated .ensures) ∙ c .if1 .taken)
+    distinct-stop (table i) (l .starts) (place i) _ (l .n) (inside i) refl (l .inv .5) (judged r ∙ c .if1 .taken)
 
 array-write-starts : tie.Need-array-write-starts Inv-loop μ-loop
 array-write-starts c = below (c .before .before .before .before .before .before .before)
@@ -90,9 +99,6 @@ loop-again c =
     let b = below i in
     let w = line-within (table i) (place i) _ (in-table i) (c .line-end .ensures) in
     let one = ap length (line-here (table i) (place i) _ (in-table i) (c .line-end .ensures) (inside i)) in
-    let fresh =
-    ap (λ (x : List ℕ). among x (earlier (table i) (l .starts) (l .n))) (sym (identity-is i))
-    ∙ sym (r .repeated .ensures) ∙ c .before .if1 .left in
     let room : l .n < length (l .starts) = omega (arith, l .inv .1) in (
       search needs,
       simp length-set (l .inv .1),
@@ -101,13 +107,12 @@ loop-again c =
       kept-on (table i) (l .starts) (l .fingerprints) (place i) (l .n) _ (in-table i) room (omega (arith, l .inv .2))
           (r .before .before .before .before .fingerprint .ensures ∙ ap (fingerprint 0) (identity-is i))
           (l .inv .4),
-      apart-on (table i) (l .starts) (place i) _ (l .n) (inside i) (c .line-end .ensures) (l .inv .5) room fresh,
+      all-on (table i) (l .starts) (place i) _ (l .n) (inside i) (c .line-end .ensures) (l .inv .5) room,
+      distinct-on (table i) (l .starts) (place i) _ (l .n) (inside i) (c .line-end .ensures) (l .inv .5) room (l .inv .6) (judged r ∙ c .before .if1 .left),
     )
 
 returns-2 : tie.Need-returns-2 Inv-loop μ-loop
-returns-2 c =
-    let l = c .before .loop in
-    sym (l .inv .5 ∙ ap (λ (x : List (List ℕ)). apart (earlier (now (c .before .before .before .args .table)) (l .starts) (l .n)) (map identityOf x)) (no-lines _ _ (c .loop-test .left)))
+returns-2 c = let l = c .before .loop in distinct-end _ (l .starts) (l .at) (l .n) (c .loop-test .left) (l .inv .5) (l .inv .6)
 
 pub distinct-spec : {M : Type 1} → statement M
 distinct-spec =

@@ -9,13 +9,13 @@ use mathlib.Core.Bool.{false}
 use denote.Ref.{now}
 use lib.ListN.{getD}
 use Rattle.keytable.specs.Inner.{identityAt, earlier}
-use Rattle.keytable.specs.Table.{among}
-use Rattle.keytable.proofs.Apart.{among-on, among-hit, fingerprint-other}
+use Rattle.lists.specs.Lists.{any, same}
+use Rattle.keytable.proofs.Apart.{none-on, one-hit, fingerprint-other}
 use Rattle.keytable.proofs.distinct.repeated.Statement.{statement}
 use Rattle.keytable.proofs.distinct.repeated.Tie as tie
 
 abbrev Inv-loop : tie.InvT-loop
-Inv-loop table starts fingerprints n identity p k₀ k = (k ≤ n) × (among identity (earlier table starts k) ≡ false)
+Inv-loop table starts fingerprints n identity p k₀ k = (k ≤ n) × (any (same identity) (earlier table starts k) ≡ false)
 
 abbrev μ-loop : tie.MeasureT-loop
 μ-loop table starts fingerprints n identity p k₀ k = n - k
@@ -34,7 +34,7 @@ returns : tie.Need-returns Inv-loop μ-loop
 returns c =
     let l = c .before .before .before .before .before .before in
     let s = l .before .before .before in
-    among-hit (now (s .args .table)) (now (s .args .starts)) (now (s .args .identity)) (l .loop .k) (search needs) (s .args .n)
+    one-hit (now (s .args .table)) (now (s .args .starts)) (now (s .args .identity)) (l .loop .k) (search needs) (s .args .n)
     (c .before .before .before .before .before .loop-test .taken)
     (sym (c .before .same-identity .ensures) ∙ c .if2 .taken)
 
@@ -43,7 +43,7 @@ loop-again c =
     let l = c .before .before .before in
     let s = l .before .before .before in
     let kept = s .pre .1 .1 .1 (l .loop .k) (c .before .before .loop-test .taken) in
-    let on = among-on (now (s .args .table)) (now (s .args .starts)) (now (s .args .identity)) (l .loop .k) (search needs) in
+    let on = none-on (now (s .args .table)) (now (s .args .starts)) (now (s .args .identity)) (l .loop .k) (search needs) in
     let there = identityAt (now (s .args .table)) (getD (now (s .args .starts)) (l .loop .k) 0) in (
       search needs,
       ⊎-elim (λ o. on (sym (o .2 .ensures) ∙ o .3 .left) (l .loop .inv .1))
@@ -55,7 +55,7 @@ returns-2 : tie.Need-returns-2 Inv-loop μ-loop
 returns-2 c =
     let s = c .before .before .before .before in
     let end : s .args .n ≡ c .before .loop .k = omega arith in
-    sym (ap (λ (m : ℕ). among (now (s .args .identity)) (earlier (now (s .args .table)) (now (s .args .starts)) m)) end ∙ c .before .loop .inv .1)
+    sym (ap (λ (m : ℕ). any (same (now (s .args .identity))) (earlier (now (s .args .table)) (now (s .args .starts)) m)) end ∙ c .before .loop .inv .1)
 
 pub repeated-spec : {M : Type 1} → statement M
 repeated-spec =

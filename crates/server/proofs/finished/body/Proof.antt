@@ -1,11 +1,10 @@
 -- `server::finished::body` meets its contract: the twelve bytes of the body are judged.
 -- Assumes nothing.
 use mathlib.Core.Path.{_≡_, sym, _∙_}
-use Prim.Native.Nat.{ℕ, _+_, _-_}
+use Prim.Native.Nat.{ℕ}
 use native.Mathlib.Omega.{arith}
 use mathlib.Core.List.{List}
-use lib.ListN.{length, drop, length-drop}
-use lib.Seq.{length-take-le}
+use lib.ListN.{length}
 use borrow.Author.Tests.{not-true, not-false}
 use Rattle.messages.specs.declared.Part.the-variants.{At}
 use Rattle.messages.specs.Place.{filledBy}
@@ -38,12 +37,6 @@ add-right c = let at = there c in omega arith
 part-right-end : tie.Need-part-right-end
 part-right-end c = let at = there c in omega arith
 
-right-requires : tie.Need-right-requires
-right-requires c κs =
-    let at = there (c .before) in
-    let rest : length (drop (from (c .before)) (m (c .before))) ≡ 12 = simp length-drop (omega arith) in
-    length-take-le (from (c .before) + size (c .before) - from (c .before)) _ (omega arith) ∙ omega arith
-
 returns : tie.Need-returns
 returns c =
     let args = c .before .before .before .before .before .before .before .before .before .args in
@@ -74,7 +67,7 @@ body-spec =
     (λ c. search needs)
     (λ c. search needs)
     part-right-end
-    right-requires
+    (λ c κs. search needs)
     (λ c κs. search needs)
     returns
     (λ c κs. search needs)
