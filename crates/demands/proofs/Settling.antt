@@ -19,6 +19,7 @@ use Rattle.messages.specs.Header.{header}
 use Rattle.server.specs.declared.Phase.{Phase}
 use Rattle.server.specs.declared.Connection.{Connection}
 use Rattle.server.specs.Connection.{ended}
+use Rattle.server.specs.Flight.{Flight, flightBytes}
 use Rattle.server.specs.Step.{Step, refuse, accept, afterTests, settled}
 use Rattle.server.specs.KeyExchange.{View}
 use Rattle.server.specs.Connection.{isOver}
@@ -32,13 +33,16 @@ pub refused-closes : (c : Connection) (out : List ℕ) (step : Step) (r : Refusa
     → settled c out step .next ≡ ended Phase.Closed
 refused-closes c out step r e alerts = rw e (alerts-close r c ∙ rw alerts)
 
-pub accepted-next : (c : Connection) (out : List ℕ) (step : Step) (answer : List ℕ) (next : Connection) → step ≡ accept answer next
-    → length answer ≤ length out → settled c out step .next ≡ next
-accepted-next c out step answer next e room = rw (e, le-leb (length answer) (length out) room)
+pub refused-stays : (c : Connection) (out : List ℕ) (step : Step) (r : Refusal) → step ≡ refuse r → toClient r ≡ false → settled c out step .next ≡ c
+refused-stays c out step r e host = rw e (alerts-close r c ∙ rw host)
 
-pub short-stays : (c : Connection) (out : List ℕ) (step : Step) (answer : List ℕ) (next : Connection) → step ≡ accept answer next
-    → length out < length answer → settled c out step .next ≡ c
-short-stays c out step answer next e short = rw (e, lt-leb (length answer) (length out) short)
+pub accepted-next : (c : Connection) (out : List ℕ) (step : Step) (answer : Flight) (next : Connection) → step ≡ accept answer next
+    → length (flightBytes answer) ≤ length out → settled c out step .next ≡ next
+accepted-next c out step answer next e room = rw (e, le-leb (length (flightBytes answer)) (length out) room)
+
+pub short-stays : (c : Connection) (out : List ℕ) (step : Step) (answer : Flight) (next : Connection) → step ≡ accept answer next
+    → length out < length (flightBytes answer) → settled c out step .next ≡ c
+short-stays c out step answer next e short = rw (e, lt-leb (length (flightBytes answer)) (length out) short)
 
 -- the step refuses with an alert
 abbrev pub Alerts : Step → Type 0

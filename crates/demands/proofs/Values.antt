@@ -17,9 +17,10 @@ use Rattle.sha256.proofs.Finish.{finish-absorbed, finished-within, length-diges
 use Rattle.keys.specs.declared.Side.the-variants.{Client, Server}
 use Rattle.keys.specs.Secrets.{verifyData}
 use Rattle.keys.proofs.Lengths.{value-given, value-master}
-use Rattle.keytable.proofs.Apart.{same-eq, same-refl}
-use Rattle.server.specs.KeyExchange.{andThen, bytesOf}
-use Rattle.server.specs.Finished.{finishedOf, isValue}
+use Rattle.lists.proofs.Equal.{same-eq, same-refl}
+use Rattle.refusal.specs.Lent.{andThen, bytesOf}
+use Rattle.server.specs.Finished.{isValue}
+use Rattle.keys.specs.Secrets.{finishedOf}
 
 none-without-master : (o : Outcome) (value : List ℕ) → isValue value (andThen o (verifyData Client [])) ≡ false
 unfolding verifyData

@@ -24,6 +24,7 @@ use Rattle.server.specs.declared.Connection.{Connection}
 use Rattle.server.specs.KeyExchange.{View, viewOf}
 use Rattle.server.specs.Step.{refuse, accept}
 use Rattle.server.specs.Connection.{suites}
+use Rattle.server.specs.Flight.{flightBytes}
 use Rattle.server.specs.Hello.{chosen, offersNull, flightFor, afterHello, helloFields}
 use Rattle.server.specs.Message.{messageStep}
 
@@ -75,7 +76,7 @@ smallestHello version = bytes clientHello (smallest version)
 -- R2 of the server: whatever the connection, a ClientKeyExchange that meets the tests on its header is refused so
 abbrev pub GivesR2 : List ℕ → Type 0
 GivesR2 t =
-    (ours : List ℕ) (c : Connection) (m : List ℕ) → header 16 m ≡ Accepted → messageStep ours (viewOf t) c m Phase.KeyExchange ≡ refuse BadTable
+    (c : Connection) (m : List ℕ) → header 16 m ≡ Accepted → messageStep (viewOf t) c m Phase.KeyExchange ≡ refuse BadTable
 
 -- ---- the table
 
@@ -121,12 +122,12 @@ pub record BytesWorkedThrough : Type 0 where
       × (validUtf8 (0xF4 ∷ 0x8F ∷ 0xBF ∷ 0xBF ∷ []) ≡ true)
   -- "version 0x0302 gives 70; 0x0304 is answered with 0x0303": of every ClientHello whose layout holds and which is refused for nothing else, on any
   -- connection, and of the smallest one. The version stands at bytes 4 and 5 of the answer.
-  pub v12 : ((ours : List ℕ) (c : Connection) (m : List ℕ) (f : ClientHello) → f .version ≡ 0x0302 → helloFields ours c m (some f) ≡ refuse ProtocolVersion)
-      × ((ours : List ℕ) (c : Connection) (m : List ℕ) (f : ClientHello) (suite : ℕ)
-      → f .version ≡ 0x0304 → offersNull (f .methods) ≡ true → chosen ours (f .suites) ≡ some suite
-      → helloFields ours c m (some f) ≡ accept (flightFor c suite) (afterHello c m f suite))
-      × ((c : Connection) (suite : ℕ) → take 2 (drop 4 (flightFor c suite)) ≡ 0x03 ∷ 0x03 ∷ [])
-      × ((v : View) (c : Connection) → messageStep suites v c (smallestHello 0x0302) Phase.Hello ≡ refuse ProtocolVersion)
-      × ((v : View) (c : Connection) → messageStep suites v c (smallestHello 0x0304) Phase.Hello
+  pub v12 : ((c : Connection) (m : List ℕ) (f : ClientHello) → f .version ≡ 0x0302 → helloFields c m (some f) ≡ refuse ProtocolVersion)
+      × ((c : Connection) (m : List ℕ) (f : ClientHello) (suite : ℕ)
+      → f .version ≡ 0x0304 → offersNull (f .methods) ≡ true → chosen (c .setup .suites) (f .suites) ≡ some suite
+      → helloFields c m (some f) ≡ accept (flightFor c suite) (afterHello c m f suite))
+      × ((c : Connection) (suite : ℕ) → take 2 (drop 4 (flightBytes (flightFor c suite))) ≡ 0x03 ∷ 0x03 ∷ [])
+      × ((v : View) (c : Connection) → messageStep v c (smallestHello 0x0302) Phase.Hello ≡ refuse ProtocolVersion)
+      × ((v : View) (c : Connection) → c .setup .suites ≡ suites → messageStep v c (smallestHello 0x0304) Phase.Hello
       ≡ accept (flightFor c 0x00AE) (afterHello c (smallestHello 0x0304) (smallest 0x0304) 0x00AE))
       × (numberOf ProtocolVersion ≡ 70)

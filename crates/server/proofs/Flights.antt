@@ -5,7 +5,7 @@ use Prim.Native.Nat.{ℕ, _+_, _<_}
 use native.Mathlib.Nat.{add-assoc, zero-add}
 use native.Mathlib.Omega.{arith}
 use mathlib.Core.Bool.{Bool, true, false, cond}
-use mathlib.Core.List.{List, [], _∷_, _++_}
+use mathlib.Core.List.{List, [], _∷_, _++_, append-assoc}
 use lib.ListN.{length, take, drop, getD, take-append-drop}
 use lib.Dec.{eqb}
 use lib.Seq.{take-at, drop-at, take-add}
@@ -63,3 +63,7 @@ finished-sent value array rest size e =
     let all : cut (16 ∷ 0 ∷ 0 ∷ []) array ≡ message ∷ [] =
     ap (cut (16 ∷ 0 ∷ 0 ∷ [])) e ∙ cut-first message rest 16 (0 ∷ 0 ∷ []) (omega arith) (omega arith) in
     record { means = ap protectedly all; fits = omega arith }
+
+pub joined-append : (ms ns : List (List ℕ)) → joined (ms ++ ns) ≡ joined ms ++ joined ns
+joined-append [] ns = refl
+joined-append (m ∷ ms) ns = ap (λ (l : List ℕ). m ++ l) (joined-append ms ns) ∙ sym (append-assoc m (joined ms) (joined ns))

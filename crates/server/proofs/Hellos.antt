@@ -26,7 +26,7 @@ use Rattle.server.specs.Step.{refuse}
 use Rattle.server.specs.Hello.{offers, chosen, offersNull, hintMessage, flight, helloChosen, helloFields}
 use Rattle.server.specs.Flight.{Flight, joined, flightBytes}
 use Rattle.server.specs.Inner.{asChoice, hintMessageLength, restOf, total, cut, Sends}
-use Rattle.server.proofs.Flights.{cut-first}
+use Rattle.server.proofs.Flights.{cut-first, joined-append}
 
 -- ---- the lists of a ClientHello
 
@@ -134,6 +134,16 @@ cut-rest (b ∷ hint) rest =
     let done : List ℕ = bytes serverHelloDone [] in
     rw (ne-eqb (length (b ∷ hint)) 0 some-hint, append-assoc exchange done rest)
     (cut-first exchange (done ++ rest) (6 + length (b ∷ hint)) (4 ∷ []) (omega arith) (omega arith))
+
+-- how long it is at the most
+pub flight-most : (random hint : List ℕ) (suite : ℕ) → length random ≡ 32 → length hint ≤ 128 → length (flightBytes (flight random hint suite)) ≤ 180
+flight-most random hint suite h k =
+    let first : List ℕ = bytes serverHello (hello random suite) in
+    let exchange : List ℕ = joined (hintMessage hint) in
+    let done : List (List ℕ) = bytes serverHelloDone [] ∷ [] in
+    let behind = ap length (joined-append (hintMessage hint) done) ∙ length-append exchange (joined done) in
+    let size = ap length (flight-parts random hint suite) ∙ length-append first (restOf hint) in
+    omega (arith, size, behind, length-hello random suite h, hint-most hint k)
 
 abbrev plainly : List (List ℕ) → Flight
 plainly messages = record { plain = messages; protected = [] }
