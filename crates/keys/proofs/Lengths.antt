@@ -60,8 +60,11 @@ pub premaster-most : (key bytes : List ℕ) → premaster key ≡ gives bytes �
 unfolding premaster
 premaster-most key bytes e = go (leb 1 (length key)) (leb (length key) 64) _ refl e
   where
-    go : (t u : Bool) (r : Refusal) → leb (length key) 64 ≡ u → cond (t && u) (gives (premasterBytes key)) (refuses r) ≡ gives bytes → length bytes ≤ 132
-    go true true r few f = let same : premasterBytes key ≡ bytes = cc in omega (arith, ap length same, length-premaster key, leb-true (length key) 64 few)
+    go : (t u : Bool) (r : Refusal) → leb (length key) 64 ≡ u → cond (t && u) (gives (premasterBytes key)) (refuses r) ≡ gives bytes
+        → length bytes ≤ 132
+    go true true r few f =
+        let same : premasterBytes key ≡ bytes = cc in
+        omega (arith, ap length same, length-premaster key, leb-true (length key) 64 few)
     go true false r few f = absurd (refuses-gives f)
     go false u r few f = absurd (refuses-gives f)
 
@@ -94,7 +97,8 @@ unfolding verifyData
 value-given side secret hash h k = (
   expanded secret (text (finishedLabel side) ++ hash) 12,
   length-expanded secret _ 12,
-  rw (eq-eqb (length secret) 48 h, eq-eqb (length hash) 32 k) (prf-within secret (finishedLabel side) hash 12 (omega arith) (omega arith) (omega arith)),
+  rw (eq-eqb (length secret) 48 h, eq-eqb (length hash) 32 k)
+      (prf-within secret (finishedLabel side) hash 12 (omega arith) (omega arith) (omega arith)),
 )
 
 -- a hash that is not past its limit has 32 bytes

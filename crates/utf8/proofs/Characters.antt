@@ -84,12 +84,12 @@ most (suc (suc (suc zero))) = 131071
 most (suc (suc (suc (suc i)))) = 8388607
 
 pub most-first : (n a : ℕ) → 2 ≤ n → row n a .bits ≤ 31
-most-first n a h = rw (ne-eqb n 1 (λ e. omega arith)) (go (eqb n 2) (eqb n 3))
+most-first n a h = rw (ne-eqb n 1 (λ e. omega arith)) (go (eqb n 2) (eqb n 3) _ _ _ (omega arith) (omega arith) (omega arith))
   where
-    go : (t u : Bool) → cond {A = Row} t (record { bits = a % 32; least = 0x80 }) (cond u (record { bits = a % 16; least = 0x800 }) (record { bits = a % 8; least = 0x10000 })) .bits ≤ 31
-    go true u = omega arith
-    go false true = omega arith
-    go false false = omega arith
+    go : (t u : Bool) (x y z : Row) → x .bits ≤ 31 → y .bits ≤ 31 → z .bits ≤ 31 → cond t x (cond u y z) .bits ≤ 31
+    go true u x y z p q r = p
+    go false true x y z p q r = q
+    go false false x y z p q r = r
 
 pub most-fits : (i v : ℕ) → i < 4 → v ≤ most i → v ≤ 131071
 most-fits zero v h k = omega arith
