@@ -2,41 +2,13 @@
 ghost use mathlib.Core.Path.{_≡_};
 ghost use lib.ListN.{length};
 ghost use Rattle.lists.specs.Lists.{each};
-ghost use Rattle.keytable.specs.Table.{lines, plain, validIdentity, validLine, ended, wellFormed};
+ghost use Rattle.keytable.specs.Table.{lines, validIdentity, validLine, ended, wellFormed};
+use crate::classes::Class;
+use crate::classes::all;
 use crate::distinct::distinct;
 use crate::entries::find;
 use crate::entries::line_end;
 use crate::hex::valid_key;
-
-// A byte that an identity may have.
-fn plain(b: u8) -> bool
-    ensures { λ r. ⌜ r ≡ plain b ⌝ }
-{
-    if b < 32 {
-        return false;
-    }
-    if b == 127 {
-        return false;
-    }
-    if b == 58 {
-        return false;
-    }
-    true
-}
-
-// Whether an identity may have all these bytes.
-fn all_plain(s: &[u8]) -> bool
-    ensures { λ r. ⌜ r ≡ each plain (now (s .entry)) ⌝ }
-{
-    let mut i = 0;
-    while i < s.len() {
-        if !plain(s[i]) {
-            return false;
-        }
-        i += 1;
-    }
-    true
-}
 
 // Whether s is 1 to 128 bytes of UTF-8 that an identity may have.
 fn valid_identity(s: &[u8]) -> bool
@@ -48,7 +20,7 @@ fn valid_identity(s: &[u8]) -> bool
     if s.len() > 128 {
         return false;
     }
-    if !all_plain(s) {
+    if !all(Class::Plain, s) {
         return false;
     }
     utf8::valid_utf8(s)

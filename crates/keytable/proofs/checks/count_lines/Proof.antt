@@ -26,7 +26,8 @@ loop-again : tie.Need-loop-again Inv-loop μ-loop
 loop-again c =
     let t = now (c .before .before .before .before .args .table) in
     let w = line-within t _ _ (search needs) (c .line-end .ensures) in
-    (search needs, search needs, count-on t _ _ (search needs) (c .line-end .ensures) (c .before .loop-test .taken) _ (c .before .before .loop .inv .2))
+    let on = count-on t _ _ (search needs) (c .line-end .ensures) (c .before .loop-test .taken) in
+    (search needs, search needs, on _ (c .before .before .loop .inv .2))
 
 returns : tie.Need-returns Inv-loop μ-loop
 returns c = omega (arith, ap length (no-lines (now (c .before .before .before .args .table)) _ (c .loop-test .left)))

@@ -20,7 +20,8 @@ abbrev Inv-loop : tie.InvT-loop
 Inv-loop table starts₀ fingerprints₀ n₀ at₀ starts fingerprints n at =
     (at ≤ length table + 1) × (length starts ≡ 256) × (length fingerprints ≡ 256) × (n + length (lines (drop at table)) ≤ 256)
     × Kept table starts fingerprints n
-    × (map identityOf (lines table) ≡ earlier table starts n ++ map identityOf (lines (drop at table))) × (distinct same (earlier table starts n) ≡ true)
+    × (map identityOf (lines table) ≡ earlier table starts n ++ map identityOf (lines (drop at table)))
+    × (distinct same (earlier table starts n) ≡ true)
 
 abbrev μ-loop : tie.MeasureT-loop
 μ-loop table starts₀ fingerprints₀ n₀ at₀ starts fingerprints n at = length table + 1 - at
@@ -51,14 +52,17 @@ module _ (c : tie.After-identity-end Inv-loop μ-loop) where
   below : c .before .before .loop .n < 256
   below = omega (arith, some-line table place inside, c .before .before .loop .inv .3)
 
--- what the search among the lines passed says of the line's identity
-judged : (c : tie.After-repeated Inv-loop μ-loop)
-    → let i = c .before .before .before .before .before .before in
-    any (same (identityAt (table i) (place i))) (earlier (table i) (i .before .before .loop .starts) (i .before .before .loop .n)) ≡ c .repeated .result
-judged c =
-    let i = c .before .before .before .before .before .before in
-    ap (λ (x : List ℕ). any (same x) (earlier (table i) (i .before .before .loop .starts) (i .before .before .loop .n))) (sym (identity-is i))
-    ∙ sym (c .repeated .ensures)
+  -- the identities of the lines passed
+  abbrev kept : List (List ℕ)
+  kept = earlier table (c .before .before .loop .starts) (c .before .before .loop .n)
+
+-- where they were searched for it
+module _ (c : tie.After-repeated Inv-loop μ-loop) where
+  abbrev line : tie.After-identity-end Inv-loop μ-loop
+  line = c .before .before .before .before .before .before
+
+  judged : any (same (identityAt (table line) (place line))) (kept line) ≡ c .repeated .result
+  judged = ap (λ (x : List ℕ). any (same x) (kept line)) (sym (identity-is line)) ∙ sym (c .repeated .ensures)
 
 part-fingerprint-end : tie.Need-part-fingerprint-end Inv-loop μ-loop
 part-fingerprint-end c = within c
@@ -75,26 +79,26 @@ repeated-requires c κs =
 returns : tie.Need-returns Inv-loop μ-loop
 returns c =
     let r = c .before in
-    let i = r .before .before .before .before .before .before in
+    let i = line r in
     let l = i .before .before .loop in
     distinct-stop (table i) (l .starts) (place i) _ (l .n) (inside i) refl (l .inv .5) (judged r ∙ c .if1 .taken)
 
 array-write-starts : tie.Need-array-write-starts Inv-loop μ-loop
-array-write-starts c = below (c .before .before .before .before .before .before .before)
+array-write-starts c = below (line (c .before))
 
 array-write-fingerprints : tie.Need-array-write-fingerprints Inv-loop μ-loop
-array-write-fingerprints c = below (c .before .before .before .before .before .before .before)
+array-write-fingerprints c = below (line (c .before))
 
 add-at : tie.Need-add-at Inv-loop μ-loop
 add-at c =
-    let i = c .before .before .before .before .before .before .before .before in
+    let i = line (c .before .before) in
     let w = line-within (table i) (place i) _ (in-table i) (c .line-end .ensures) in
     search needs
 
 loop-again : tie.Need-loop-again Inv-loop μ-loop
 loop-again c =
     let r = c .before .before in
-    let i = r .before .before .before .before .before .before in
+    let i = line r in
     let l = i .before .before .loop in
     let b = below i in
     let w = line-within (table i) (place i) _ (in-table i) (c .line-end .ensures) in
@@ -108,7 +112,8 @@ loop-again c =
           (r .before .before .before .before .fingerprint .ensures ∙ ap (fingerprint 0) (identity-is i))
           (l .inv .4),
       all-on (table i) (l .starts) (place i) _ (l .n) (inside i) (c .line-end .ensures) (l .inv .5) room,
-      distinct-on (table i) (l .starts) (place i) _ (l .n) (inside i) (c .line-end .ensures) (l .inv .5) room (l .inv .6) (judged r ∙ c .before .if1 .left),
+      distinct-on (table i) (l .starts) (place i) _ (l .n) (inside i) (c .line-end .ensures) (l .inv .5) room (l .inv .6)
+          (judged r ∙ c .before .if1 .left),
     )
 
 returns-2 : tie.Need-returns-2 Inv-loop μ-loop
