@@ -1,6 +1,5 @@
 // Whether a table is well formed.
 ghost use mathlib.Core.Path.{_≡_};
-ghost use lib.ListN.{length};
 ghost use Rattle.lists.specs.Lists.{each};
 ghost use Rattle.keytable.specs.Table.{lines, validIdentity, validLine, ended, wellFormed};
 use crate::classes::Class;
@@ -55,18 +54,6 @@ fn valid_lines(table: &[u8]) -> bool
     true
 }
 
-fn count_lines(table: &[u8]) -> usize
-    ensures { λ r. ⌜ r ≡ length (lines (now (table .entry))) ⌝ }
-{
-    let mut n = 0;
-    let mut at = 0;
-    while at < table.len() {
-        at = line_end(table, at) + 1;
-        n += 1;
-    }
-    n
-}
-
 // Whether the last byte is 0A, if there is one.
 fn ended(table: &[u8]) -> bool
     ensures { λ r. ⌜ r ≡ ended (now (table .entry)) ⌝ }
@@ -86,9 +73,6 @@ pub fn well_formed(table: &[u8]) -> bool
         return false;
     }
     if !ended(table) {
-        return false;
-    }
-    if count_lines(table) > 256 {
         return false;
     }
     if !valid_lines(table) {
