@@ -52,7 +52,8 @@ module _ (c : tie.In-loop Inv-loop μ-loop) where
 returns : tie.Need-returns Inv-loop μ-loop
 returns c =
     let turn = c .before in
-    let many : 256 < length (lines (table turn)) = omega (arith, some-line (table turn) (place turn) (turn .loop-test .taken), turn .before .loop .inv .4) in
+    let one-left = some-line (table turn) (place turn) (turn .loop-test .taken) in
+    let many : 256 < length (lines (table turn)) = omega (arith, one-left, turn .before .loop .inv .4) in
     simp (lt-leb _ _ many)
 
 -- where the identity of a line is known
@@ -90,8 +91,8 @@ returns-2 : tie.Need-returns-2 Inv-loop μ-loop
 returns-2 c =
     let t = turn (line (c .before)) in
     let l = t .before .loop in
-    let twice = distinct-stop (table t) (l .starts) (place t) _ (count t) (t .loop-test .taken) refl (l .inv .6) (judged (c .before) ∙ c .if2 .taken) in
-    simp (sym twice, and-false)
+    let stop = distinct-stop (table t) (l .starts) (place t) _ (count t) (t .loop-test .taken) refl (l .inv .6) in
+    simp (sym (stop (judged (c .before) ∙ c .if2 .taken)), and-false)
 
 array-write-starts : tie.Need-array-write-starts Inv-loop μ-loop
 array-write-starts c = below (line (c .before))

@@ -18,7 +18,8 @@ returns-2 c = rw (passed _ _ (c .before .before .valid-key .ensures) (c .before 
 decode-requires : tie.Need-decode-requires
 decode-requires c κs =
     let tested = c .before .before in
-    (digits-of-key (now (tested .before .before .before .before .args .text)) (passed _ _ (tested .before .valid-key .ensures) (tested .if1 .left)), search needs)
+    let text = now (tested .before .before .before .before .args .text) in
+    (digits-of-key text (passed _ _ (tested .before .valid-key .ensures) (tested .if1 .left)), search needs)
 
 returns-3 : tie.Need-returns-3
 returns-3 c =
