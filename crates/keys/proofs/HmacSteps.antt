@@ -34,7 +34,8 @@ long-key key block h e = rw (e, drop-replicate 64 (length (digest key)) 0, lt-le
 pub next-xored : (block padded : List ℕ) (i pad : ℕ) → i < length block → i < length padded → take i padded ≡ xored (take i block) pad
     → take (i + 1) (set padded i (bitXor (getD block i 0) pad)) ≡ xored (take (i + 1) block) pad
 next-xored block padded i pad h k e =
-    rw (add-one i, take-suc-set padded i (bitXor (getD block i 0) pad) k, e, take-suc block i 0 h, map-append (λ (byte : ℕ). bitXor byte pad) (take i block) (getD block i 0 ∷ []))
+    rw (add-one i, take-suc-set padded i (bitXor (getD block i 0) pad) k, e, take-suc block i 0 h)
+    (sym (map-append (λ (byte : ℕ). bitXor byte pad) (take i block) (getD block i 0 ∷ [])))
 
 -- a finished hash wrote the digest of what it absorbed
 pub digest-of : (s : Sha256) (m : List ℕ) {out out' : List ℕ} {said : Written} → s ≡ absorb fresh m → length m ≤ limit → length out ≡ 32

@@ -21,7 +21,7 @@ use Rattle.keys.specs.declared.Label.the-variants.{MasterSecret}
 use Rattle.keys.specs.declared.Side.{Side}
 use Rattle.keys.specs.Hmac.{mac, keyed}
 use Rattle.keys.specs.Prf.{P, expanded, prf, text}
-use Rattle.keys.specs.Secrets.{premaster, premasterBytes, isRandom, master, masterUnder, verifyData, finishedLabel, finishedOf}
+use Rattle.keys.specs.Secrets.{premaster, premasterBytes, master, masterUnder, verifyData, finishedLabel, finishedOf}
 use Rattle.keys.proofs.PrfSteps.{prf-within}
 
 -- ---- the PRF
@@ -40,7 +40,7 @@ unfolding expanded
 length-expanded secret seed n = length-take-le n _ (simp length-P (omega arith))
 
 -- what the PRF gives has the length that was asked for
-pub prf-sized : (secret : List ℕ) (label : Label) (seed : List ℕ) (n : ℕ) → Sized n (prf secret label seed n)
+prf-sized : (secret : List ℕ) (label : Label) (seed : List ℕ) (n : ℕ) → Sized n (prf secret label seed n)
 unfolding prf
 prf-sized secret label seed n =
     sized-tested (leb (length secret) 65536 && leb (length seed) 65536 && leb n 256) _ _
@@ -60,16 +60,15 @@ pub premaster-most : (key bytes : List ℕ) → premaster key ≡ gives bytes �
 unfolding premaster
 premaster-most key bytes e = go (leb 1 (length key)) (leb (length key) 64) _ refl e
   where
-    go : (t u : Bool) (r : Refusal) → leb (length key) 64 ≡ u → cond (t && u) (gives (premasterBytes key)) (refuses r) ≡ gives bytes → length bytes ≤ 132
-    go true true r few f = let same : premasterBytes key ≡ bytes = cc in omega (arith, ap length same, length-premaster key, leb-true (length key) 64 few)
+    go : (t u : Bool) (r : Refusal) → leb (length key) 64 ≡ u → cond (t && u) (gives (premasterBytes key)) (refuses r) ≡ gives bytes
+        → length bytes ≤ 132
+    go true true r few f =
+        let same : premasterBytes key ≡ bytes = cc in
+        omega (arith, ap length same, length-premaster key, leb-true (length key) 64 few)
     go true false r few f = absurd (refuses-gives f)
     go false u r few f = absurd (refuses-gives f)
 
 -- ---- the master secret
-
-pub master-under-sized : (key client server : List ℕ) → Sized 48 (masterUnder key client server)
-master-under-sized key client server =
-    sized-then (premaster key) (λ secret. sized-tested (isRandom client && isRandom server) _ _ (prf-sized secret MasterSecret (client ++ server) 48))
 
 pub master-given : (secret client server : List ℕ) → length secret ≤ 65536 → length client ≡ 32 → length server ≡ 32
     → (bytes : List ℕ) × (length bytes ≡ 48) × (master secret client server ≡ gives bytes)
@@ -94,7 +93,8 @@ unfolding verifyData
 value-given side secret hash h k = (
   expanded secret (text (finishedLabel side) ++ hash) 12,
   length-expanded secret _ 12,
-  rw (eq-eqb (length secret) 48 h, eq-eqb (length hash) 32 k) (prf-within secret (finishedLabel side) hash 12 (omega arith) (omega arith) (omega arith)),
+  rw (eq-eqb (length secret) 48 h, eq-eqb (length hash) 32 k)
+      (prf-within secret (finishedLabel side) hash 12 (omega arith) (omega arith) (omega arith)),
 )
 
 -- a hash that is not past its limit has 32 bytes
@@ -105,7 +105,8 @@ hash-sized s bytes e = sized-tested (leb (s .count) limit) _ _ (λ b f. ap (λ (
 pub finished-of-sized : (side : Side) (secret : List ℕ) (s : Sha256) → Sized 12 (finishedOf side secret s)
 unfolding verifyData
 finished-of-sized side secret s =
-    sized-then (finished s) (λ hash. sized-tested (eqb (length secret) 48 && eqb (length hash) 32) _ _ (prf-sized secret (finishedLabel side) hash 12))
+    sized-then (finished s) (λ hash.
+    sized-tested (eqb (length secret) 48 && eqb (length hash) 32) _ _ (prf-sized secret (finishedLabel side) hash 12))
 
 -- where there is one, the master secret has its length
 pub value-master : (side : Side) (secret hash value : List ℕ) → verifyData side secret hash ≡ gives value → length secret ≡ 48

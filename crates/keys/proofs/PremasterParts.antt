@@ -25,4 +25,5 @@ premaster-parts psk size zeros a b c d es ez ea eb ec ed =
     let four : 2 + n + 2 ≡ 4 + n = omega arith in
     let third : take (4 + n) c ≡ take (2 + n) b ++ size = rw (two, four) at ec in
     let all : 4 + 2 * n ≡ 4 + n + n = omega arith in
-    rw (all, ed, third, second, first, ez, es) (append-assoc (be 2 n ++ replicate n 0) (be 2 n) psk ∙ append-assoc (be 2 n) (replicate n 0) (be 2 n ++ psk))
+    rw (all, ed, third, second, first, ez, es)
+    (append-assoc (be 2 n ++ replicate n 0) (be 2 n) psk ∙ append-assoc (be 2 n) (replicate n 0) (be 2 n ++ psk))

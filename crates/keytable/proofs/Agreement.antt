@@ -58,24 +58,34 @@ identities-of-lines (l ∷ ls) h =
 
 -- ---- tables
 
-pub sound : (t : List ℕ) → wellFormed t ≡ true → WellFormed t
+-- the five parts of the test
+pub tested : (t : List ℕ) → wellFormed t ≡ true → (leb (length t) 65536 ≡ true) × (ended t ≡ true) × (leb (length (lines t)) 256 ≡ true)
+    × (each validLine (lines t) ≡ true) × (distinct same (map identityOf (lines t)) ≡ true)
 unfolding wellFormed
-sound t h =
+tested t h =
     let size = leb (length t) 65536 in
     let few = leb (length (lines t)) 256 in
     let all = each validLine (lines t) in
-    let other = distinct same (map identityOf (lines t)) in
-    let h4 : (size && ended t && few && all) ≡ true = and-left (size && ended t && few && all) other h in
+    let h4 : (size && ended t && few && all) ≡ true = and-left (size && ended t && few && all) _ h in
     let h3 : (size && ended t && few) ≡ true = and-left (size && ended t && few) all h4 in
-    let h2 : (size && ended t) ≡ true = and-left (size && ended t) few h3 in
-    let good : all ≡ true = and-right (size && ended t && few) all h4 in
+    let h2 : (size && ended t) ≡ true = and-left (size && ended t) few h3 in (
+      and-left size (ended t) h2,
+      and-right size (ended t) h2,
+      and-right (size && ended t) few h3,
+      and-right (size && ended t && few) all h4,
+      and-right (size && ended t && few && all) _ h,
+    )
+
+pub sound : (t : List ℕ) → wellFormed t ≡ true → WellFormed t
+sound t h =
+    let (size, end, few, good, other) = tested t h in
     record {
       lines = map parted (lines t);
-      is = sym (text-lines t (and-right size (ended t) h2) good);
+      is = sym (text-lines t end good);
       valid = lines-sound (lines t) good;
-      distinct = rw (identities-parted (lines t)) (identities-sound (map identityOf (lines t)) (and-right (size && ended t && few && all) other h));
-      few-lines = rw (length-map (lines t) parted) (leb-true (length (lines t)) 256 (and-right (size && ended t) few h3));
-      few-bytes = leb-true (length t) 65536 (and-left size (ended t) h2);
+      distinct = rw (identities-parted (lines t)) (identities-sound (map identityOf (lines t)) other);
+      few-lines = rw (length-map (lines t) parted) (leb-true (length (lines t)) 256 few);
+      few-bytes = leb-true (length t) 65536 size;
     }
 
 pub complete : (t : List ℕ) → WellFormed t → wellFormed t ≡ true

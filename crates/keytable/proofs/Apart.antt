@@ -20,7 +20,8 @@ use Rattle.keytable.proofs.Lines.{length-upto, take-upto, line-is, line
 -- ---- the number of a byte string
 
 module _ (s : List ℕ) (i p : ℕ) where
-  pub fingerprint-more : i < length s → fingerprint 0 s ≡ fingerprint p (drop i s) → fingerprint 0 s ≡ fingerprint (p % 8388608 * 257 + getD s i 0) (drop (i + 1) s)
+  pub fingerprint-more : i < length s → fingerprint 0 s ≡ fingerprint p (drop i s)
+      → fingerprint 0 s ≡ fingerprint (p % 8388608 * 257 + getD s i 0) (drop (i + 1) s)
   fingerprint-more h now = now ∙ ap (fingerprint p) (left-cons s i h)
 
   pub fingerprint-end : length s ≤ i → fingerprint 0 s ≡ fingerprint p (drop i s) → p ≡ fingerprint 0 s
@@ -32,9 +33,10 @@ module _ (t : List ℕ) (at end : ℕ) (h : at ≤ length t) (e : end ≡ at + l
   pub identity-part : part at (end - at) t ≡ identityAt t at
   identity-part =
       let size : end - at ≡ length (identityAt t at) = omega arith in
-      rw size (sym (take-take (length (identityAt t at)) (length (upto lineEnd (drop at t))) (drop at t) (length-upto colon (upto lineEnd (drop at t))))
+      let line = upto lineEnd (drop at t) in
+      rw size (sym (take-take (length (identityAt t at)) (length line) (drop at t) (length-upto colon line))
       ∙ ap (take (length (identityAt t at))) (take-upto lineEnd (drop at t))
-      ∙ take-upto colon (upto lineEnd (drop at t)))
+      ∙ take-upto colon line)
 
 pub identity-within : (t : List ℕ) (at : ℕ) → at ≤ length t → at + length (identityAt t at) ≤ length t
 identity-within t at h =
@@ -42,7 +44,8 @@ identity-within t at h =
 
 -- ---- the identities before
 
-any-at : (p : List ℕ → Bool) (f : ℕ → List ℕ) (n : ℕ) (s : List ℕ) (k : ℕ) → k < n → k < length s → p (f (getD s k 0)) ≡ true → any p (map f (take n s)) ≡ true
+any-at : (p : List ℕ → Bool) (f : ℕ → List ℕ) (n : ℕ) (s : List ℕ) (k : ℕ) → k < n → k < length s → p (f (getD s k 0)) ≡ true
+    → any p (map f (take n s)) ≡ true
 any-at p f zero s k below inside e = absurd (omega arith)
 any-at p f (suc n) [] k below inside e = absurd (omega arith)
 any-at p f (suc n) (a ∷ s) zero below inside e = rw e
@@ -101,16 +104,19 @@ module _ (t starts : List ℕ) (at end n : ℕ) (inside : at < length t) (e : en
         ap (distinct same) more ∙ distinct-snoc same same-either (earlier t starts n) (identityAt t at) ∙ rw (now, fresh)
 
 -- no line is left
-pub distinct-end : (t starts : List ℕ) (at n : ℕ) → length t ≤ at → map identityOf (lines t) ≡ earlier t starts n ++ map identityOf (lines (drop at t))
+pub distinct-end : (t starts : List ℕ) (at n : ℕ) → length t ≤ at
+    → map identityOf (lines t) ≡ earlier t starts n ++ map identityOf (lines (drop at t))
     → distinct same (earlier t starts n) ≡ true → true ≡ distinct same (map identityOf (lines t))
 distinct-end t starts at n end all now =
-    sym (ap (distinct same) (all ∙ ap (λ (ls : List (List ℕ)). earlier t starts n ++ map identityOf ls) (no-lines t at end) ∙ append-nil (earlier t starts n)) ∙ now)
+    let none : map identityOf (lines (drop at t)) ≡ [] = ap (map identityOf) (no-lines t at end) in
+    sym (ap (distinct same) (all ∙ ap (λ (ids : List (List ℕ)). earlier t starts n ++ ids) none ∙ append-nil (earlier t starts n)) ∙ now)
 
-pub kept-on : (t starts fingerprints : List ℕ) (at n p : ℕ) → at ≤ length t → n < length starts → n < length fingerprints → p ≡ fingerprint 0 (identityAt t at)
-    → Kept t starts fingerprints n → Kept t (set starts n at) (set fingerprints n p) (n + 1)
+pub kept-on : (t starts fingerprints : List ℕ) (at n p : ℕ) → at ≤ length t → n < length starts → n < length fingerprints
+    → p ≡ fingerprint 0 (identityAt t at) → Kept t starts fingerprints n → Kept t (set starts n at) (set fingerprints n p) (n + 1)
 kept-on t starts fingerprints at n p h hs hp e kept k below = go (ℕ-discrete k n)
   where
-    go : Dec (k ≡ n) → (getD (set starts n at) k 0 ≤ length t) × (getD (set fingerprints n p) k 0 ≡ fingerprint 0 (identityAt t (getD (set starts n at) k 0)))
+    go : Dec (k ≡ n) → (getD (set starts n at) k 0 ≤ length t)
+        × (getD (set fingerprints n p) k 0 ≡ fingerprint 0 (identityAt t (getD (set starts n at) k 0)))
     go (yes same) = rw (same, getD-set-same starts n at 0 hs, getD-set-same fingerprints n p 0 hp) (h, e)
     go (no other) =
         rw (getD-set-other starts n k at 0 other, getD-set-other fingerprints n k p 0 other) (kept k (omega arith))

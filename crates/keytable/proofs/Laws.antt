@@ -3,21 +3,22 @@
 use mathlib.Core.Path.{_≡_, refl, sym, ap, _∙_}
 use Prim.Native.Nat.{ℕ}
 use native.Mathlib.Omega.{arith}
-use mathlib.Core.Bool.{Bool, true, false, cond, _&&_}
+use mathlib.Core.Bool.{Bool, true, false, cond}
 use mathlib.Core.List.{List, [], _∷_, _++_, map, append-assoc, map-append}
 use mathlib.Core.Option.{Option, none, some}
-use lib.ListN.{length}
-use lib.Dec.{leb, eqb}
-use Rattle.lists.specs.Lists.{each, distinct, same, Each}
-use Rattle.keytable.specs.Table.{lineEnd, colon, upto, past, before, lines, identityOf, decoded, keyText, orElse, firstText, keyOfText, keyOf, validIdentity, validKey, validLine, ended, wellFormed}
+use lib.Dec.{eqb}
+use Rattle.lists.specs.Lists.{each, Each}
+use Rattle.keytable.specs.Table.{lineEnd, colon, upto, past, before, lines, identityOf, validIdentity, validKey, validLine, ended, wellFormed}
+use Rattle.keytable.specs.Table.{decoded, keyText, orElse, firstText, keyOfText, keyOf}
 use Rattle.keytable.specs.WellFormed.{HexDigit, Line, ValidLine, text, WellFormed, LineRemoved}
 use Rattle.lists.proofs.Tests.{and-left, and-right}
 use Rattle.keytable.proofs.Tests.{key-sound}
 use Rattle.lists.proofs.Every.{every-map, each-append, every-middle}
 use Rattle.lists.proofs.Distinct.{distinct-middle}
-use Rattle.keytable.proofs.Texts.{digit-no-colon, upto-append, past-append, parted, lineOf, valid-parted, identity-no-colon, hex-no-colon, line-no-end, lines-end, text-cons, ended-text}
+use Rattle.keytable.proofs.Texts.{Without, upto-append, past-append, lines-end, parted, lineOf, valid-parted, text-cons, ended-text}
+use Rattle.keytable.proofs.Texts.{digit-no-colon, identity-no-colon, hex-no-colon, line-no-end}
 use Rattle.keytable.proofs.Lines.{lines-cons}
-use Rattle.keytable.proofs.Agreement.{identities-sound, line-sound}
+use Rattle.keytable.proofs.Agreement.{identities-sound, line-sound, tested}
 use Rattle.keytable.proofs.Lookups.{own-text, other-text, key-is}
 
 -- ---- lists of lines
@@ -66,13 +67,8 @@ module _ (identity t t' : List ℕ) (r : LineRemoved identity t t') (h : wellFor
   lines-second : lines t' ≡ lines (r .front) ++ lines (r .back)
   lines-second = ap lines (r .second) ∙ lines-append (r .front) (r .back) (r .starts)
 
-  -- the two parts of the test that matter here
   all-valid : each validLine (lines (r .front) ++ (removed ∷ lines (r .back))) ≡ true
-  unfolding wellFormed
-  all-valid =
-      ap (each validLine) (sym lines-first)
-      ∙ and-right (leb (length t) 65536 && ended t && leb (length (lines t)) 256) (each validLine (lines t))
-      (and-left (leb (length t) 65536 && ended t && leb (length (lines t)) 256 && each validLine (lines t)) (distinct same (map identityOf (lines t))) h)
+  all-valid = ap (each validLine) (sym lines-first) ∙ tested t h .3
 
   identity-is : identityOf removed ≡ identity
   identity-is = upto-append colon identity (r .hex) (r .one-colon)
@@ -81,16 +77,14 @@ module _ (identity t t' : List ℕ) (r : LineRemoved identity t t') (h : wellFor
   hex-is = past-append colon identity (r .hex) (r .one-colon)
 
   others : Each (λ x. ¬ (identity ≡ x)) (map identityOf (lines (r .front))) × Each (λ x. ¬ (identity ≡ x)) (map identityOf (lines (r .back)))
-  unfolding wellFormed
-  others = distinct-middle (map identityOf (lines (r .front))) identity (map identityOf (lines (r .back))) (rw (← identities) (identities-sound (map identityOf (lines t)) distinct-first))
+  others =
+      distinct-middle (map identityOf (lines (r .front))) identity (map identityOf (lines (r .back)))
+      (rw (← identities) (identities-sound (map identityOf (lines t)) (tested t h .4)))
     where
       identities : map identityOf (lines t) ≡ map identityOf (lines (r .front)) ++ (identity ∷ map identityOf (lines (r .back)))
       identities =
           ap (map identityOf) lines-first ∙ map-append identityOf (lines (r .front)) (removed ∷ lines (r .back))
           ∙ ap (λ (i : List ℕ). map identityOf (lines (r .front)) ++ (i ∷ map identityOf (lines (r .back)))) identity-is
-
-      distinct-first : distinct same (map identityOf (lines t)) ≡ true
-      distinct-first = and-right (leb (length t) 65536 && ended t && leb (length (lines t)) 256 && each validLine (lines t)) (distinct same (map identityOf (lines t))) h
 
   front-valid : each validLine (lines (r .front)) ≡ true
   front-valid = each-append validLine (lines (r .front)) (removed ∷ lines (r .back)) all-valid .0
@@ -128,11 +122,16 @@ module _ (identity t t' : List ℕ) (r : LineRemoved identity t t') (h : wellFor
   unfolding keyOf
   removed-else other differ =
       ap (λ (ls : List (List ℕ)). keyOfText (firstText other ls)) lines-first
-      ∙ ap keyOfText (first-append other (lines (r .front)) (removed ∷ lines (r .back)) ∙ middle ∙ sym (first-append other (lines (r .front)) (lines (r .back))))
+      ∙ ap keyOfText
+      (first-append other (lines (r .front)) (removed ∷ lines (r .back)) ∙ middle ∙ sym (first-append other (lines (r .front)) (lines (r .back))))
       ∙ ap (λ (ls : List (List ℕ)). keyOfText (firstText other ls)) (sym lines-second)
     where
-      middle : orElse (firstText other (lines (r .front))) (firstText other (removed ∷ lines (r .back))) ≡ orElse (firstText other (lines (r .front))) (firstText other (lines (r .back)))
-      middle = rw (other-text other identity (r .hex) differ (r .one-colon) (every-map HexDigit _ digit-no-colon (r .hex) (key-sound (r .hex) key-valid .digits)))
+      hex-colonless : Without colon (r .hex)
+      hex-colonless = every-map HexDigit _ digit-no-colon (r .hex) (key-sound (r .hex) key-valid .digits)
+
+      middle : orElse (firstText other (lines (r .front))) (firstText other (removed ∷ lines (r .back)))
+          ≡ orElse (firstText other (lines (r .front))) (firstText other (lines (r .back)))
+      middle = rw (other-text other identity (r .hex) differ (r .one-colon) hex-colonless)
 
 -- ---- every line can be removed
 

@@ -2,7 +2,9 @@
 // starts of the lines and a fingerprint of each identity are kept, so that the bytes of two
 // identities are compared only where their fingerprints are equal.
 ghost use mathlib.Core.Path.{_≡_};
+ghost use mathlib.Core.Bool.{_&&_};
 ghost use mathlib.Core.List.{map};
+ghost use lib.Dec.{leb};
 ghost use Prim.Native.Nat.{_≤_, _+_};
 ghost use lib.ListN.{length};
 ghost use Rattle.lists.specs.Lists.{any, distinct, same};
@@ -69,17 +71,19 @@ fn repeated(
     false
 }
 
-// Whether no identity stands twice in a table of at most 256 lines.
+// Whether the table has at most 256 lines and no identity stands twice in it.
 pub(crate) fn distinct(table: &[u8]) -> bool
     requires { ⌜ length (now table) ≤ 65536 ⌝ }
-    requires { ⌜ length (lines (now table)) ≤ 256 ⌝ }
-    ensures { λ r. ⌜ r ≡ distinct same (map identityOf (lines (now (table .entry)))) ⌝ }
+    ensures { λ r. ⌜ r ≡ (leb (length (lines (now (table .entry)))) 256 && distinct same (map identityOf (lines (now (table .entry))))) ⌝ }
 {
     let mut starts = [0u32; 256];
     let mut fingerprints = [0u32; 256];
     let mut n = 0;
     let mut at = 0;
     while at < table.len() {
+        if n == 256 {
+            return false;
+        }
         let end = identity_end(table, at);
         let p = fingerprint(&table[at..end]);
         if repeated(table, &starts, &fingerprints, n, &table[at..end], p) {

@@ -21,7 +21,8 @@ module _ {A : Type 0} where
   none-sound p [] h = tt
   none-sound p (x ∷ xs) h = go (p x) refl h (none-sound p xs)
     where
-      go : (t : Bool) → p x ≡ t → (t || any p xs) ≡ false → (any p xs ≡ false → Each (λ y. p y ≡ false) xs) → (p x ≡ false) × Each (λ y. p y ≡ false) xs
+      go : (t : Bool) → p x ≡ t → (t || any p xs) ≡ false → (any p xs ≡ false → Each (λ y. p y ≡ false) xs)
+          → (p x ≡ false) × Each (λ y. p y ≡ false) xs
       go true e none ih = absurd (true≢false none)
       go false e none ih = (e, ih none)
 

@@ -50,7 +50,8 @@ module _ (a b : List ℕ) (different i : ℕ) (now : Left a b different i) where
 
     pub unlike : (getD a i 0 ≡ getD b i 0 → ⊥) → Left a b (different + 1) (i + 1)
     unlike other =
-        now ∙ rw (left-cons a i la, left-cons b i lb) (rw (ne-eqb _ _ other, and-false (eqb different 0), ne-eqb (different + 1) 0 (λ e. omega arith)))
+        now ∙ rw (left-cons a i la, left-cons b i lb)
+        (rw (ne-eqb _ _ other, and-false (eqb different 0), ne-eqb (different + 1) 0 (λ e. omega arith)))
 
   pub counted : length a ≤ i → length b ≤ i → eqb different 0 ≡ same a b
   counted la lb = sym (now ∙ rw (drop-of-length-le a la, drop-of-length-le b lb, and-true (eqb different 0)))

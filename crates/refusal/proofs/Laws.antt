@@ -38,7 +38,8 @@ refused r out = record { told = refl; left = refl }
 -- ---- for a caller
 
 -- an answer that has room stands at the front, and the rest is as it was
-pub front : {bytes out out' : List ℕ} {said : Written} → Answers (gives bytes) out said out' → length bytes ≤ length out → out' ≡ bytes ++ drop (length bytes) out
+pub front : {bytes out out' : List ℕ} {said : Written} → Answers (gives bytes) out said out' → length bytes ≤ length out
+    → out' ≡ bytes ++ drop (length bytes) out
 front a h = a .left ∙ simp (le-leb _ _ h)
 
 -- an answer as long as the memory is all of it
@@ -46,7 +47,8 @@ pub whole : {bytes out out' : List ℕ} {said : Written} → Answers (gives byte
 whole {bytes} {out} a e = front a (omega arith) ∙ rw (drop-of-length-le out {i = length bytes} (omega arith), append-nil bytes)
 
 -- it can be read there
-pub first : {bytes out out' : List ℕ} {said : Written} → Answers (gives bytes) out said out' → length bytes ≤ length out → take (length bytes) out' ≡ bytes
+pub first : {bytes out out' : List ℕ} {said : Written} → Answers (gives bytes) out said out' → length bytes ≤ length out
+    → take (length bytes) out' ≡ bytes
 first {bytes} a h = rw (front a h) (take-append-seam bytes _)
 
 -- bytes were written: all that there were
@@ -76,8 +78,8 @@ wrote-gives (gives bytes) {out} {n = n} a e =
 wrote-gives (refuses r) a e = absurd (refused-wrote (sym (a .told) ∙ e))
 
 -- a refusal, where there was room for whatever there was to be written
-pub refused-refuses : (o : Outcome) {out out' : List ℕ} {said : Written} {r : Refusal} → ((bytes : List ℕ) → o ≡ gives bytes → length bytes ≤ length out)
-    → Answers o out said out' → said ≡ Refused r → o ≡ refuses r
+pub refused-refuses : (o : Outcome) {out out' : List ℕ} {said : Written} {r : Refusal}
+    → ((bytes : List ℕ) → o ≡ gives bytes → length bytes ≤ length out) → Answers o out said out' → said ≡ Refused r → o ≡ refuses r
 refused-refuses (gives bytes) room a e = absurd (omega (arith, room bytes refl, refused-short a e))
 refused-refuses (refuses q) room a e = cc (a .told)
 

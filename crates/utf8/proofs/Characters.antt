@@ -9,12 +9,11 @@ use native.Mathlib.Numerals.{sub-one}
 use mathlib.Core.Bool.{Bool, true, false, cond, _&&_, and-false, true≢false}
 use mathlib.Core.List.{List, [], _∷_}
 use lib.ListN.{length, take, drop, getD, length-drop, drop-of-length-le}
-use lib.Seq.{take-all, drop-drop, getD-take, length-take-le}
+use lib.Seq.{take-all, getD-take, length-take-le}
 use lib.Dec.{leb, eqb}
 use borrow.Author.Tests.{eq-eqb, ne-eqb, le-leb, lt-leb}
 use Rattle.lists.specs.Lists.{each}
 use Rattle.lists.proofs.Walks.{left-cons}
-use Rattle.lists.proofs.Parts.{rest, first-of-drop, part-to-end}
 use Rattle.utf8.specs.declared.Row.{Row}
 use Rattle.utf8.specs.Utf8.{sizeOf, size, row, tail, number, allowed, character, validAfter}
 
@@ -84,12 +83,12 @@ most (suc (suc (suc zero))) = 131071
 most (suc (suc (suc (suc i)))) = 8388607
 
 pub most-first : (n a : ℕ) → 2 ≤ n → row n a .bits ≤ 31
-most-first n a h = rw (ne-eqb n 1 (λ e. omega arith)) (go (eqb n 2) (eqb n 3))
+most-first n a h = rw (ne-eqb n 1 (λ e. omega arith)) (go (eqb n 2) (eqb n 3) _ _ _ (omega arith) (omega arith) (omega arith))
   where
-    go : (t u : Bool) → cond {A = Row} t (record { bits = a % 32; least = 0x80 }) (cond u (record { bits = a % 16; least = 0x800 }) (record { bits = a % 8; least = 0x10000 })) .bits ≤ 31
-    go true u = omega arith
-    go false true = omega arith
-    go false false = omega arith
+    go : (t u : Bool) (x y z : Row) → x .bits ≤ 31 → y .bits ≤ 31 → z .bits ≤ 31 → cond t x (cond u y z) .bits ≤ 31
+    go true u x y z p q r = p
+    go false true x y z p q r = q
+    go false false x y z p q r = r
 
 pub most-fits : (i v : ℕ) → i < 4 → v ≤ most i → v ≤ 131071
 most-fits zero v h k = omega arith
@@ -109,7 +108,7 @@ most-more (suc (suc (suc (suc i)))) v b h k l = absurd (omega arith)
 
 module _ (s : List ℕ) (n : ℕ) (some : 0 < length s) (e : n ≡ size (getD s 0 0)) (good : character (take n s) ≡ true) where
   -- a character has a byte and ends within the text
-  some-bytes : 0 < n
+  pub some-bytes : 0 < n
   some-bytes = go n good
     where
       go : (m : ℕ) → character (take m s) ≡ true → 0 < m
@@ -128,7 +127,7 @@ valid-skip (suc k) [] h = absurd (omega arith)
 valid-skip (suc k) (b ∷ s) h = valid-skip k s (le-of-suc-le-suc h)
 
 -- after a character the text is as good as the rest
-valid-next : (s : List ℕ) (n : ℕ) → 0 < length s → n ≡ size (getD s 0 0) → character (take n s) ≡ true
+pub valid-next : (s : List ℕ) (n : ℕ) → 0 < length s → n ≡ size (getD s 0 0) → character (take n s) ≡ true
     → validAfter 0 s ≡ validAfter 0 (drop n s)
 valid-next [] n some e good = absurd (omega arith)
 valid-next (b ∷ s) zero some e good = absurd (true≢false (sym good))
@@ -136,7 +135,7 @@ valid-next (b ∷ s) (suc m) some e good =
     rw (← e) (rw (good, sub-one) (valid-skip m s (le-of-suc-le-suc (whole (b ∷ s) (suc m) some e good))))
 
 -- before no character no text is good
-valid-stop : (s : List ℕ) (n : ℕ) → 0 < length s → n ≡ size (getD s 0 0) → character (take n s) ≡ false → validAfter 0 s ≡ false
+pub valid-stop : (s : List ℕ) (n : ℕ) → 0 < length s → n ≡ size (getD s 0 0) → character (take n s) ≡ false → validAfter 0 s ≡ false
 valid-stop [] n some e bad = absurd (omega arith)
 valid-stop (b ∷ s) n some e bad = rw (← e) (rw bad)
 
@@ -153,30 +152,3 @@ size-small n = either (eqb n 0) 1 _ (omega arith) inner
       | yes h ↦ either (leb 2 n && leb n 4) n 0 h (omega arith)
       | no h ↦ simp (lt-leb n 4 (omega arith), and-false) (omega arith)
     ]
-
--- a turn of the loop over a text: the character at `at` has n bytes as its first byte has it
-module _ (s : List ℕ) (at n : ℕ) (h : at < length s) (e : n ≡ size (getD s at 0)) where
-  some-left : 0 < length (rest s at)
-  some-left = rw (part-to-end s at) (simp length-drop (omega arith))
-
-  size-left : n ≡ size (getD (rest s at) 0 0)
-  size-left = e ∙ ap size (sym (ap (λ (l : List ℕ). getD l 0 0) (part-to-end s at) ∙ first-of-drop s at))
-
-  pub turn-begins : (0 < length (rest s at)) × (n ≡ size (getD (rest s at) 0 0))
-  turn-begins = (some-left, size-left)
-
-  pub turn-ends : character (take n (rest s at)) ≡ false → validAfter 0 s ≡ validAfter 0 (drop at s) → false ≡ validAfter 0 s
-  turn-ends bad now =
-      sym (now ∙ ap (λ (l : List ℕ). validAfter 0 l) (sym (part-to-end s at)) ∙ valid-stop (rest s at) n some-left size-left bad)
-
-  module _ (good : character (take n (rest s at)) ≡ true) where
-    pub turn-moves : 0 < n
-    turn-moves = some-bytes (rest s at) n some-left size-left good
-
-    pub turn-within : at + n ≤ length s
-    turn-within = omega (arith, simp (part-to-end s at, length-drop) at (whole (rest s at) n some-left size-left good))
-
-    pub turn-again : validAfter 0 s ≡ validAfter 0 (drop at s) → validAfter 0 s ≡ validAfter 0 (drop (at + n) s)
-    turn-again now =
-        now ∙ ap (λ (l : List ℕ). validAfter 0 l) (sym (part-to-end s at)) ∙ valid-next (rest s at) n some-left size-left good
-        ∙ ap (λ (l : List ℕ). validAfter 0 l) (ap (λ (l : List ℕ). drop n l) (part-to-end s at) ∙ drop-drop n at s)

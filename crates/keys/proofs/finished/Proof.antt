@@ -21,7 +21,8 @@ unfolding verifyData
 returns-3 c =
     let at-label = c .before .before .before .before in
     let tests = at-label .before in
-    simp (eq-eqb _ _ (tests .before .if1 .left), eq-eqb _ _ (tests .if2 .left)) (rw (at-label .finished-label .ensures) at (c .before .before .prf .ensures))
+    simp (eq-eqb _ _ (tests .before .if1 .left), eq-eqb _ _ (tests .if2 .left))
+    (rw (at-label .finished-label .ensures) at (c .before .before .prf .ensures))
 
 pub finished-spec : {M : Type 1} → statement M
 finished-spec =

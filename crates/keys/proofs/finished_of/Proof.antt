@@ -10,7 +10,8 @@ use Rattle.keys.proofs.finished_of.Tie as tie
 returns : tie.Need-returns
 returns c =
     let told = c .before .before .before .before .before in
-    rw (sized-gives _ (hash-sized _) refl (told .before .before .before .hash-of .ensures) (told .enum-told .given .1)) (c .before .before .finished .ensures)
+    rw (sized-gives _ (hash-sized _) refl (told .before .before .before .hash-of .ensures) (told .enum-told .given .1))
+    (c .before .before .finished .ensures)
 
 returns-2 : tie.Need-returns-2
 returns-2 c =

@@ -22,7 +22,8 @@ returns-3 c =
     let at-prf = c .before .before in
     let tests = at-prf .before .before in
     let size = tests .before .key-block-length .ensures in
-    simp (eq-eqb _ _ (tests .before .before .if1 .left), le-leb _ _ (rw size at (tests .if2 .left)), and-true) (rw size at (at-prf .prf-of-randoms .ensures))
+    simp (eq-eqb _ _ (tests .before .before .if1 .left), le-leb _ _ (rw size at (tests .if2 .left)), and-true)
+    (rw size at (at-prf .prf-of-randoms .ensures))
 
 pub key-block-spec : {M : Type 1} → statement M
 key-block-spec =

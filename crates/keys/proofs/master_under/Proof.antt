@@ -29,7 +29,8 @@ slice-aggregate-master c =
 returns : tie.Need-returns
 returns c =
     let at-n = c .before .before .before .before .before .before in
-    rw (wrote-gives (premaster _) (at-n .before .before .before .premaster .ensures) (at-n .n .given .1) .1) (c .before .before .master .ensures)
+    rw (wrote-gives (premaster _) (at-n .before .before .before .premaster .ensures) (at-n .n .given .1) .1)
+    (c .before .before .master .ensures)
 
 returns-2 : tie.Need-returns-2
 returns-2 c =

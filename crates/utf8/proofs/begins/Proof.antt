@@ -8,7 +8,8 @@ use mathlib.Core.List.{List}
 use lib.ListN.{length, getD}
 use Rattle.lists.proofs.Tests.{failed, passed}
 use Rattle.utf8.specs.Utf8.{leadingOnes, size}
-use Rattle.utf8.proofs.Characters.{Left, cut-off, single, left-start, left-more, left-stop, left-end, size-small, most, most-first, most-fits, most-more}
+use Rattle.utf8.proofs.Characters.{Left, cut-off, single, left-start, left-more, left-stop, left-end, size-small}
+use Rattle.utf8.proofs.Characters.{most, most-first, most-fits, most-more}
 use Rattle.utf8.proofs.begins.Statement.{statement}
 use Rattle.utf8.proofs.begins.Tie as tie
 
@@ -26,14 +27,17 @@ returns-2 c = let p = c .before .before .before .pre in sym (cut-off _ _ (p .1) 
 
 -- where the first byte's row is known
 module _ (c : tie.After-row-of Inv-loop μ-loop) where
+  abbrev start : tie.Start Inv-loop μ-loop
+  start = c .before .before .before .before .before
+
   abbrev text : List ℕ
-  text = c .before .before .before .before .before .args .s .now
+  text = start .args .s .now
 
   abbrev count : ℕ
-  count = c .before .before .before .before .before .args .n
+  count = start .args .n
 
   sized : count ≡ size (getD text 0 0)
-  sized = c .before .before .before .before .before .pre .1
+  sized = start .pre .1
 
   inside : count ≤ length text
   inside = c .before .before .if2 .left

@@ -7,11 +7,12 @@ use native.Mathlib.Omega.{arith}
 use mathlib.Core.Bool.{true}
 use mathlib.Core.List.{List}
 use denote.Ref.{now}
-use lib.ListN.{length, take, drop, drop-of-length-le}
-use Rattle.utf8.specs.Utf8.{character, validAfter, validUtf8}
-use Rattle.lists.proofs.Parts.{rest}
+use lib.ListN.{length, take, drop, getD, length-drop, drop-of-length-le}
+use lib.Seq.{drop-drop}
+use Rattle.utf8.specs.Utf8.{size, character, validAfter, validUtf8}
+use Rattle.lists.proofs.Parts.{first-of-drop, part-to-end}
 use Rattle.lists.proofs.Tests.{failed, passed}
-use Rattle.utf8.proofs.Characters.{turn-begins, turn-ends, turn-moves, turn-within, turn-again}
+use Rattle.utf8.proofs.Characters.{some-bytes, whole, valid-next, valid-stop}
 use Rattle.utf8.proofs.valid_utf8.Statement.{statement}
 use Rattle.utf8.proofs.valid_utf8.Tie as tie
 
@@ -21,39 +22,54 @@ Inv-loop s at₀ at = (at ≤ length s) × (validAfter 0 s ≡ validAfter 0 (dro
 abbrev μ-loop : tie.MeasureT-loop
 μ-loop s at₀ at = length s - at
 
--- the text, and where a turn stands in it
-abbrev text : tie.After-size Inv-loop μ-loop → List ℕ
-text c = now (c .before .before .before .before .before .args .s)
+-- the text, and what is left of it at a turn
+module _ (c : tie.After-size Inv-loop μ-loop) where
+  abbrev at-loop : tie.At-loop Inv-loop μ-loop
+  at-loop = c .before .before .before
 
-abbrev place : tie.After-size Inv-loop μ-loop → ℕ
-place c = c .before .before .before .loop .at
+  abbrev text : List ℕ
+  text = now (at-loop .before .before .args .s)
+
+  abbrev place : ℕ
+  place = at-loop .loop .at
+
+  abbrev left : List ℕ
+  left = drop place text
+
+  some-left : 0 < length left
+  some-left = rw length-drop (omega (arith, c .before .before .loop-test .taken))
+
+  size-left : c .size .result ≡ size (getD left 0 0)
+  size-left = c .size .ensures ∙ ap size (sym (first-of-drop text place))
 
 begins-requires : tie.Need-begins-requires Inv-loop μ-loop
-begins-requires c κs = turn-begins (text (c .before)) _ _ (c .before .before .before .loop-test .taken) (c .before .size .ensures)
+begins-requires c κs = let t = c .before in rw (part-to-end (text t) (place t)) (some-left t, size-left t)
 
 returns : tie.Need-returns Inv-loop μ-loop
 unfolding validUtf8
 returns c =
     let t = c .before .before .before in
-    turn-ends (text t) _ _ (t .before .before .loop-test .taken) (t .size .ensures)
-    (failed _ _ (c .before .begins .ensures) (c .if1 .taken))
-    (t .before .before .before .loop .inv .1)
+    let bad = rw (part-to-end (text t) (place t)) at (failed _ _ (c .before .begins .ensures) (c .if1 .taken)) in
+    sym (at-loop t .loop .inv .1 ∙ valid-stop (left t) _ (some-left t) (size-left t) bad)
 
+-- after a character
 module _ (c : tie.Else1 Inv-loop μ-loop) where
   abbrev t : tie.After-size Inv-loop μ-loop
   t = c .before .before .before
 
-  good : character (take (t .size .result) (rest (text t) (place t))) ≡ true
-  good = passed _ _ (c .before .begins .ensures) (c .if1 .left)
+  good : character (take (t .size .result) (left t)) ≡ true
+  good = rw (part-to-end (text t) (place t)) at (passed _ _ (c .before .begins .ensures) (c .if1 .left))
 
   moves : 0 < t .size .result
-  moves = turn-moves (text t) _ _ (t .before .before .loop-test .taken) (t .size .ensures) good
+  moves = some-bytes (left t) _ (some-left t) (size-left t) good
 
   within : place t + t .size .result ≤ length (text t)
-  within = turn-within (text t) _ _ (t .before .before .loop-test .taken) (t .size .ensures) good
+  within = omega (arith, length-drop (place t) (text t), whole (left t) _ (some-left t) (size-left t) good)
 
   again : validAfter 0 (text t) ≡ validAfter 0 (drop (place t + t .size .result) (text t))
-  again = turn-again (text t) _ _ (t .before .before .loop-test .taken) (t .size .ensures) good (t .before .before .before .loop .inv .1)
+  again =
+      at-loop t .loop .inv .1 ∙ valid-next (left t) _ (some-left t) (size-left t) good
+      ∙ ap (λ (l : List ℕ). validAfter 0 l) (drop-drop (t .size .result) (place t) (text t))
 
 add-at : tie.Need-add-at Inv-loop μ-loop
 add-at c = let w = within c in search needs

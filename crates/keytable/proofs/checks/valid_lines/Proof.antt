@@ -36,7 +36,8 @@ module _ (c : tie.After-line-end Inv-loop μ-loop) where
 returns : tie.Need-returns Inv-loop μ-loop
 returns c =
     let turn = c .before .before .before in
-    each-stop validLine (lines (table turn)) _ (turn .before .before .loop .inv .1) (here turn) (failed _ _ (c .before .valid-line .ensures) (c .if1 .taken))
+    each-stop validLine (lines (table turn)) _ (turn .before .before .loop .inv .1) (here turn)
+    (failed _ _ (c .before .valid-line .ensures) (c .if1 .taken))
 
 add-at : tie.Need-add-at Inv-loop μ-loop
 add-at c = let w = within (c .before .before .before) in search needs
@@ -46,7 +47,8 @@ loop-again c =
     let turn = c .before .before .before in
     let w = within turn in (
       search needs,
-      each-more validLine (lines (table turn)) _ (turn .before .before .loop .inv .1) (here turn) (passed _ _ (c .before .valid-line .ensures) (c .if1 .left)),
+      each-more validLine (lines (table turn)) _ (turn .before .before .loop .inv .1) (here turn)
+          (passed _ _ (c .before .valid-line .ensures) (c .if1 .left)),
     )
 
 returns-2 : tie.Need-returns-2 Inv-loop μ-loop

@@ -1,8 +1,8 @@
--- `keytable::checks::plain`: each return is what its tests leave of the definition.
+-- `keytable::classes::plain`: each return is what its tests leave of the definition.
 -- Assumes nothing.
 use borrow.Author.Tests.{le-leb, lt-leb, eq-eqb, ne-eqb}
-use Rattle.keytable.proofs.checks.plain.Statement.{statement}
-use Rattle.keytable.proofs.checks.plain.Tie as tie
+use Rattle.keytable.proofs.classes.plain.Statement.{statement}
+use Rattle.keytable.proofs.classes.plain.Tie as tie
 
 returns : tie.Need-returns
 returns c = simp (lt-leb _ _ (c .if1 .taken))
