@@ -12,24 +12,23 @@ use lib.Dec.{leb, eqb}
 use borrow.Author.Tests.{le-leb, leb-true}
 use Rattle.endian.specs.Number.{Bytes, number}
 use Rattle.endian.specs.Vector.{vector, writable}
-use Rattle.refusal.specs.declared.Refusal.{Refusal}
-use Rattle.messages.specs.declared.Verdict.{Verdict}
-use Rattle.messages.specs.declared.Part.{Part}
-use Rattle.messages.specs.declared.Part.the-variants.{At}
+use Rattle.layout.specs.declared.Verdict.{Verdict}
+use Rattle.layout.specs.declared.Part.{Part}
+use Rattle.layout.specs.declared.Part.the-variants.{At}
 use Rattle.messages.specs.declared.hello.Block.{Block}
 use Rattle.messages.specs.declared.hello.BlockFound.{BlockFound}
 use Rattle.messages.specs.declared.hello.BlockFound.the-variants.{Found}
 use Rattle.messages.specs.declared.client_hello.Client.{Client}
 use Rattle.messages.specs.declared.client_hello.Client.the-variants.{Read}
-use Rattle.messages.specs.Layout.{bytes, valid, Inverse}
-use Rattle.messages.specs.Header.{header}
-use Rattle.messages.specs.Place.{endAt, partAt, ruled}
+use Rattle.layout.specs.Layout.{bytes, valid, Inverse}
+use Rattle.layout.specs.Header.{header}
+use Rattle.layout.specs.Place.{endAt, partAt, ruled}
 use Rattle.messages.specs.Hello.{frontRules, frontBytes, sessionAt, blockRules, tailBytes, blockAt, blockContents}
 use Rattle.messages.specs.ClientHello.{ClientHello, clientHello, suitesLength, methodsLength}
 use Rattle.messages.specs.ClientHello.{clientBlock, clientMethods, clientSuites, clientSession, clientBody, clientHeader, clientPlace, clientFields, readClientHello}
-use Rattle.messages.proofs.Layouts.{valid-within, valid-parts}
-use Rattle.messages.proofs.Headers.{header-message, header-read}
-use Rattle.messages.proofs.Places.{part-there, ruled-there, ruled-inside, vector-at, part-written}
+use Rattle.layout.proofs.Layouts.{valid-within, valid-parts}
+use Rattle.layout.proofs.Headers.{header-message, header-read}
+use Rattle.layout.proofs.Places.{part-there, ruled-there, ruled-inside, vector-at, part-written}
 use Rattle.messages.proofs.Hellos.{front-written, front-read, front-rules, length-body, block-written, block-read}
 
 -- ---- where the parts stand
@@ -40,25 +39,25 @@ Parts m x n s k t j b = (sessionAt m ≡ At x n) × (ruled suitesLength (partAt 
     × (blockAt true m (t + j) ≡ Found b)
 
 -- what holds of every refusal and wherever the parts stand so holds of what is found
-module _ (m : List ℕ) (Holds : Client → Type 0) (refused : (r : Refusal) → Holds (Client.Refused r))
+module _ (m : List ℕ) (Holds : Client → Type 0) (refused : Holds Client.Refused)
     (read : (x n s k t j : ℕ) (b : Block) → Parts m x n s k t j b → Holds (Read (number (take 2 (drop 4 m))) n s k t j b)) where
   by-block : (x n s k t j : ℕ) (o : BlockFound) → sessionAt m ≡ At x n → ruled suitesLength (partAt 2 m (x + n)) ≡ At s k
       → ruled methodsLength (partAt 1 m (s + k)) ≡ At t j → blockAt true m (t + j) ≡ o → Holds (clientBlock m n s k t j o)
   by-block x n s k t j (Found b) session suites methods block = read x n s k t j b (session, suites, methods, block)
-  by-block x n s k t j (BlockFound.Refused r) session suites methods block = refused r
+  by-block x n s k t j BlockFound.Refused session suites methods block = refused
 
   by-methods : (x n s k : ℕ) (p : Part) → sessionAt m ≡ At x n → ruled suitesLength (partAt 2 m (x + n)) ≡ At s k
       → ruled methodsLength (partAt 1 m (s + k)) ≡ p → Holds (clientMethods m n s k p)
   by-methods x n s k (At t j) session suites methods = by-block x n s k t j (blockAt true m (t + j)) session suites methods refl
-  by-methods x n s k (Part.Refused r) session suites methods = refused r
+  by-methods x n s k Part.Refused session suites methods = refused
 
   by-suites : (x n : ℕ) (p : Part) → sessionAt m ≡ At x n → ruled suitesLength (partAt 2 m (x + n)) ≡ p → Holds (clientSuites m n p)
   by-suites x n (At s k) session suites = by-methods x n s k (ruled methodsLength (partAt 1 m (s + k))) session suites refl
-  by-suites x n (Part.Refused r) session suites = refused r
+  by-suites x n Part.Refused session suites = refused
 
   by-session : (p : Part) → sessionAt m ≡ p → Holds (clientSession m p)
   by-session (At x n) session = by-suites x n (ruled suitesLength (partAt 2 m (x + n))) session refl
-  by-session (Part.Refused r) session = refused r
+  by-session Part.Refused session = refused
 
   by-parts : Holds (clientBody m)
   by-parts = by-session (sessionAt m) refl
@@ -70,8 +69,8 @@ Inside m s k t j = (38 ≤ length m) × (s + k ≤ length m) × (t + j ≤ lengt
 pub parts-inside : (m : List ℕ) (v n s k t j : ℕ) (b : Block) → clientBody m ≡ Read v n s k t j b → Inside m s k t j
 parts-inside m v n s k t j b = by-parts m (λ p. p ≡ Read v n s k t j b → Inside m s k t j) unread inside
   where
-    unread : (r : Refusal) → Client.Refused r ≡ Read v n s k t j b → Inside m s k t j
-    unread r e = absurd (let z : _≡_ {A = ℕ} 0 1 = cc in omega arith)
+    unread : Client.Refused ≡ Read v n s k t j b → Inside m s k t j
+    unread e = absurd (let z : _≡_ {A = ℕ} 0 1 = cc in omega arith)
 
     inside : (x n₀ s₀ k₀ t₀ j₀ : ℕ) (b₀ : Block) → Parts m x n₀ s₀ k₀ t₀ j₀ b₀
         → Read (number (take 2 (drop 4 m))) n₀ s₀ k₀ t₀ j₀ b₀ ≡ Read v n s k t j b → Inside m s k t j
@@ -190,7 +189,7 @@ module _ (m : List ℕ) (f : ClientHello) (b : Bytes m) where
       rw same (valid-within clientHello read rules (rw body at (head .1)), rw body at (head .0))
 
   writes : (v : Verdict) → header 1 m ≡ v → Writes (clientHeader m v)
-  writes Verdict.Accepted a = by-parts m Writes (λ r e. absurd (Option·none-ne-some f e)) (writes-parts a)
+  writes Verdict.Accepted a = by-parts m Writes (λ e. absurd (Option·none-ne-some f e)) (writes-parts a)
   writes (Verdict.Refused r) a = λ e. absurd (Option·none-ne-some f e)
 
 pub client-inverse : Inverse clientHello readClientHello

@@ -14,18 +14,17 @@ use borrow.Author.Tests.{ltb-true, leb-true, eqb-true, lt-ltb, le-leb, eq-eqb, n
 use Rattle.endian.specs.Number.{Bytes, be, number}
 use Rattle.endian.specs.Vector.{vector, writable, stated}
 use Rattle.endian.proofs.Numbers.{number-be-lt, number-lt, be-number-at, bytes-take, bytes-drop}
-use Rattle.refusal.specs.declared.Refusal.the-variants.{DecodeError}
-use Rattle.messages.specs.declared.Part.{Part}
-use Rattle.messages.specs.declared.Part.the-variants.{At}
+use Rattle.layout.specs.declared.Part.{Part}
+use Rattle.layout.specs.declared.Part.the-variants.{At}
 use Rattle.messages.specs.declared.hello.Block.{Block}
 use Rattle.messages.specs.declared.hello.BlockFound.{BlockFound}
 use Rattle.messages.specs.declared.hello.BlockFound.the-variants.{Found}
-use Rattle.messages.specs.Extensions.{blockRule}
-use Rattle.messages.specs.Place.{endAt, partAt, lastAt}
-use Rattle.messages.specs.Layout.{message}
+use Rattle.extensions.specs.Extensions.{blockRule}
+use Rattle.layout.specs.Place.{endAt, partAt, lastAt}
+use Rattle.layout.specs.Layout.{message}
 use Rattle.messages.specs.Hello.{frontRules, frontBytes, sessionAt, blockRules, tailBytes, blockIn, blockAt, blockContents, given}
-use Rattle.messages.proofs.Places.{part-there, ruled-there, last-there, vector-at, vector-last, part-written}
-use Rattle.messages.proofs.Puts.{front, behind}
+use Rattle.layout.proofs.Places.{part-there, ruled-there, last-there, vector-at, vector-last, part-written}
+use Rattle.layout.proofs.Puts.{front, behind}
 
 pub front-rules : (version : ℕ) (random id : List ℕ) → frontRules version random id ≡ true
     → (version < 65536) × (length random ≡ 32) × (length id ≤ 32)
@@ -100,7 +99,7 @@ abbrev Tail : Bool → List ℕ → ℕ → Block → Type 0
 Tail client m at b = (drop at m ≡ tailBytes (blockContents m b)) × (blockRules client (blockContents m b) ≡ true)
 
 block-there : (client : Bool) (m : List ℕ) (at : ℕ) (b : Block) (s n : ℕ) (t : Bool) → Bytes m → lastAt 2 m at ≡ At s n
-    → blockRule client (take n (drop s m)) ≡ t → cond t (Found (Block.At s n)) (BlockFound.Refused DecodeError) ≡ Found b → Tail client m at b
+    → blockRule client (take n (drop s m)) ≡ t → cond t (Found (Block.At s n)) BlockFound.Refused ≡ Found b → Tail client m at b
 block-there client m at b s n true h l r e =
     let same : b ≡ Block.At s n = cc e in
     let there = last-there 2 m at s n l in
@@ -111,7 +110,7 @@ block-there client m at b s n false h l r e = absurd (let z : _≡_ {A = ℕ} 0 
 
 block-in-part : (client : Bool) (m : List ℕ) (at : ℕ) (b : Block) (p : Part) → Bytes m → lastAt 2 m at ≡ p → blockIn client m p ≡ Found b → Tail client m at b
 block-in-part client m at b (At s n) h l e = block-there client m at b s n (blockRule client (take n (drop s m))) h l refl e
-block-in-part client m at b (Part.Refused r) h l e = absurd (let z : _≡_ {A = ℕ} 0 1 = cc e in omega arith)
+block-in-part client m at b Part.Refused h l e = absurd (let z : _≡_ {A = ℕ} 0 1 = cc e in omega arith)
 
 pub block-read : (client : Bool) (m : List ℕ) (at : ℕ) (b : Block) → Bytes m → blockAt client m at ≡ Found b
     → (drop at m ≡ tailBytes (blockContents m b)) × (blockRules client (blockContents m b) ≡ true)

@@ -13,18 +13,18 @@ use lib.Dec.{ltb}
 use borrow.Author.Tests.{ltb-true, lt-ltb, le-leb, lt-leb}
 use Rattle.endian.specs.Number.{Bytes, be, number}
 use Rattle.endian.proofs.Numbers.{number-be-lt, number-lt, be-number-at, bytes-take, bytes-drop}
-use Rattle.messages.specs.declared.Verdict.{Verdict}
-use Rattle.messages.specs.declared.Part.{Part}
-use Rattle.messages.specs.declared.Part.the-variants.{At}
+use Rattle.layout.specs.declared.Verdict.{Verdict}
+use Rattle.layout.specs.declared.Part.{Part}
+use Rattle.layout.specs.declared.Part.the-variants.{At}
 use Rattle.messages.specs.declared.hello.BlockFound.{BlockFound}
 use Rattle.messages.specs.declared.hello.BlockFound.the-variants.{Found}
 use Rattle.messages.specs.declared.server_hello.Server.the-variants.{Read, Refused}
-use Rattle.messages.specs.Layout.{bytes, valid, Inverse}
-use Rattle.messages.specs.Header.{header}
+use Rattle.layout.specs.Layout.{bytes, valid, Inverse}
+use Rattle.layout.specs.Header.{header}
 use Rattle.messages.specs.Hello.{frontRules, frontBytes, sessionAt, blockRules, tailBytes, blockAt, blockContents}
 use Rattle.messages.specs.ServerHello.{ServerHello, serverHello, serverBlock, serverSession, serverHeader, serverPlace, serverFields, readServerHello}
-use Rattle.messages.proofs.Layouts.{valid-within, valid-parts}
-use Rattle.messages.proofs.Headers.{header-message, header-read}
+use Rattle.layout.proofs.Layouts.{valid-within, valid-parts}
+use Rattle.layout.proofs.Headers.{header-message, header-read}
 use Rattle.messages.proofs.Hellos.{front-written, front-read, block-written, block-read, length-body, front-rules}
 
 -- ---- reading what was written
@@ -110,7 +110,7 @@ module _ (m : List ℕ) (f : ServerHello) (b : Bytes m) (accepted : header 2 m �
       let rules : serverHello .rules read ≡ true =
       rw (front .3, lt-ltb (read .suite) 65536 (chosen .1), lt-ltb (read .compression) 256 (b (41 + n))) (block .1) in
       rw same (valid-within serverHello read rules (rw body at (head .1)), rw body at (head .0))
-  from-block s n (BlockFound.Refused r) session fits found e = absurd (Option·none-ne-some f e)
+  from-block s n BlockFound.Refused session fits found e = absurd (Option·none-ne-some f e)
 
   from-session : (p : Part) → sessionAt m ≡ p → serverFields m (serverSession m p) ≡ some f → Wrote m f
   from-session (At s n) session e = elim (decLe (42 + n) (length m)) [
@@ -119,7 +119,7 @@ module _ (m : List ℕ) (f : ServerHello) (b : Bytes m) (accepted : header 2 m �
         let over : length m < 42 + n = omega arith in
         absurd (Option·none-ne-some f (rw (lt-leb (42 + n) (length m) over) at e))
   ]
-  from-session (Part.Refused r) session e = absurd (Option·none-ne-some f e)
+  from-session Part.Refused session e = absurd (Option·none-ne-some f e)
 
 from-header : (m : List ℕ) (f : ServerHello) (v : Verdict) → Bytes m → header 2 m ≡ v → serverFields m (serverHeader m v) ≡ some f → Wrote m f
 from-header m f Verdict.Accepted b a e = from-session m f b a (sessionAt m) refl e

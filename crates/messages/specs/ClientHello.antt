@@ -7,15 +7,15 @@ use lib.ListN.{length, take, drop}
 use lib.Dec.{leb, eqb}
 use Rattle.endian.specs.Number.{number}
 use Rattle.endian.specs.Vector.{vector, writable}
-use Rattle.refusal.specs.declared.Refusal.the-variants.{DecodeError}
-use Rattle.messages.specs.declared.Verdict.{Verdict}
-use Rattle.messages.specs.declared.Part.{Part}
+use Rattle.layout.specs.declared.Verdict.{Verdict}
+use Rattle.layout.specs.declared.Part.{Part}
 use Rattle.messages.specs.declared.hello.BlockFound.{BlockFound}
 use Rattle.messages.specs.declared.client_hello.Client.{Client}
 use Rattle.messages.specs.declared.client_hello.Client.the-variants.{Read, Refused}
-use Rattle.messages.specs.Layout.{Layout}
-use Rattle.messages.specs.Header.{header}
-use Rattle.messages.specs.Place.{partAt, ruled}
+use Rattle.layout.specs.Types.{clientHelloType}
+use Rattle.layout.specs.Layout.{Layout}
+use Rattle.layout.specs.Header.{header}
+use Rattle.layout.specs.Place.{partAt, ruled}
 use Rattle.messages.specs.Hello.{frontRules, frontBytes, sessionAt, blockRules, tailBytes, blockAt, blockContents, given}
 
 -- the suites are two bytes each, the compression methods one
@@ -37,7 +37,7 @@ methodsLength n = leb 1 n
 
 abbrev pub clientHello : Layout ClientHello
 clientHello = record {
-  kind = 1;
+  kind = clientHelloType;
   rules = λ f. frontRules (f .version) (f .random) (f .sessionId)
       && ((writable 2 (f .suites) && suitesLength (length (f .suites)))
       && ((writable 1 (f .methods) && methodsLength (length (f .methods))) && blockRules true (f .extensions)));
@@ -59,29 +59,29 @@ clientGiven version random sessionId suites methods present b = record {
 
 abbrev pub clientBlock : List ℕ → ℕ → ℕ → ℕ → ℕ → ℕ → BlockFound → Client
 clientBlock m n s k t j (BlockFound.Found b) = Read (number (take 2 (drop 4 m))) n s k t j b
-clientBlock m n s k t j (BlockFound.Refused r) = Refused r
+clientBlock m n s k t j BlockFound.Refused = Refused
 
 abbrev pub clientMethods : List ℕ → ℕ → ℕ → ℕ → Part → Client
 clientMethods m n s k (Part.At t j) = clientBlock m n s k t j (blockAt true m (t + j))
-clientMethods m n s k (Part.Refused r) = Refused r
+clientMethods m n s k Part.Refused = Refused
 
 abbrev pub clientSuites : List ℕ → ℕ → Part → Client
 clientSuites m n (Part.At s k) = clientMethods m n s k (ruled methodsLength (partAt 1 m (s + k)))
-clientSuites m n (Part.Refused r) = Refused r
+clientSuites m n Part.Refused = Refused
 
 abbrev pub clientSession : List ℕ → Part → Client
 clientSession m (Part.At start n) = clientSuites m n (ruled suitesLength (partAt 2 m (start + n)))
-clientSession m (Part.Refused r) = Refused r
+clientSession m Part.Refused = Refused
 
 abbrev pub clientBody : List ℕ → Client
 clientBody m = clientSession m (sessionAt m)
 
 abbrev pub clientHeader : List ℕ → Verdict → Client
 clientHeader m Verdict.Accepted = clientBody m
-clientHeader m (Verdict.Refused r) = Refused DecodeError
+clientHeader m (Verdict.Refused r) = Refused
 
 abbrev pub clientPlace : List ℕ → Client
-clientPlace m = clientHeader m (header 1 m)
+clientPlace m = clientHeader m (header clientHelloType m)
 
 -- the fields that a reader finds
 abbrev pub clientFields : List ℕ → Client → Option ClientHello
@@ -93,7 +93,7 @@ clientFields m (Read version n s k t j b) = some (record {
   methods = take j (drop t m);
   extensions = blockContents m b;
 })
-clientFields m (Refused r) = none
+clientFields m Refused = none
 
 abbrev pub readClientHello : List ℕ → Option ClientHello
 readClientHello m = clientFields m (clientPlace m)

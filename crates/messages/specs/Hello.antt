@@ -8,13 +8,12 @@ use lib.ListN.{length, take, drop}
 use lib.Dec.{leb, ltb, eqb}
 use Rattle.endian.specs.Number.{be}
 use Rattle.endian.specs.Vector.{vector, writable}
-use Rattle.refusal.specs.declared.Refusal.the-variants.{DecodeError}
-use Rattle.messages.specs.declared.Part.{Part}
-use Rattle.messages.specs.declared.Part.the-variants.{At, Refused}
+use Rattle.layout.specs.declared.Part.{Part}
+use Rattle.layout.specs.declared.Part.the-variants.{At, Refused}
 use Rattle.messages.specs.declared.hello.Block.{Block}
 use Rattle.messages.specs.declared.hello.BlockFound.{BlockFound}
-use Rattle.messages.specs.Place.{partAt, lastAt, ruled}
-use Rattle.messages.specs.Extensions.{blockRule}
+use Rattle.layout.specs.Place.{partAt, lastAt, ruled}
+use Rattle.extensions.specs.Extensions.{blockRule}
 
 -- ---- the fields in front
 
@@ -42,8 +41,8 @@ tailBytes (some b) = vector 2 b
 
 abbrev pub blockIn : Bool → List ℕ → Part → BlockFound
 blockIn client m (At start len) =
-    cond (blockRule client (take len (drop start m))) (BlockFound.Found (Block.At start len)) (BlockFound.Refused DecodeError)
-blockIn client m (Refused r) = BlockFound.Refused r
+    cond (blockRule client (take len (drop start m))) (BlockFound.Found (Block.At start len)) BlockFound.Refused
+blockIn client m Refused = BlockFound.Refused
 
 -- the block from `at` to the end of the message
 abbrev pub blockAt : Bool → List ℕ → ℕ → BlockFound

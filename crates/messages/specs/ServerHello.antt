@@ -6,14 +6,14 @@ use mathlib.Core.Option.{Option, none, some}
 use lib.ListN.{length, getD, take, drop}
 use lib.Dec.{leb, ltb}
 use Rattle.endian.specs.Number.{be, number}
-use Rattle.refusal.specs.declared.Refusal.the-variants.{DecodeError}
-use Rattle.messages.specs.declared.Verdict.{Verdict}
-use Rattle.messages.specs.declared.Part.{Part}
+use Rattle.layout.specs.declared.Verdict.{Verdict}
+use Rattle.layout.specs.declared.Part.{Part}
 use Rattle.messages.specs.declared.hello.BlockFound.{BlockFound}
 use Rattle.messages.specs.declared.server_hello.Server.{Server}
 use Rattle.messages.specs.declared.server_hello.Server.the-variants.{Read, Refused}
-use Rattle.messages.specs.Layout.{Layout}
-use Rattle.messages.specs.Header.{header}
+use Rattle.layout.specs.Types.{serverHelloType}
+use Rattle.layout.specs.Layout.{Layout}
+use Rattle.layout.specs.Header.{header}
 use Rattle.messages.specs.Hello.{frontRules, frontBytes, sessionAt, blockRules, tailBytes, blockAt, blockContents, given}
 
 pub record ServerHello : Type 0 where
@@ -26,7 +26,7 @@ pub record ServerHello : Type 0 where
 
 abbrev pub serverHello : Layout ServerHello
 serverHello = record {
-  kind = 2;
+  kind = serverHelloType;
   rules = λ f. frontRules (f .version) (f .random) (f .sessionId) && (ltb (f .suite) 65536 && (ltb (f .compression) 256 && blockRules false (f .extensions)));
   body = λ f. frontBytes (f .version) (f .random) (f .sessionId) (be 2 (f .suite) ++ (f .compression ∷ tailBytes (f .extensions)));
 }
@@ -46,18 +46,18 @@ serverGiven version random sessionId suite compression present b = record {
 
 abbrev pub serverBlock : List ℕ → ℕ → BlockFound → Server
 serverBlock m n (BlockFound.Found b) = Read (number (take 2 (drop 4 m))) n (number (take 2 (drop (39 + n) m))) (getD m (41 + n) 0) b
-serverBlock m n (BlockFound.Refused r) = Refused r
+serverBlock m n BlockFound.Refused = Refused
 
 abbrev pub serverSession : List ℕ → Part → Server
-serverSession m (Part.At start n) = cond (leb (42 + n) (length m)) (serverBlock m n (blockAt false m (42 + n))) (Refused DecodeError)
-serverSession m (Part.Refused r) = Refused r
+serverSession m (Part.At start n) = cond (leb (42 + n) (length m)) (serverBlock m n (blockAt false m (42 + n))) Refused
+serverSession m Part.Refused = Refused
 
 abbrev pub serverHeader : List ℕ → Verdict → Server
 serverHeader m Verdict.Accepted = serverSession m (sessionAt m)
-serverHeader m (Verdict.Refused r) = Refused DecodeError
+serverHeader m (Verdict.Refused r) = Refused
 
 abbrev pub serverPlace : List ℕ → Server
-serverPlace m = serverHeader m (header 2 m)
+serverPlace m = serverHeader m (header serverHelloType m)
 
 -- the fields that a reader finds
 abbrev pub serverFields : List ℕ → Server → Option ServerHello
@@ -69,7 +69,7 @@ serverFields m (Read version n suite compression b) = some (record {
   compression = compression;
   extensions = blockContents m b;
 })
-serverFields m (Refused r) = none
+serverFields m Refused = none
 
 abbrev pub readServerHello : List ℕ → Option ServerHello
 readServerHello m = serverFields m (serverPlace m)

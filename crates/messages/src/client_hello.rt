@@ -6,19 +6,20 @@ ghost use mathlib.Core.List.{_++_};
 ghost use lib.ListN.{length, drop};
 ghost use Rattle.endian.specs.Vector.{writable};
 ghost use Rattle.refusal.specs.Lent.{Answers};
-ghost use Rattle.messages.specs.Layout.{bytes, written};
+ghost use Rattle.layout.specs.Layout.{bytes, written};
 ghost use Rattle.messages.specs.Hello.{tailBytes, given};
-ghost use Rattle.messages.specs.declared.Part.{Part};
-ghost use Rattle.messages.specs.Place.{partAt, ruled};
+ghost use Rattle.layout.specs.declared.Part.{Part};
+ghost use Rattle.layout.specs.Place.{partAt, ruled};
 ghost use Rattle.messages.specs.ClientHello.{clientHello, suitesLength, methodsLength, clientSuites, clientSession, clientBody, clientPlace, clientGiven};
-use crate::Part;
-use crate::Verdict;
-use crate::header;
 use crate::hello;
 use crate::hello::Block;
 use crate::hello::BlockFound;
-use crate::place;
 use crate::put;
+use layout::Part;
+use layout::Verdict;
+use layout::header;
+use layout::place;
+use layout::types;
 use refusal::Refusal;
 use refusal::Written;
 
@@ -35,7 +36,7 @@ pub enum Client {
         methods_len: usize,
         block: Block,
     },
-    Refused(Refusal),
+    Refused,
 }
 
 // Where the suites stand that start at `at`.
@@ -45,14 +46,14 @@ fn suites(message: &[u8], at: usize) -> Part
     match place::part16(message, at) {
         Part::At { start, len } => {
             if len < 2 {
-                return Part::Refused(Refusal::DecodeError);
+                return Part::Refused;
             }
             if len % 2 != 0 {
-                return Part::Refused(Refusal::DecodeError);
+                return Part::Refused;
             }
             Part::At { start, len }
         }
-        Part::Refused(r) => Part::Refused(r),
+        Part::Refused => Part::Refused,
     }
 }
 
@@ -63,11 +64,11 @@ fn methods(message: &[u8], at: usize) -> Part
     match place::part8(message, at) {
         Part::At { start, len } => {
             if len < 1 {
-                return Part::Refused(Refusal::DecodeError);
+                return Part::Refused;
             }
             Part::At { start, len }
         }
-        Part::Refused(r) => Part::Refused(r),
+        Part::Refused => Part::Refused,
     }
 }
 
@@ -95,9 +96,9 @@ fn behind_suites(
                     block,
                 }
             }
-            BlockFound::Refused(r) => Client::Refused(r),
+            BlockFound::Refused => Client::Refused,
         },
-        Part::Refused(r) => Client::Refused(r),
+        Part::Refused => Client::Refused,
     }
 }
 
@@ -111,7 +112,7 @@ fn behind_session(message: &[u8], start: usize, session_len: usize) -> Client
             start: suites_start,
             len: suites_len,
         } => behind_suites(message, session_len, suites_start, suites_len),
-        Part::Refused(r) => Client::Refused(r),
+        Part::Refused => Client::Refused,
     }
 }
 
@@ -121,16 +122,16 @@ pub fn read_body(message: &[u8]) -> Client
 {
     match hello::session_id(message) {
         Part::At { start, len } => behind_session(message, start, len),
-        Part::Refused(r) => Client::Refused(r),
+        Part::Refused => Client::Refused,
     }
 }
 
 pub fn read(message: &[u8]) -> Client
     ensures { λ r. ⌜ r ≡ clientPlace (now (message .entry)) ⌝ }
 {
-    match header::test(1, message) {
+    match header::test(types::CLIENT_HELLO, message) {
         Verdict::Accepted => read_body(message),
-        Verdict::Refused(_) => Client::Refused(Refusal::DecodeError),
+        Verdict::Refused(_) => Client::Refused,
     }
 }
 
@@ -175,7 +176,14 @@ fn put_all(
     ensures { λ r. ⌜ now (out .exit) ≡ bytes clientHello (clientGiven version (now (random .entry)) (now («session_id» .entry)) (now (suites .entry)) (now (methods .entry)) present (now (block .entry)))
         ++ drop (4 + «body_len») (now (out .entry)) ⌝ }
 {
-    let at = hello::put_front(1, body_len, version, random, session_id, out);
+    let at = hello::put_front(
+        types::CLIENT_HELLO,
+        body_len,
+        version,
+        random,
+        session_id,
+        out,
+    );
     let behind = put::vector16(suites, out, at);
     let next = put::vector8(methods, out, behind);
     hello::put_tail(present, block, out, next)

@@ -6,11 +6,9 @@ ghost use lib.ListN.{length};
 ghost use lib.Seq.{paste};
 ghost use Rattle.endian.specs.Number.{be};
 ghost use Rattle.messages.specs.Hello.{sessionAt, blockAt, frontRules, frontBytes, blockRules, tailBytes, given};
-use crate::Part;
-use crate::extensions;
-use crate::place;
 use crate::put;
-use refusal::Refusal;
+use layout::Part;
+use layout::place;
 
 // The extension block of a hello. One that is absent and one that is empty are different.
 pub enum Block {
@@ -20,7 +18,7 @@ pub enum Block {
 
 pub enum BlockFound {
     Found(Block),
-    Refused(Refusal),
+    Refused,
 }
 
 // Where the session id stands.
@@ -30,11 +28,11 @@ pub(crate) fn session_id(message: &[u8]) -> Part
     match place::part8(message, 38) {
         Part::At { start, len } => {
             if 32 < len {
-                return Part::Refused(Refusal::DecodeError);
+                return Part::Refused;
             }
             Part::At { start, len }
         }
-        Part::Refused(r) => Part::Refused(r),
+        Part::Refused => Part::Refused,
     }
 }
 
@@ -48,11 +46,11 @@ pub(crate) fn tail(client: bool, message: &[u8], at: usize) -> BlockFound
     match place::last16(message, at) {
         Part::At { start, len } => {
             if !extensions::test(client, &message[start..start + len]) {
-                return BlockFound::Refused(Refusal::DecodeError);
+                return BlockFound::Refused;
             }
             BlockFound::Found(Block::At { start, len })
         }
-        Part::Refused(r) => BlockFound::Refused(r),
+        Part::Refused => BlockFound::Refused,
     }
 }
 

@@ -1,13 +1,9 @@
-// Writing the parts of a message front to back.
+// Writing the parts of a hello front to back.
 ghost use mathlib.Core.Path.{_≡_};
 ghost use Prim.Native.Nat.{_+_, _≤_, _<_};
-ghost use mathlib.Core.List.{_++_};
 ghost use lib.ListN.{length};
 ghost use lib.Seq.{paste};
 ghost use Rattle.endian.specs.Vector.{vector};
-ghost use Rattle.refusal.specs.Lent.{Answers, gives};
-use refusal::Refusal;
-use refusal::Written;
 
 // The part at its place in the output, which has room for it; the answer is where the next one goes.
 pub(crate) fn at(part: &[u8], out: &mut [u8], place: usize) -> usize
@@ -39,19 +35,4 @@ pub(crate) fn vector16(contents: &[u8], out: &mut [u8], place: usize) -> usize
     let size = endian::bytes16(contents.len());
     let next = at(&size, out, place);
     at(contents, out, next)
-}
-
-// Two parts, or R1 where the lent output is shorter than both.
-pub(crate) fn two(head: &[u8], tail: &[u8], out: &mut [u8]) -> Written
-    ensures { λ r. ⌜ Answers (gives (now (head .entry) ++ now (tail .entry))) (now (out .entry)) r (now (out .exit)) ⌝ }
-{
-    if out.len() < head.len() {
-        return Written::Refused(Refusal::ShortOutput);
-    }
-    if out.len() - head.len() < tail.len() {
-        return Written::Refused(Refusal::ShortOutput);
-    }
-    let next = at(head, out, 0);
-    let end = at(tail, out, next);
-    Written::Wrote(end)
 }

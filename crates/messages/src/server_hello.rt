@@ -4,17 +4,18 @@ ghost use Prim.Native.Nat.{_+_, _≤_};
 ghost use mathlib.Core.List.{_++_};
 ghost use lib.ListN.{length, drop};
 ghost use Rattle.refusal.specs.Lent.{Answers};
-ghost use Rattle.messages.specs.Layout.{bytes, written};
-ghost use Rattle.messages.specs.declared.Part.{Part};
+ghost use Rattle.layout.specs.Layout.{bytes, written};
+ghost use Rattle.layout.specs.declared.Part.{Part};
 ghost use Rattle.messages.specs.Hello.{sessionAt, tailBytes, given};
 ghost use Rattle.messages.specs.ServerHello.{serverHello, serverPlace, serverSession, serverGiven};
-use crate::Part;
-use crate::Verdict;
-use crate::header;
 use crate::hello;
 use crate::hello::Block;
 use crate::hello::BlockFound;
 use crate::put;
+use layout::Part;
+use layout::Verdict;
+use layout::header;
+use layout::types;
 use refusal::Refusal;
 use refusal::Written;
 
@@ -27,7 +28,7 @@ pub enum Server {
         compression: u8,
         block: Block,
     },
-    Refused(Refusal),
+    Refused,
 }
 
 // What stands behind a session id of so many bytes.
@@ -35,10 +36,10 @@ fn behind_session(message: &[u8], session_len: usize) -> Server
     ensures { λ r. ⌜ r ≡ serverSession (now (message .entry)) (Part.At 39 «session_len») ⌝ }
 {
     if message.len() < 42 {
-        return Server::Refused(Refusal::DecodeError);
+        return Server::Refused;
     }
     if message.len() - 42 < session_len {
-        return Server::Refused(Refusal::DecodeError);
+        return Server::Refused;
     }
     let version = endian::number16(message[4], message[5]);
     let suite = endian::number16(message[39 + session_len], message[40 + session_len]);
@@ -51,7 +52,7 @@ fn behind_session(message: &[u8], session_len: usize) -> Server
             compression,
             block,
         },
-        BlockFound::Refused(r) => Server::Refused(r),
+        BlockFound::Refused => Server::Refused,
     }
 }
 
@@ -60,16 +61,16 @@ fn body(message: &[u8]) -> Server
 {
     match hello::session_id(message) {
         Part::At { start: _, len } => behind_session(message, len),
-        Part::Refused(r) => Server::Refused(r),
+        Part::Refused => Server::Refused,
     }
 }
 
 pub fn read(message: &[u8]) -> Server
     ensures { λ r. ⌜ r ≡ serverPlace (now (message .entry)) ⌝ }
 {
-    match header::test(2, message) {
+    match header::test(types::SERVER_HELLO, message) {
         Verdict::Accepted => body(message),
-        Verdict::Refused(_) => Server::Refused(Refusal::DecodeError),
+        Verdict::Refused(_) => Server::Refused,
     }
 }
 
@@ -91,7 +92,14 @@ fn put_all(
     ensures { λ r. ⌜ now (out .exit) ≡ bytes serverHello (serverGiven version (now (random .entry)) (now («session_id» .entry)) suite compression present (now (block .entry)))
         ++ drop (4 + «body_len») (now (out .entry)) ⌝ }
 {
-    let at = hello::put_front(2, body_len, version, random, session_id, out);
+    let at = hello::put_front(
+        types::SERVER_HELLO,
+        body_len,
+        version,
+        random,
+        session_id,
+        out,
+    );
     let s = endian::bytes16(suite);
     let chosen = [s[0], s[1], compression];
     let next = put::at(&chosen, out, at);

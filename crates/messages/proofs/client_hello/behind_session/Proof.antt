@@ -5,7 +5,7 @@ use Prim.Native.Nat.{_+_}
 use native.Mathlib.Omega.{arith}
 use mathlib.Core.Path.{sym, _∙_}
 use Rattle.messages.specs.ClientHello.{suitesLength}
-use Rattle.messages.proofs.Places.{ruled-inside}
+use Rattle.layout.proofs.Places.{ruled-inside}
 use Rattle.messages.proofs.client_hello.behind_session.Statement.{statement}
 use Rattle.messages.proofs.client_hello.behind_session.Tie as tie
 
@@ -19,7 +19,7 @@ returns : tie.Need-returns
 returns c = rw (← c .before .before .before .before .suites .ensures, c .before .before .suites-start .given .1) (c .behind-suites .ensures)
 
 returns-2 : tie.Need-returns-2
-returns-2 c = rw (← c .before .before .before .suites .ensures, c .before .r .given .1)
+returns-2 c = rw (← c .before .before .suites .ensures, c .enum-told .given .1)
 
 pub behind-session-spec : {M : Type 1} → statement M
 behind-session-spec =

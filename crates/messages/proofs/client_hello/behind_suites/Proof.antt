@@ -6,8 +6,8 @@ use native.Mathlib.Omega.{arith}
 use mathlib.Core.Path.{_≡_, sym, _∙_}
 use lib.ListN.{length}
 use Rattle.messages.specs.ClientHello.{methodsLength}
-use Rattle.messages.proofs.Places.{ruled-inside}
-use Rattle.messages.proofs.Windows.{stated-window}
+use Rattle.layout.proofs.Places.{ruled-inside}
+use Rattle.layout.proofs.Windows.{stated-window}
 use Rattle.messages.proofs.client_hello.behind_suites.Statement.{statement}
 use Rattle.messages.proofs.client_hello.behind_suites.Tie as tie
 
@@ -34,10 +34,10 @@ returns c =
 
 returns-2 : tie.Need-returns-2
 returns-2 c =
-    rw (← c .before .before .before .before .before .before .before .methods .ensures, c .before .before .before .before .before .start .given .1, ← c .before .before .before .tail .ensures, c .before .r .given .1)
+    rw (← c .before .before .before .before .before .before .methods .ensures, c .before .before .before .before .start .given .1, ← c .before .before .tail .ensures, c .enum-told .given .1)
 
 returns-3 : tie.Need-returns-3
-returns-3 c = rw (← c .before .before .before .methods .ensures, c .before .r2 .given .1)
+returns-3 c = rw (← c .before .before .methods .ensures, c .enum-told2 .given .1)
 
 pub behind-suites-spec : {M : Type 1} → statement M
 behind-suites-spec =

@@ -12,7 +12,7 @@ returns-2 : tie.Need-returns-2
 returns-2 c = rw (← c .before .before .before .before .part8 .ensures, c .before .before .start .given .1, le-leb 1 (c .before .before .start .given .0 .1 .0) (c .if1 .left))
 
 returns-3 : tie.Need-returns-3
-returns-3 c = rw (← c .before .before .before .part8 .ensures, c .before .r .given .1)
+returns-3 c = rw (← c .before .before .part8 .ensures, c .enum-told .given .1)
 
 pub methods-spec : {M : Type 1} → statement M
 methods-spec =

@@ -7,10 +7,10 @@ use mathlib.Core.Path.{_≡_, sym, ap₂, _∙_}
 use mathlib.Core.List.{List, _++_, append-assoc}
 use lib.ListN.{length, drop, length-append}
 use Rattle.endian.specs.Vector.{vector}
-use Rattle.messages.specs.Layout.{bytes}
+use Rattle.layout.specs.Layout.{bytes}
 use Rattle.messages.specs.Hello.{frontBytes, tailBytes, given}
 use Rattle.messages.specs.ClientHello.{clientHello, clientGiven}
-use Rattle.messages.proofs.Puts.{front, behind}
+use Rattle.layout.proofs.Puts.{front, behind}
 use Rattle.messages.proofs.Hellos.{fronted, length-front, length-body, front-message, front-put}
 use Rattle.messages.proofs.client_hello.put_all.Statement.{statement}
 use Rattle.messages.proofs.client_hello.put_all.Tie as tie

@@ -3,7 +3,7 @@
 use borrow.Author.Needs.{needs}
 use mathlib.Core.Path.{sym, _∙_}
 use lib.Dec.{leb}
-use Rattle.messages.proofs.Places.{ruled-inside}
+use Rattle.layout.proofs.Places.{ruled-inside}
 use Rattle.messages.proofs.client_hello.read_body.Statement.{statement}
 use Rattle.messages.proofs.client_hello.read_body.Tie as tie
 
@@ -15,7 +15,7 @@ returns : tie.Need-returns
 returns c = rw (← c .before .before .before .before .session-id .ensures, c .before .before .start .given .1) (c .behind-session .ensures)
 
 returns-2 : tie.Need-returns-2
-returns-2 c = rw (← c .before .before .before .session-id .ensures, c .before .r .given .1)
+returns-2 c = rw (← c .before .before .session-id .ensures, c .enum-told .given .1)
 
 pub read-body-spec : {M : Type 1} → statement M
 read-body-spec =

@@ -20,7 +20,7 @@ returns-3 c =
     rw (← c .before .before .before .before .before .part16 .ensures, c .before .before .before .start .given .1, le-leb 2 n (c .before .if1 .left), eq-eqb (n % 2) 0 (c .if2 .left))
 
 returns-4 : tie.Need-returns-4
-returns-4 c = rw (← c .before .before .before .part16 .ensures, c .before .r .given .1)
+returns-4 c = rw (← c .before .before .part16 .ensures, c .enum-told .given .1)
 
 pub suites-spec : {M : Type 1} → statement M
 suites-spec =

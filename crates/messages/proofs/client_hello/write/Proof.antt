@@ -10,11 +10,11 @@ use mathlib.Core.List.{List, _++_}
 use lib.ListN.{length, drop, length-append}
 use Rattle.endian.specs.Vector.{vector, writable}
 use Rattle.refusal.proofs.Laws.{short}
-use Rattle.messages.specs.Layout.{bytes, valid}
+use Rattle.layout.specs.Layout.{bytes, valid}
 use Rattle.messages.specs.Hello.{frontRules, blockRules, tailBytes, given}
 use Rattle.messages.specs.ClientHello.{ClientHello, clientHello, suitesLength, methodsLength, clientGiven}
-use Rattle.messages.proofs.Layouts.{valid-within, valid-rules, valid-long, writes, writes-none}
-use Rattle.messages.proofs.Puts.{wrote}
+use Rattle.layout.proofs.Layouts.{valid-within, valid-rules, valid-long, writes, writes-none}
+use Rattle.layout.proofs.Puts.{wrote}
 use Rattle.messages.proofs.Hellos.{front-rules, length-body, tail-bound}
 use Rattle.messages.proofs.client_hello.write.Statement.{statement}
 use Rattle.messages.proofs.client_hello.write.Tie as tie

@@ -10,7 +10,7 @@ use lib.Seq.{paste}
 use Rattle.endian.specs.Number.{be}
 use Rattle.endian.specs.Vector.{vector}
 use Rattle.messages.specs.Hello.{frontBytes}
-use Rattle.messages.proofs.Puts.{put-two}
+use Rattle.layout.proofs.Puts.{put-two}
 use Rattle.messages.proofs.hello.put_front.Statement.{statement}
 use Rattle.messages.proofs.hello.put_front.Tie as tie
 

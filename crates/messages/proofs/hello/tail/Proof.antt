@@ -8,12 +8,11 @@ use native.Mathlib.Omega.{arith}
 use mathlib.Core.Path.{_≡_, sym, _∙_}
 use lib.ListN.{length, take, drop}
 use mathlib.Core.Bool.{cond}
-use Rattle.refusal.specs.declared.Refusal.the-variants.{DecodeError}
 use Rattle.messages.specs.declared.hello.Block.{Block}
 use Rattle.messages.specs.declared.hello.BlockFound.the-variants.{Found, Refused}
-use Rattle.messages.specs.Extensions.{blockRule}
+use Rattle.extensions.specs.Extensions.{blockRule}
 use Rattle.messages.specs.Hello.{blockAt}
-use Rattle.messages.proofs.Places.{last-there}
+use Rattle.layout.proofs.Places.{last-there}
 use Rattle.messages.proofs.hello.tail.Statement.{statement}
 use Rattle.messages.proofs.hello.tail.Tie as tie
 
@@ -43,7 +42,7 @@ part-test-end c = omega (arith, inside c)
 -- what is left once the block is tested
 rule-left : (c : tie.After-test)
     → blockAt (c .before .before .before .before .before .before .before .before .args .client) (c .before .before .before .before .before .before .before .before .args .message .now) (c .before .before .before .before .before .before .before .before .args .at)
-    ≡ cond (c .test .result) (Found (Block.At (c .before .before .before .start .given .0 .0) (c .before .before .before .start .given .0 .1 .0))) (Refused DecodeError)
+    ≡ cond (c .test .result) (Found (Block.At (c .before .before .before .start .given .0 .0) (c .before .before .before .start .given .0 .1 .0))) Refused
 rule-left c =
     rw (ne-eqb (c .before .before .before .before .before .before .before .before .args .at) (length (c .before .before .before .before .before .before .before .before .args .message .now)) (c .before .before .before .before .before .before .if1 .left), ← c .before .before .before .before .before .last16 .ensures, c .before .before .before .start .given .1, rule c)
 
@@ -55,7 +54,7 @@ returns-3 c = rw (rule-left (c .before), not-false (c .before .test .result) (c 
 
 returns-4 : tie.Need-returns-4
 returns-4 c =
-    rw (ne-eqb (c .before .before .before .before .before .before .args .at) (length (c .before .before .before .before .before .before .args .message .now)) (c .before .before .before .before .if1 .left), ← c .before .before .before .last16 .ensures, c .before .r .given .1)
+    rw (ne-eqb (c .before .before .before .before .before .args .at) (length (c .before .before .before .before .before .args .message .now)) (c .before .before .before .if1 .left), ← c .before .before .last16 .ensures, c .enum-told .given .1)
 
 pub tail-spec : {M : Type 1} → statement M
 tail-spec =

@@ -3,7 +3,7 @@
 use borrow.Author.Needs.{needs}
 use mathlib.Core.Path.{ap}
 use Prim.Native.Nat.{ℕ, _+_}
-use Rattle.messages.proofs.Puts.{lent-part}
+use Rattle.layout.proofs.Puts.{lent-part}
 use Rattle.messages.proofs.put.at.Statement.{statement}
 use Rattle.messages.proofs.put.at.Tie as tie
 

@@ -8,7 +8,7 @@ use mathlib.Core.List.{_++_}
 use lib.ListN.{length}
 use lib.Seq.{paste}
 use Rattle.endian.specs.Number.{be}
-use Rattle.messages.proofs.Puts.{put-two}
+use Rattle.layout.proofs.Puts.{put-two}
 use Rattle.messages.proofs.put.vector16.Statement.{statement}
 use Rattle.messages.proofs.put.vector16.Tie as tie
 

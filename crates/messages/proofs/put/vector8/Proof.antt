@@ -9,7 +9,7 @@ use mathlib.Core.List.{List, [], _∷_}
 use lib.ListN.{length}
 use lib.Seq.{paste}
 use Rattle.endian.specs.Vector.{vector}
-use Rattle.messages.proofs.Puts.{put-two}
+use Rattle.layout.proofs.Puts.{put-two}
 use Rattle.messages.proofs.put.vector8.Statement.{statement}
 use Rattle.messages.proofs.put.vector8.Tie as tie
 

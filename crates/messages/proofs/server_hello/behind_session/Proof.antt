@@ -7,7 +7,7 @@ use native.Mathlib.Omega.{arith}
 use mathlib.Core.Path.{_≡_, sym, _∙_}
 use lib.ListN.{length, take, drop}
 use Rattle.endian.specs.Number.{number}
-use Rattle.messages.proofs.Windows.{stated-window}
+use Rattle.layout.proofs.Windows.{stated-window}
 use Rattle.messages.proofs.server_hello.behind_session.Statement.{statement}
 use Rattle.messages.proofs.server_hello.behind_session.Tie as tie
 
@@ -40,11 +40,11 @@ returns-3 c =
 
 returns-4 : tie.Need-returns-4
 returns-4 c =
-    let a = c .before .before .before .before .before .before .before .before .before .before .before .before .before .before .args in
+    let a = c .before .before .before .before .before .before .before .before .before .before .before .before .before .args in
     rw (
-      le-leb (42 + a .session-len) (length (a .message .now)) (omega (arith, c .before .before .before .before .before .before .before .before .before .before .before .before .if1 .left, c .before .before .before .before .before .before .before .before .before .before .before .if2 .left)),
-      ← c .before .before .before .tail .ensures,
-      c .before .r .given .1,
+      le-leb (42 + a .session-len) (length (a .message .now)) (omega (arith, c .before .before .before .before .before .before .before .before .before .before .before .if1 .left, c .before .before .before .before .before .before .before .before .before .before .if2 .left)),
+      ← c .before .before .tail .ensures,
+      c .enum-told .given .1,
     )
 
 pub behind-session-spec : {M : Type 1} → statement M

@@ -8,7 +8,7 @@ returns : tie.Need-returns
 returns c = rw (← c .before .before .before .before .session-id .ensures, c .before .before .len .given .1) (c .behind-session .ensures)
 
 returns-2 : tie.Need-returns-2
-returns-2 c = rw (← c .before .before .before .session-id .ensures, c .before .r .given .1)
+returns-2 c = rw (← c .before .before .session-id .ensures, c .enum-told .given .1)
 
 pub body-spec : {M : Type 1} → statement M
 body-spec =

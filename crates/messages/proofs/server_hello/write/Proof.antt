@@ -10,11 +10,11 @@ use mathlib.Core.List.{_∷_, _++_}
 use lib.ListN.{length, drop}
 use Rattle.endian.specs.Number.{be}
 use Rattle.refusal.proofs.Laws.{short}
-use Rattle.messages.specs.Layout.{bytes, valid}
+use Rattle.layout.specs.Layout.{bytes, valid}
 use Rattle.messages.specs.Hello.{frontRules, blockRules, tailBytes, given}
 use Rattle.messages.specs.ServerHello.{ServerHello, serverHello, serverGiven}
-use Rattle.messages.proofs.Layouts.{valid-within, valid-rules, valid-long, writes, writes-none}
-use Rattle.messages.proofs.Puts.{wrote}
+use Rattle.layout.proofs.Layouts.{valid-within, valid-rules, valid-long, writes, writes-none}
+use Rattle.layout.proofs.Puts.{wrote}
 use Rattle.messages.proofs.Hellos.{front-rules, length-body, tail-bound}
 use Rattle.messages.proofs.server_hello.write.Statement.{statement}
 use Rattle.messages.proofs.server_hello.write.Tie as tie
