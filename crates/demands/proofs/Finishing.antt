@@ -19,9 +19,9 @@ use Rattle.sha256.specs.State.{fresh, absorb}
 use Rattle.sha256.proofs.Absorb.{absorb-append}
 use Rattle.keys.specs.declared.Side.the-variants.{Client}
 use Rattle.keytable.specs.Utf8.{validUtf8}
-use Rattle.messages.specs.Layout.{bytes, limit}
-use Rattle.messages.specs.Header.{header}
-use Rattle.messages.specs.Place.{lastAt, filledBy, afterHeader, contents}
+use Rattle.layout.specs.Layout.{bytes, limit}
+use Rattle.layout.specs.Header.{header}
+use Rattle.layout.specs.Place.{lastAt, filledBy, afterHeader, contents}
 use Rattle.messages.specs.ClientHello.{clientHeader, clientFields}
 use Rattle.messages.specs.Fixed as Fixed
 use Rattle.messages.specs.Fixed.{readFixed}

@@ -13,9 +13,9 @@ use Rattle.endian.specs.Vector.{stated}
 use Rattle.refusal.specs.Table.{toClient}
 use Rattle.refusal.specs.declared.Refusal.{Refusal}
 use Rattle.refusal.specs.declared.Refusal.the-variants.{UnexpectedMessage, DecodeError}
-use Rattle.messages.specs.declared.Verdict.{Verdict}
-use Rattle.messages.specs.Layout.{limit}
-use Rattle.messages.specs.Header.{header}
+use Rattle.layout.specs.declared.Verdict.{Verdict}
+use Rattle.layout.specs.Layout.{limit}
+use Rattle.layout.specs.Header.{header}
 use Rattle.server.specs.declared.Phase.{Phase}
 use Rattle.server.specs.declared.Connection.{Connection}
 use Rattle.server.specs.Connection.{ended}

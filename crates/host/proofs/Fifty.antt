@@ -12,16 +12,16 @@ use lib.IntN.{pos, negℤ}
 use Rattle.endian.specs.Vector.{stated}
 use Rattle.refusal.specs.declared.Refusal.{Refusal}
 use Rattle.refusal.specs.declared.Refusal.the-variants.{DecodeError}
-use Rattle.messages.specs.declared.Part.{Part}
+use Rattle.layout.specs.declared.Part.{Part}
 use Rattle.messages.specs.declared.ticket.Ticket.{Ticket}
 use Rattle.messages.specs.declared.server_hello.Server.{Server}
 use Rattle.messages.specs.declared.client_hello.Client.{Client}
-use Rattle.messages.specs.declared.extensions.Step.{Step}
-use Rattle.messages.specs.Place.{endAt, lastAt}
+use Rattle.extensions.specs.declared.Step.{Step}
+use Rattle.layout.specs.Place.{endAt, lastAt}
 use Rattle.messages.specs.KeyExchange.{vectorPlace}
 use Rattle.messages.specs.Fixed.{fixedPlace}
 use Rattle.messages.specs.NewSessionTicket.{ticketPlace}
-use Rattle.messages.specs.Extensions.{stepAt}
+use Rattle.extensions.specs.Extensions.{stepAt}
 use Rattle.messages.specs.ServerHello.{serverPlace}
 use Rattle.messages.specs.ClientHello.{clientPlace}
 use Rattle.messages.proofs.Refusals.{vector-fifty, fixed-fifty, ticket-fifty, server-fifty, client-fifty}

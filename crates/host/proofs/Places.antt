@@ -13,24 +13,24 @@ use Rattle.endian.specs.Number.{Bytes, number}
 use Rattle.endian.specs.Vector.{stated}
 use Rattle.endian.proofs.Numbers.{bytes-drop}
 use Rattle.refusal.specs.declared.Refusal.the-variants.{DecodeError}
-use Rattle.messages.specs.declared.Verdict.{Verdict}
-use Rattle.messages.specs.declared.Part.{Part}
+use Rattle.layout.specs.declared.Verdict.{Verdict}
+use Rattle.layout.specs.declared.Part.{Part}
 use Rattle.messages.specs.declared.hello.Block.{Block}
 use Rattle.messages.specs.declared.hello.BlockFound.{BlockFound}
 use Rattle.messages.specs.declared.ticket.Ticket.{Ticket}
 use Rattle.messages.specs.declared.server_hello.Server.{Server}
 use Rattle.messages.specs.declared.client_hello.Client.{Client}
-use Rattle.messages.specs.declared.extensions.Step.{Step}
-use Rattle.messages.specs.Header.{header}
-use Rattle.messages.specs.Place.{endAt, partAt, ruled, lastAt, filledBy, afterHeader}
+use Rattle.extensions.specs.declared.Step.{Step}
+use Rattle.layout.specs.Header.{header}
+use Rattle.layout.specs.Place.{endAt, partAt, ruled, lastAt, filledBy, afterHeader}
 use Rattle.messages.specs.KeyExchange.{vectorPlace}
 use Rattle.messages.specs.Fixed.{fixedPlace}
 use Rattle.messages.specs.NewSessionTicket.{withHint, ticketPlace}
-use Rattle.messages.specs.Extensions.{blockRule, stepAt}
+use Rattle.extensions.specs.Extensions.{blockRule, stepAt}
 use Rattle.messages.specs.Hello.{sessionAt, blockIn, blockAt}
 use Rattle.messages.specs.ServerHello.{serverBlock, serverSession, serverHeader, serverPlace}
 use Rattle.messages.specs.ClientHello.{suitesLength, methodsLength, clientBlock, clientMethods, clientSuites, clientSession, clientHeader, clientPlace}
-use Rattle.messages.proofs.Headers.{header-read}
+use Rattle.layout.proofs.Headers.{header-read}
 use Rattle.host.specs.Inner.{Fits, PartFits, BlockFits}
 
 two-bytes : (bs : List ℕ) → Bytes bs → number (take 2 bs) < 65536

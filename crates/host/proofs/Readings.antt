@@ -9,7 +9,7 @@ use lib.Signed.{mag}
 use mir.Syntax.{w32}
 use mir.Val.{toZ, ofZ}
 use Rattle.refusal.specs.declared.Refusal.{Refusal}
-use Rattle.messages.specs.declared.Part.{Part}
+use Rattle.layout.specs.declared.Part.{Part}
 use Rattle.messages.specs.declared.hello.Block.{Block}
 use Rattle.host.specs.Codes.{refusalCode, rejected, Reading, Reads}
 use Rattle.host.specs.Fields.{partRead, blockFields}

@@ -7,13 +7,13 @@ use lib.ListN.{length}
 use lib.Dec.{leb}
 use lib.IntN.{pos}
 use Rattle.refusal.specs.declared.Refusal.the-variants.{DecodeError}
-use Rattle.messages.specs.declared.Part.{Part}
+use Rattle.layout.specs.declared.Part.{Part}
 use Rattle.messages.specs.declared.hello.Block.{Block}
 use Rattle.messages.specs.declared.ticket.Ticket.{Ticket}
 use Rattle.messages.specs.declared.server_hello.Server.{Server}
 use Rattle.messages.specs.declared.client_hello.Client.{Client}
-use Rattle.messages.specs.declared.extensions.Step.{Step}
-use Rattle.messages.specs.Extensions.{stepAt}
+use Rattle.extensions.specs.declared.Step.{Step}
+use Rattle.extensions.specs.Extensions.{stepAt}
 use Rattle.host.specs.Codes.{Reading, accepted, rejected}
 
 abbrev pub partRead : Part → Reading

@@ -6,7 +6,7 @@ use mathlib.Core.List.{List}
 use Rattle.refusal.specs.declared.Written.{Written}
 use Rattle.refusal.specs.declared.Written.the-variants.{Wrote, Refused}
 use Rattle.refusal.specs.Table.{toClient}
-use Rattle.messages.specs.declared.Part.{Part}
+use Rattle.layout.specs.declared.Part.{Part}
 use Rattle.messages.specs.declared.hello.Block.{Block}
 use Rattle.server.specs.declared.Connection.{Connection}
 use Rattle.server.specs.Saved.{restored}

@@ -3,11 +3,11 @@
 // same message of them again. Then it prints what the writers answer to values that no layout has and
 // to outputs that are too short. tests/message_vectors.py makes the input, and prints the same lines
 // from a parser of its own.
+use extensions::Step;
+use layout::Part;
 use libc::STDIN_FILENO;
 use libc::STDOUT_FILENO;
-use messages::Part;
 use messages::client_hello::Client;
-use messages::extensions::Step;
 use messages::hello::Block;
 use messages::server_hello::Server;
 use messages::ticket::Ticket;
@@ -53,7 +53,7 @@ fn print_block(block: &[u8]) {
     let mut at: usize = 0;
     let mut left: usize = block.len();
     while 0 < left {
-        match messages::extensions::next(block, at) {
+        match extensions::next(block, at) {
             Step::Extension { kind, start, len } => {
                 print_number(kind);
                 print_number(len);

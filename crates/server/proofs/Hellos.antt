@@ -13,11 +13,11 @@ use borrow.Author.Tests.{eq-eqb, ne-eqb, lt-ltb, le-ltb}
 use Rattle.endian.specs.Number.{be, number}
 use Rattle.refusal.specs.declared.Refusal.the-variants.{IllegalParameter, ProtocolVersion}
 use Rattle.messages.specs.ClientHello.{ClientHello}
-use Rattle.messages.specs.Layout.{bytes, valid}
+use Rattle.layout.specs.Layout.{bytes, valid}
 use Rattle.messages.specs.ServerHello.{ServerHello, serverHello}
 use Rattle.messages.specs.KeyExchange.{serverKeyExchange}
 use Rattle.messages.specs.Fixed.{serverHelloDone}
-use Rattle.messages.proofs.Layouts.{valid-within}
+use Rattle.layout.proofs.Layouts.{valid-within}
 use Rattle.messages.proofs.Hellos.{length-body}
 use Rattle.keytable.proofs.Walks.{left-cons}
 use Rattle.server.specs.declared.Connection.{Connection}

@@ -20,11 +20,11 @@ use Rattle.sha256.specs.State.{finished}
 use Rattle.keys.specs.declared.Side.{Side}
 use Rattle.keys.specs.Secrets.{premaster, premasterBytes, master, verifyData}
 use Rattle.keys.proofs.Lengths.{length-premaster, premaster-given, master-given, value-given}
-use Rattle.messages.specs.declared.Verdict.{Verdict}
-use Rattle.messages.specs.declared.Part.the-variants.{At}
-use Rattle.messages.specs.Header.{header}
+use Rattle.layout.specs.declared.Verdict.{Verdict}
+use Rattle.layout.specs.declared.Part.the-variants.{At}
+use Rattle.layout.specs.Header.{header}
 use Rattle.messages.specs.KeyExchange.{identityIn}
-use Rattle.messages.specs.Place.{lastAt, filledBy, contents}
+use Rattle.layout.specs.Place.{lastAt, filledBy, contents}
 use Rattle.keytable.specs.Table.{same, keyOf, found}
 use Rattle.keytable.proofs.Lookups.{key-size}
 use Rattle.server.specs.declared.Connection.{Connection}

@@ -14,9 +14,9 @@ use Rattle.refusal.specs.declared.Written.{Written}
 use Rattle.refusal.specs.declared.Written.the-variants.{Wrote, Refused}
 use Rattle.refusal.specs.Lent.{gives, Answers}
 use Rattle.refusal.proofs.Laws.{wrote-all, refused-short}
-use Rattle.messages.specs.declared.Verdict.{Verdict}
-use Rattle.messages.specs.Header.{header}
-use Rattle.messages.specs.Place.{lastAt, contents}
+use Rattle.layout.specs.declared.Verdict.{Verdict}
+use Rattle.layout.specs.Header.{header}
+use Rattle.layout.specs.Place.{lastAt, contents}
 use Rattle.server.specs.declared.Rule.{Rule}
 use Rattle.server.specs.declared.Phase.{Phase}
 use Rattle.server.specs.declared.Connection.{Connection}

@@ -16,14 +16,14 @@ use Rattle.sha256.specs.declared.Sha256.{Sha256}
 use Rattle.keys.specs.declared.Side.the-variants.{Client, Server}
 use Rattle.keys.specs.declared.Side.{Side}
 use Rattle.keys.specs.Secrets.{premaster, master, verifyData}
-use Rattle.messages.specs.declared.Verdict.{Verdict}
-use Rattle.messages.specs.Layout.{bytes}
-use Rattle.messages.specs.Header.{header}
+use Rattle.layout.specs.declared.Verdict.{Verdict}
+use Rattle.layout.specs.Layout.{bytes}
+use Rattle.layout.specs.Header.{header}
 use Rattle.messages.specs.ClientHello.{ClientHello, clientBody, clientFields}
 use Rattle.messages.specs.ServerHello.{serverHello}
 use Rattle.messages.specs.KeyExchange.{serverKeyExchange}
 use Rattle.messages.specs.Fixed as Fixed
-use Rattle.messages.specs.Place.{lastAt, filledBy, contents}
+use Rattle.layout.specs.Place.{lastAt, filledBy, contents}
 use Rattle.keytable.specs.Table.{same, wellFormed, keyOf}
 use Rattle.server.specs.declared.Rule.{Rule}
 use Rattle.server.specs.declared.Phase.{Phase}

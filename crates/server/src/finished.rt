@@ -2,8 +2,8 @@
 ghost use mathlib.Core.Path.{_≡_};
 ghost use lib.ListN.{length};
 ghost use Rattle.keytable.specs.Table.{same};
-ghost use Rattle.messages.specs.Header.{header};
-ghost use Rattle.messages.specs.Place.{filledBy, contents};
+ghost use Rattle.layout.specs.Header.{header};
+ghost use Rattle.layout.specs.Place.{filledBy, contents};
 ghost use Rattle.server.specs.Steps.{finishedOf, finishedValue, afterTests};
 ghost use Rattle.server.specs.Inner as Inner;
 ghost use Rattle.server.specs.Inner.{Does, asValue};
@@ -13,8 +13,8 @@ use crate::Phase;
 use crate::ended;
 use crate::refuse;
 use keys::Side;
-use messages::Part;
-use messages::Verdict;
+use layout::Part;
+use layout::Verdict;
 use refusal::Refusal;
 use refusal::Written;
 use sha256::Sha256;
@@ -114,7 +114,7 @@ fn body(c: Connection, m: &[u8], out: &mut [u8]) -> Answer
 pub fn step(c: Connection, m: &[u8], out: &mut [u8]) -> Answer
     ensures { λ a. ⌜ Does c (now (out .entry)) (afterTests (header 20 (now (m .entry))) (finishedValue c (now (m .entry)) (contents (now (m .entry)) (filledBy 12 (now (m .entry)))))) a (now (out .exit)) ⌝ }
 {
-    match messages::header::test(20, m) {
+    match layout::header::test(20, m) {
         Verdict::Accepted => body(c, m, out),
         Verdict::Refused(r) => refuse(c, r),
     }

@@ -6,8 +6,8 @@ ghost use lib.ListN.{length, take};
 ghost use Rattle.refusal.specs.Lent.{Answers, gives};
 ghost use Rattle.messages.specs.ClientHello.{clientBody, clientFields};
 ghost use Rattle.messages.specs.Fixed.{serverHelloDone};
-ghost use Rattle.messages.specs.Header.{header};
-ghost use Rattle.messages.specs.Layout.{bytes};
+ghost use Rattle.layout.specs.Header.{header};
+ghost use Rattle.layout.specs.Layout.{bytes};
 ghost use Rattle.server.specs.Steps as Steps;
 ghost use Rattle.server.specs.Steps.{suites, hintMessage, flight, afterTests, helloFields, accept, flightFor};
 ghost use Rattle.server.specs.Inner as Inner;
@@ -17,7 +17,7 @@ use crate::Connection;
 use crate::Phase;
 use crate::bytes32;
 use crate::refuse;
-use messages::Verdict;
+use layout::Verdict;
 use messages::client_hello::Client;
 use refusal::Refusal;
 use refusal::Written;
@@ -217,7 +217,7 @@ pub fn step(c: Connection, m: &[u8], out: &mut [u8]) -> Answer
         (afterTests (header 1 (now (m .entry))) (helloFields suites c (now (m .entry)) (clientFields (now (m .entry)) (clientBody (now (m .entry))))))
         a (now (out .exit)) ⌝ }
 {
-    match messages::header::test(1, m) {
+    match layout::header::test(1, m) {
         Verdict::Accepted => body(c, m, out),
         Verdict::Refused(r) => refuse(c, r),
     }

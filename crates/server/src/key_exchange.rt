@@ -3,9 +3,9 @@ ghost use mathlib.Core.Path.{_≡_};
 ghost use Prim.Native.Nat.{_≤_};
 ghost use mathlib.Core.List.{[]};
 ghost use lib.ListN.{length};
-ghost use Rattle.messages.specs.declared.Verdict.the-variants.{Accepted};
-ghost use Rattle.messages.specs.Header.{header};
-ghost use Rattle.messages.specs.Place.{lastAt, contents};
+ghost use Rattle.layout.specs.declared.Verdict.the-variants.{Accepted};
+ghost use Rattle.layout.specs.Header.{header};
+ghost use Rattle.layout.specs.Place.{lastAt, contents};
 ghost use Rattle.keytable.specs.Table.{keyOf};
 ghost use Rattle.server.specs.declared.Phase.{Phase};
 ghost use Rattle.server.specs.Steps as Steps;
@@ -15,8 +15,8 @@ use crate::Connection;
 use crate::Phase;
 use crate::Rule;
 use crate::refuse;
-use messages::Part;
-use messages::Verdict;
+use layout::Part;
+use layout::Verdict;
 use refusal::Refusal;
 use refusal::Written;
 
@@ -109,7 +109,7 @@ fn body(c: Connection, table: &[u8], m: &[u8]) -> Answer
 pub fn step(c: Connection, table: &[u8], m: &[u8]) -> Answer
     ensures { λ a. ⌜ a ≡ answered (settled c [] (messageStep suites (viewOf (now (table .entry))) c (now (m .entry)) Phase.KeyExchange)) ⌝ }
 {
-    match messages::header::test(16, m) {
+    match layout::header::test(16, m) {
         Verdict::Accepted => {
             if !keytable::well_formed(table) {
                 return refuse(c, Refusal::BadTable);

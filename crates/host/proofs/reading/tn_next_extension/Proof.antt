@@ -7,8 +7,8 @@ use lib.ListN.{length}
 use borrow.Author.Tests.{le-leb, lt-leb}
 use Rattle.refusal.specs.declared.Refusal.the-variants.{DecodeError}
 use Rattle.endian.specs.Number.{Bytes}
-use Rattle.messages.specs.declared.extensions.Step.{Step}
-use Rattle.messages.specs.Extensions.{stepAt}
+use Rattle.extensions.specs.declared.Step.{Step}
+use Rattle.extensions.specs.Extensions.{stepAt}
 use Rattle.host.proofs.Readings.{refusal-read}
 use Rattle.host.proofs.Places.{StepFits, step-fits}
 use Rattle.host.proofs.reading.tn_next_extension.Statement.{statement}

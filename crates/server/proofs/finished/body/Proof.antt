@@ -7,8 +7,8 @@ use mathlib.Core.List.{List}
 use lib.ListN.{length, drop, length-drop}
 use lib.Seq.{length-take-le}
 use borrow.Author.Tests.{not-true, not-false}
-use Rattle.messages.specs.declared.Part.the-variants.{At}
-use Rattle.messages.specs.Place.{filledBy}
+use Rattle.layout.specs.declared.Part.the-variants.{At}
+use Rattle.layout.specs.Place.{filledBy}
 use Rattle.messages.proofs.FixedMessages.{filled-there}
 use Rattle.server.proofs.Steps.{refusing, silent-does}
 use Rattle.server.proofs.Secrets.{judged-right}

@@ -7,7 +7,7 @@ use borrow.Author.Tests.{not-true, not-false}
 use Rattle.refusal.specs.Lent.{Outcome, gives}
 use Rattle.sha256.specs.State.{absorb}
 use Rattle.keys.specs.declared.Side.the-variants.{Server}
-use Rattle.messages.specs.Layout.{valid}
+use Rattle.layout.specs.Layout.{valid}
 use Rattle.messages.specs.Fixed as Fixed
 use Rattle.messages.proofs.FixedMessages.{fixed-valid}
 use Rattle.server.specs.Steps.{finishedOf}

@@ -3,13 +3,13 @@
 use mathlib.Core.Path.{_≡_, sym}
 use native.Mathlib.Omega.{arith}
 use mathlib.Core.List.{[], _++_}
-use Rattle.messages.specs.Layout.{bytes}
+use Rattle.layout.specs.Layout.{bytes}
 use Rattle.messages.specs.ServerHello.{serverHello}
 use Rattle.messages.specs.Fixed.{serverHelloDone}
 use Rattle.server.specs.Steps.{hintMessage}
 use Rattle.server.specs.Inner.{front}
-use Rattle.messages.proofs.Layouts.{at-front}
-use Rattle.messages.proofs.Puts.{put-behind}
+use Rattle.layout.proofs.Layouts.{at-front}
+use Rattle.layout.proofs.Puts.{put-behind}
 use Rattle.server.proofs.Hellos.{hello, length-hello, hello-valid}
 use borrow.Author.Needs.{needs}
 use Rattle.server.proofs.hello.put_flight.Statement.{statement}

@@ -6,13 +6,13 @@ use native.Mathlib.Omega.{arith}
 use mathlib.Core.List.{[]}
 use lib.ListN.{length, take, drop, length-drop}
 use Rattle.refusal.proofs.Copy.{part-to-end}
-use Rattle.messages.specs.Layout.{bytes}
+use Rattle.layout.specs.Layout.{bytes}
 use Rattle.messages.specs.KeyExchange.{serverKeyExchange}
 use Rattle.messages.specs.Fixed.{serverHelloDone}
 use Rattle.server.specs.Steps.{hintMessage}
 use Rattle.server.specs.Inner.{front}
-use Rattle.messages.proofs.Layouts.{at-front}
-use Rattle.messages.proofs.Puts.{put-behind}
+use Rattle.layout.proofs.Layouts.{at-front}
+use Rattle.layout.proofs.Puts.{put-behind}
 use Rattle.messages.proofs.KeyExchanges.{vector-valid}
 use Rattle.server.proofs.Hellos.{hint-absent, hint-present}
 use borrow.Author.Needs.{needs}

@@ -5,7 +5,7 @@ use Prim.Native.Nat.{_+_}
 use native.Mathlib.Omega.{arith}
 use lib.ListN.{length}
 use Rattle.refusal.proofs.Laws.{short}
-use Rattle.messages.proofs.Puts.{wrote}
+use Rattle.layout.proofs.Puts.{wrote}
 use Rattle.server.specs.Steps.{hintMessage, flight}
 use Rattle.server.proofs.Hellos.{length-flight}
 use borrow.Author.Needs.{needs}

@@ -2,8 +2,8 @@
 -- Assumes nothing.
 use mathlib.Core.Path.{_≡_, sym, _∙_}
 use borrow.Author.Tests.{not-true, not-false}
-use Rattle.messages.specs.declared.Verdict.{Verdict}
-use Rattle.messages.specs.Header.{header}
+use Rattle.layout.specs.declared.Verdict.{Verdict}
+use Rattle.layout.specs.Header.{header}
 use borrow.Author.Needs.{needs}
 use Rattle.server.proofs.key_exchange.step.Statement.{statement}
 use Rattle.server.proofs.key_exchange.step.Tie as tie
