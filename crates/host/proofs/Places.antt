@@ -12,7 +12,6 @@ use borrow.Author.Tests.{leb-true, eqb-true}
 use Rattle.endian.specs.Number.{Bytes, number}
 use Rattle.endian.specs.Vector.{stated}
 use Rattle.endian.proofs.Numbers.{bytes-drop}
-use Rattle.refusal.specs.declared.Refusal.the-variants.{DecodeError}
 use Rattle.layout.specs.declared.Verdict.{Verdict}
 use Rattle.layout.specs.declared.Part.{Part}
 use Rattle.messages.specs.declared.hello.Block.{Block}
@@ -49,13 +48,13 @@ accepted-length kind m b e =
 -- ---- the parts of a message
 
 -- a part that is there only where a test holds
-tested : (t : Bool) (s n : ℕ) → (t ≡ true → Fits s n) → PartFits (cond t (Part.At s n) (Part.Refused DecodeError))
+tested : (t : Bool) (s n : ℕ) → (t ≡ true → Fits s n) → PartFits (cond t (Part.At s n) Part.Refused)
 tested true s n h = h refl
 tested false s n h = tt
 
 ruled-fits : (rule : ℕ → Bool) (p : Part) → PartFits p → PartFits (ruled rule p)
 ruled-fits rule (Part.At s n) h = tested (rule n) s n (λ _. h)
-ruled-fits rule (Part.Refused r) h = tt
+ruled-fits rule Part.Refused h = tt
 
 part-fits : (w : ℕ) (m : List ℕ) (at : ℕ) → length m ≤ 16384 → PartFits (partAt w m at)
 part-fits w m at size = tested (leb (endAt w m at) (length m)) (at + w) (stated w (drop at m)) (λ t.
@@ -90,31 +89,31 @@ ticket-extension-fits d b =
 
 abbrev pub TicketFits : Ticket → Type 0
 TicketFits (Ticket.Read hint s n) = Fits s n
-TicketFits (Ticket.Refused r) = Unit
+TicketFits Ticket.Refused = Unit
 
 pub ticket-fits : (m : List ℕ) → Bytes m → TicketFits (ticketPlace m)
 ticket-fits m b = go (afterHeader (header 4 m) (lastAt 2 m 8)) (behind-header 4 m (lastAt 2 m 8) b (last-fits m 8))
   where
     go : (p : Part) → PartFits p → TicketFits (withHint m p)
     go (Part.At s n) h = h
-    go (Part.Refused r) h = tt
+    go Part.Refused h = tt
 
 -- ---- the hellos
 
 abbrev FoundFits : BlockFound → Type 0
 FoundFits (BlockFound.Found b) = BlockFits b
-FoundFits (BlockFound.Refused r) = Unit
+FoundFits BlockFound.Refused = Unit
 
 block-fits : (client : Bool) (m : List ℕ) (at : ℕ) → length m ≤ 16384 → FoundFits (blockAt client m at)
 block-fits client m at size = go (eqb at (length m))
   where
-    held : (t : Bool) (s n : ℕ) → Fits s n → FoundFits (cond t (BlockFound.Found (Block.At s n)) (BlockFound.Refused DecodeError))
+    held : (t : Bool) (s n : ℕ) → Fits s n → FoundFits (cond t (BlockFound.Found (Block.At s n)) BlockFound.Refused)
     held true s n h = h
     held false s n h = tt
 
     in-part : (p : Part) → PartFits p → FoundFits (blockIn client m p)
     in-part (Part.At s n) h = held (blockRule client (take n (drop s m))) s n h
-    in-part (Part.Refused r) h = tt
+    in-part Part.Refused h = tt
 
     go : (t : Bool) → FoundFits (cond t (BlockFound.Found Block.Absent) (blockIn client m (lastAt 2 m at)))
     go true = tt
@@ -131,7 +130,7 @@ pub record ServerNumbers (version n suite : ℕ) (b : Block) : Type 0 where
 
 abbrev pub ServerFits : Server → Type 0
 ServerFits (Server.Read version n suite compression b) = ServerNumbers version n suite b
-ServerFits (Server.Refused r) = Unit
+ServerFits Server.Refused = Unit
 
 pub server-fits : (m : List ℕ) → Bytes m → ServerFits (serverPlace m)
 server-fits m b = of-header (header 2 m) refl
@@ -139,15 +138,15 @@ server-fits m b = of-header (header 2 m) refl
     of-block : (n : ℕ) (o : BlockFound) → n < 2 ^ 32 → FoundFits o → ServerFits (serverBlock m n o)
     of-block n (BlockFound.Found k) h block =
         record { version-fits = number-fits m 4 b; session-fits = h; suite-fits = number-fits m (39 + n) b; block = block }
-    of-block n (BlockFound.Refused r) h block = tt
+    of-block n BlockFound.Refused h block = tt
 
-    of-room : (t : Bool) (n : ℕ) → n < 2 ^ 32 → length m ≤ 16384 → ServerFits (cond t (serverBlock m n (blockAt false m (42 + n))) (Server.Refused DecodeError))
+    of-room : (t : Bool) (n : ℕ) → n < 2 ^ 32 → length m ≤ 16384 → ServerFits (cond t (serverBlock m n (blockAt false m (42 + n))) Server.Refused)
     of-room true n h size = of-block n (blockAt false m (42 + n)) h (block-fits false m (42 + n) size)
     of-room false n h size = tt
 
     of-session : (p : Part) → PartFits p → length m ≤ 16384 → ServerFits (serverSession m p)
     of-session (Part.At s n) h size = of-room (leb (42 + n) (length m)) n (h .len-fits) size
-    of-session (Part.Refused r) h size = tt
+    of-session Part.Refused h size = tt
 
     of-header : (v : Verdict) → header 2 m ≡ v → ServerFits (serverHeader m v)
     of-header Verdict.Accepted e = let size = accepted-length 2 m b e in of-session (sessionAt m) (session-fits m size) size
@@ -162,7 +161,7 @@ pub record ClientNumbers (version n s k t j : ℕ) (b : Block) : Type 0 where
 
 abbrev pub ClientFits : Client → Type 0
 ClientFits (Client.Read version n s k t j b) = ClientNumbers version n s k t j b
-ClientFits (Client.Refused r) = Unit
+ClientFits Client.Refused = Unit
 
 pub client-fits : (m : List ℕ) → Bytes m → ClientFits (clientPlace m)
 client-fits m b = of-header (header 1 m) refl
@@ -170,23 +169,23 @@ client-fits m b = of-header (header 1 m) refl
     of-block : (n s k t j : ℕ) (o : BlockFound) → n < 2 ^ 32 → Fits s k → Fits t j → FoundFits o → ClientFits (clientBlock m n s k t j o)
     of-block n s k t j (BlockFound.Found q) h suites methods block =
         record { version-fits = number-fits m 4 b; session-fits = h; suites = suites; methods = methods; block = block }
-    of-block n s k t j (BlockFound.Refused r) h suites methods block = tt
+    of-block n s k t j BlockFound.Refused h suites methods block = tt
 
     of-methods : (n s k : ℕ) (p : Part) → n < 2 ^ 32 → Fits s k → PartFits p → length m ≤ 16384 → ClientFits (clientMethods m n s k p)
     of-methods n s k (Part.At t j) h suites methods size = of-block n s k t j (blockAt true m (t + j)) h suites methods (block-fits true m (t + j) size)
-    of-methods n s k (Part.Refused r) h suites methods size = tt
+    of-methods n s k Part.Refused h suites methods size = tt
 
     of-suites : (n : ℕ) (p : Part) → n < 2 ^ 32 → PartFits p → length m ≤ 16384 → ClientFits (clientSuites m n p)
     of-suites n (Part.At s k) h suites size =
         let methods = ruled-fits methodsLength (partAt 1 m (s + k)) (part-fits 1 m (s + k) size) in
         of-methods n s k (ruled methodsLength (partAt 1 m (s + k))) h suites methods size
-    of-suites n (Part.Refused r) h suites size = tt
+    of-suites n Part.Refused h suites size = tt
 
     of-session : (p : Part) → PartFits p → length m ≤ 16384 → ClientFits (clientSession m p)
     of-session (Part.At s n) h size =
         let suites = ruled-fits suitesLength (partAt 2 m (s + n)) (part-fits 2 m (s + n) size) in
         of-suites n (ruled suitesLength (partAt 2 m (s + n))) (h .len-fits) suites size
-    of-session (Part.Refused r) h size = tt
+    of-session Part.Refused h size = tt
 
     of-header : (v : Verdict) → header 1 m ≡ v → ClientFits (clientHeader m v)
     of-header Verdict.Accepted e = let size = accepted-length 1 m b e in of-session (sessionAt m) (session-fits m size) size
@@ -201,7 +200,7 @@ pub record StepNumbers (kind s n : ℕ) : Type 0 where
 abbrev pub StepFits : Step → Type 0
 StepFits (Step.Extension kind s n) = StepNumbers kind s n
 StepFits Step.End = Unit
-StepFits (Step.Refused r) = Unit
+StepFits Step.Refused = Unit
 
 abbrev extensionAt : List ℕ → ℕ → Step
 extensionAt b at = Step.Extension (number (take 2 (drop at b))) (at + 4) (stated 2 (drop (at + 2) b))
@@ -209,12 +208,12 @@ extensionAt b at = Step.Extension (number (take 2 (drop at b))) (at + 4) (stated
 pub step-fits : (b : List ℕ) (at : ℕ) → Bytes b → length b ≤ 65535 → StepFits (stepAt b at)
 step-fits b at bytes size = at-end (leb (length b) at)
   where
-    whole : (t : Bool) → leb (endAt 2 b (at + 2)) (length b) ≡ t → StepFits (cond t (extensionAt b at) (Step.Refused DecodeError))
+    whole : (t : Bool) → leb (endAt 2 b (at + 2)) (length b) ≡ t → StepFits (cond t (extensionAt b at) Step.Refused)
     whole true h =
         let ends : endAt 2 b (at + 2) ≤ length b = leb-true (endAt 2 b (at + 2)) (length b) h in
         record { kind-fits = number-fits b at bytes; place = record { start-fits = omega arith; len-fits = omega arith } }
     whole false h = tt
 
-    at-end : (t : Bool) → StepFits (cond t Step.End (cond (leb (endAt 2 b (at + 2)) (length b)) (extensionAt b at) (Step.Refused DecodeError)))
+    at-end : (t : Bool) → StepFits (cond t Step.End (cond (leb (endAt 2 b (at + 2)) (length b)) (extensionAt b at) Step.Refused))
     at-end true = tt
     at-end false = whole (leb (endAt 2 b (at + 2)) (length b)) refl

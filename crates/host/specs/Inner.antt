@@ -24,7 +24,7 @@ pub record Fits (start len : ℕ) : Type 0 where
 
 abbrev pub PartFits : Part → Type 0
 PartFits (Part.At start len) = Fits start len
-PartFits (Part.Refused r) = Unit
+PartFits Part.Refused = Unit
 
 abbrev pub BlockFits : Block → Type 0
 BlockFits Block.Absent = Unit

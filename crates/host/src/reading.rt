@@ -65,7 +65,7 @@ pub extern "C" fn tn_read_client_hello(message: &[u8], fields: &mut [u32; 9]) ->
             ];
             0
         }
-        Client::Refused(r) => code::of_refusal(r),
+        Client::Refused => code::of_refusal(Refusal::DecodeError),
     }
 }
 
@@ -95,7 +95,7 @@ pub extern "C" fn tn_read_server_hello(message: &[u8], fields: &mut [u32; 7]) ->
             ];
             0
         }
-        Server::Refused(r) => code::of_refusal(r),
+        Server::Refused => code::of_refusal(Refusal::DecodeError),
     }
 }
 
@@ -109,7 +109,7 @@ fn put_part(part: Part, fields: &mut [u32; 2]) -> i32
             *fields = [start as u32, len as u32];
             0
         }
-        Part::Refused(why) => code::of_refusal(why),
+        Part::Refused => code::of_refusal(Refusal::DecodeError),
     }
 }
 
@@ -136,7 +136,7 @@ pub extern "C" fn tn_read_server_hello_done(message: &[u8]) -> i32
 {
     match fixed::read_done(message) {
         Part::At { start: _, len: _ } => 0,
-        Part::Refused(r) => code::of_refusal(r),
+        Part::Refused => code::of_refusal(Refusal::DecodeError),
     }
 }
 
@@ -162,7 +162,7 @@ pub extern "C" fn tn_read_new_session_ticket(message: &[u8], fields: &mut [u32; 
             *fields = [lifetime_hint, start as u32, len as u32];
             0
         }
-        Ticket::Refused(r) => code::of_refusal(r),
+        Ticket::Refused => code::of_refusal(Refusal::DecodeError),
     }
 }
 
@@ -180,7 +180,7 @@ pub extern "C" fn tn_next_extension(block: &[u8], at: usize, fields: &mut [u32; 
             1
         }
         Step::End => 0,
-        Step::Refused(r) => code::of_refusal(r),
+        Step::Refused => code::of_refusal(Refusal::DecodeError),
     }
 }
 

@@ -60,8 +60,8 @@ fn print_block(block: &[u8]) {
                 at = start + len;
             }
             Step::End => return,
-            Step::Refused(r) => {
-                print_refusal(r);
+            Step::Refused => {
+                print_refusal(Refusal::DecodeError);
                 return;
             }
         }
@@ -123,7 +123,7 @@ fn show_client(message: &[u8], out: &mut [u8]) {
                 }
             }
         }
-        Client::Refused(r) => print_refusal(r),
+        Client::Refused => print_refusal(Refusal::DecodeError),
     }
 }
 
@@ -175,7 +175,7 @@ fn show_server(message: &[u8], out: &mut [u8]) {
                 }
             }
         }
-        Server::Refused(r) => print_refusal(r),
+        Server::Refused => print_refusal(Refusal::DecodeError),
     }
 }
 
@@ -193,7 +193,7 @@ fn show_ticket(message: &[u8], out: &mut [u8]) {
             let said = messages::ticket::write(lifetime_hint, part(message, start, len), out);
             print_again(said, out, message);
         }
-        Ticket::Refused(r) => print_refusal(r),
+        Ticket::Refused => print_refusal(Refusal::DecodeError),
     }
 }
 
@@ -206,7 +206,7 @@ fn show_hint(message: &[u8], out: &mut [u8]) {
             let said = messages::key_exchange::write_hint(part(message, start, len), out);
             print_again(said, out, message);
         }
-        Part::Refused(r) => print_refusal(r),
+        Part::Refused => print_refusal(Refusal::DecodeError),
     }
 }
 
@@ -221,7 +221,7 @@ fn show_identity(message: &[u8], out: &mut [u8]) {
             let said = messages::key_exchange::write_identity(identity, out);
             print_again(said, out, message);
         }
-        Part::Refused(r) => print_refusal(r),
+        Part::Refused => print_refusal(Refusal::DecodeError),
     }
 }
 
@@ -234,7 +234,7 @@ fn show_done(message: &[u8], out: &mut [u8]) {
             let said = messages::fixed::write_done(out);
             print_again(said, out, message);
         }
-        Part::Refused(r) => print_refusal(r),
+        Part::Refused => print_refusal(Refusal::DecodeError),
     }
 }
 
@@ -247,7 +247,7 @@ fn show_finished(message: &[u8], out: &mut [u8]) {
             let said = messages::fixed::write_finished(part(message, start, len), out);
             print_again(said, out, message);
         }
-        Part::Refused(r) => print_refusal(r),
+        Part::Refused => print_refusal(Refusal::DecodeError),
     }
 }
 

@@ -106,7 +106,7 @@ fn body(c: Connection, m: &[u8], out: &mut [u8]) -> Answer
             }
             complete(c, m, out)
         }
-        Part::Refused(_) => refuse(c, Refusal::DecodeError),
+        Part::Refused => refuse(c, Refusal::DecodeError),
     }
 }
 

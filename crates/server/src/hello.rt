@@ -207,7 +207,7 @@ fn body(c: Connection, m: &[u8], out: &mut [u8]) -> Answer
                 Choice::Suite(suite) => answer(c, m, suite, out),
             }
         }
-        Client::Refused(_) => refuse(c, Refusal::DecodeError),
+        Client::Refused => refuse(c, Refusal::DecodeError),
     }
 }
 

@@ -101,7 +101,7 @@ fn body(c: Connection, table: &[u8], m: &[u8]) -> Answer
 {
     match messages::key_exchange::read_identity_body(m) {
         Part::At { start: _, len: _ } => look_up(c, table, m, messages::key_exchange::identity(m)),
-        Part::Refused(_) => refuse(c, Refusal::DecodeError),
+        Part::Refused => refuse(c, Refusal::DecodeError),
     }
 }
 
