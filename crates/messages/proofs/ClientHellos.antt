@@ -20,6 +20,7 @@ use Rattle.messages.specs.declared.hello.BlockFound.{BlockFound}
 use Rattle.messages.specs.declared.hello.BlockFound.the-variants.{Found}
 use Rattle.messages.specs.declared.client_hello.Client.{Client}
 use Rattle.messages.specs.declared.client_hello.Client.the-variants.{Read}
+use Rattle.layout.specs.Types.{clientHelloType}
 use Rattle.layout.specs.Layout.{bytes, valid, Inverse}
 use Rattle.layout.specs.Header.{header}
 use Rattle.layout.specs.Place.{endAt, partAt, ruled}
@@ -34,33 +35,44 @@ use Rattle.messages.proofs.Hellos.{front-written, front-read, front-rul
 -- ---- where the parts stand
 
 -- each behind the one before: the session id at x, the suites at s, the methods at t, and the block
-abbrev Parts : List ℕ → (x n s k t j : ℕ) → Block → Type 0
-Parts m x n s k t j b = (sessionAt m ≡ At x n) × (ruled suitesLength (partAt 2 m (x + n)) ≡ At s k) × (ruled methodsLength (partAt 1 m (s + k)) ≡ At t j)
-    × (blockAt true m (t + j) ≡ Found b)
+pub record Parts (m : List ℕ) (x n s k t j : ℕ) (b : Block) : Type 0 where
+  pub session : sessionAt m ≡ At x n
+  pub suites : ruled suitesLength (partAt 2 m (x + n)) ≡ At s k
+  pub methods : ruled methodsLength (partAt 1 m (s + k)) ≡ At t j
+  pub block : blockAt true m (t + j) ≡ Found b
 
--- what holds of every refusal and wherever the parts stand so holds of what is found
-module _ (m : List ℕ) (Holds : Client → Type 0) (refused : Holds Client.Refused)
-    (read : (x n s k t j : ℕ) (b : Block) → Parts m x n s k t j b → Holds (Read (number (take 2 (drop 4 m))) n s k t j b)) where
-  by-block : (x n s k t j : ℕ) (o : BlockFound) → sessionAt m ≡ At x n → ruled suitesLength (partAt 2 m (x + n)) ≡ At s k
-      → ruled methodsLength (partAt 1 m (s + k)) ≡ At t j → blockAt true m (t + j) ≡ o → Holds (clientBlock m n s k t j o)
-  by-block x n s k t j (Found b) session suites methods block = read x n s k t j b (session, suites, methods, block)
-  by-block x n s k t j BlockFound.Refused session suites methods block = refused
+-- how a ClientHello is read, by cases: what holds of a refusal, and wherever the parts stand so, holds of what is read
+module _ (m : List ℕ) (Holds : Client → Type 0) (refused : Holds Client.Refused) where
+  pub by-parts : ((x n s k t j : ℕ) (b : Block) → Parts m x n s k t j b → Holds (Read (number (take 2 (drop 4 m))) n s k t j b)) → Holds (clientBody m)
+  by-parts read = by-session (sessionAt m) refl
+    where
+      by-block : (x n s k t j : ℕ) (o : BlockFound) → sessionAt m ≡ At x n → ruled suitesLength (partAt 2 m (x + n)) ≡ At s k
+          → ruled methodsLength (partAt 1 m (s + k)) ≡ At t j → blockAt true m (t + j) ≡ o → Holds (clientBlock m n s k t j o)
+      by-block x n s k t j (Found b) session suites methods block =
+          read x n s k t j b (record { session = session; suites = suites; methods = methods; block = block })
+      by-block x n s k t j BlockFound.Refused session suites methods block = refused
 
-  by-methods : (x n s k : ℕ) (p : Part) → sessionAt m ≡ At x n → ruled suitesLength (partAt 2 m (x + n)) ≡ At s k
-      → ruled methodsLength (partAt 1 m (s + k)) ≡ p → Holds (clientMethods m n s k p)
-  by-methods x n s k (At t j) session suites methods = by-block x n s k t j (blockAt true m (t + j)) session suites methods refl
-  by-methods x n s k Part.Refused session suites methods = refused
+      by-methods : (x n s k : ℕ) (p : Part) → sessionAt m ≡ At x n → ruled suitesLength (partAt 2 m (x + n)) ≡ At s k
+          → ruled methodsLength (partAt 1 m (s + k)) ≡ p → Holds (clientMethods m n s k p)
+      by-methods x n s k (At t j) session suites methods = by-block x n s k t j (blockAt true m (t + j)) session suites methods refl
+      by-methods x n s k Part.Refused session suites methods = refused
 
-  by-suites : (x n : ℕ) (p : Part) → sessionAt m ≡ At x n → ruled suitesLength (partAt 2 m (x + n)) ≡ p → Holds (clientSuites m n p)
-  by-suites x n (At s k) session suites = by-methods x n s k (ruled methodsLength (partAt 1 m (s + k))) session suites refl
-  by-suites x n Part.Refused session suites = refused
+      by-suites : (x n : ℕ) (p : Part) → sessionAt m ≡ At x n → ruled suitesLength (partAt 2 m (x + n)) ≡ p → Holds (clientSuites m n p)
+      by-suites x n (At s k) session suites = by-methods x n s k (ruled methodsLength (partAt 1 m (s + k))) session suites refl
+      by-suites x n Part.Refused session suites = refused
 
-  by-session : (p : Part) → sessionAt m ≡ p → Holds (clientSession m p)
-  by-session (At x n) session = by-suites x n (ruled suitesLength (partAt 2 m (x + n))) session refl
-  by-session Part.Refused session = refused
+      by-session : (p : Part) → sessionAt m ≡ p → Holds (clientSession m p)
+      by-session (At x n) session = by-suites x n (ruled suitesLength (partAt 2 m (x + n))) session refl
+      by-session Part.Refused session = refused
 
-  by-parts : Holds (clientBody m)
-  by-parts = by-session (sessionAt m) refl
+  -- the same with the header's tests
+  pub by-header : (header clientHelloType m ≡ Verdict.Accepted → (x n s k t j : ℕ) (b : Block) → Parts m x n s k t j b
+      → Holds (Read (number (take 2 (drop 4 m))) n s k t j b)) → Holds (clientPlace m)
+  by-header read = go (header clientHelloType m) refl
+    where
+      go : (v : Verdict) → header clientHelloType m ≡ v → Holds (clientHeader m v)
+      go Verdict.Accepted a = by-parts (read a)
+      go (Verdict.Refused r) a = refused
 
 -- the random, which ends at 38, the k bytes of suites from s on and the j bytes of methods from t on lie inside the message
 abbrev pub Inside : List ℕ → ℕ → ℕ → ℕ → ℕ → Type 0
@@ -74,10 +86,10 @@ parts-inside m v n s k t j b = by-parts m (λ p. p ≡ Read v n s k t j b → In
 
     inside : (x n₀ s₀ k₀ t₀ j₀ : ℕ) (b₀ : Block) → Parts m x n₀ s₀ k₀ t₀ j₀ b₀
         → Read (number (take 2 (drop 4 m))) n₀ s₀ k₀ t₀ j₀ b₀ ≡ Read v n s k t j b → Inside m s k t j
-    inside x n₀ s₀ k₀ t₀ j₀ b₀ (session, suites, methods, block) e =
-        let first = ruled-inside (λ i. leb i 32) 1 m 38 x n₀ session in
-        let second = ruled-inside suitesLength 2 m (x + n₀) s₀ k₀ suites in
-        let third = ruled-inside methodsLength 1 m (s₀ + k₀) t₀ j₀ methods in
+    inside x n₀ s₀ k₀ t₀ j₀ b₀ p e =
+        let first = ruled-inside (λ i. leb i 32) 1 m 38 x n₀ (p .session) in
+        let second = ruled-inside suitesLength 2 m (x + n₀) s₀ k₀ (p .suites) in
+        let third = ruled-inside methodsLength 1 m (s₀ + k₀) t₀ j₀ (p .methods) in
         let suites-at : s₀ ≡ s = cc e in
         let suites-size : k₀ ≡ k = cc e in
         let methods-at : t₀ ≡ t = cc e in
@@ -126,7 +138,7 @@ reads f h =
     let tail : List ℕ = tailBytes (f .extensions) in
     let ok = valid-parts clientHello f h in
     let rules = rules-of f h in
-    let front = front-written 1 (f .version) (f .random) (f .sessionId) (vector 2 (f .suites) ++ (vector 1 (f .methods) ++ tail)) (rules .0) in
+    let front = front-written clientHelloType (f .version) (f .random) (f .sessionId) (vector 2 (f .suites) ++ (vector 1 (f .methods) ++ tail)) (rules .0) in
     let suites = part-written 2 m (39 + n) (f .suites) (vector 1 (f .methods) ++ tail) (omega arith) (rules .1 .0) (front .4) in
     let methods = part-written 1 m (39 + n + 2 + k) (f .methods) tail (omega arith) (rules .2 .0) (suites .3) in
     let block = block-written true m (39 + n + 2 + k + 1 + j) (f .extensions) (omega arith) (rules .3) (methods .3) in
@@ -135,7 +147,7 @@ reads f h =
     let methods-at : ruled methodsLength (partAt 1 m (39 + n + 2 + k)) ≡ At (39 + n + 2 + k + 1) j =
     rw (le-leb (endAt 1 m (39 + n + 2 + k)) (length m) (omega arith), methods .1, rules .2 .1) in
     let place : clientPlace m ≡ Read (number (take 2 (drop 4 m))) n (39 + n + 2) k (39 + n + 2 + k + 1) j (block .0) =
-    rw (header-message 1 (clientHello .body f) (ok .1), front .0, suites-at, methods-at, block .1) in
+    rw (header-message clientHelloType (clientHello .body f) (ok .1), front .0, suites-at, methods-at, block .1) in
     ap (clientFields m) place ∙ (λ i. some (record {
       version = front .1 i;
       random = front .2 i;
@@ -165,32 +177,31 @@ module _ (m : List ℕ) (f : ClientHello) (b : Bytes m) where
   abbrev Writes : Client → Type 0
   Writes p = clientFields m p ≡ some f → Wrote m f
 
-  writes-parts : header 1 m ≡ Verdict.Accepted → (x n s k t j : ℕ) (p : Block) → Parts m x n s k t j p
-      → Writes (Read (number (take 2 (drop 4 m))) n s k t j p)
-  writes-parts accepted x n s k t j p (session, suites, methods, found) e =
+  writes : header clientHelloType m ≡ Verdict.Accepted → (x n s k t j : ℕ) (c : Block) → Parts m x n s k t j c
+      → Writes (Read (number (take 2 (drop 4 m))) n s k t j c)
+  writes accepted x n s k t j c p e =
       let read : ClientHello = record {
         version = number (take 2 (drop 4 m));
         random = take 32 (drop 6 m);
         sessionId = take n (drop 39 m);
         suites = take k (drop s m);
         methods = take j (drop t m);
-        extensions = blockContents m p;
+        extensions = blockContents m c;
       } in
       let same : f ≡ read = cc e in
-      let head = header-read 1 m b accepted in
-      let front = front-read m x n b session in
-      let second = vector-read suitesLength 2 m (x + n) s k b suites in
-      let third = vector-read methodsLength 1 m (s + k) t j b methods in
-      let block = block-read true m (t + j) p b found in
+      let head = header-read clientHelloType m b accepted in
+      let front = front-read m x n b (p .session) in
+      let second = vector-read suitesLength 2 m (x + n) s k b (p .suites) in
+      let third = vector-read methodsLength 1 m (s + k) t j b (p .methods) in
+      let block = block-read true m (t + j) c b (p .block) in
       let rest : drop (39 + n) m ≡ vector 2 (read .suites) ++ (vector 1 (read .methods) ++ tailBytes (read .extensions)) =
       rw (front .0) at (second .0) ∙ ap (λ (l : List ℕ). vector 2 (read .suites) ++ l) (third .0 ∙ ap (λ (l : List ℕ). vector 1 (read .methods) ++ l) (block .0)) in
       let body : drop 4 m ≡ clientHello .body read = front .2 ∙ ap (frontBytes (read .version) (read .random) (read .sessionId)) rest in
       let rules : clientHello .rules read ≡ true = rw (front .3, second .1, second .2, third .1, third .2) (block .1) in
       rw same (valid-within clientHello read rules (rw body at (head .1)), rw body at (head .0))
 
-  writes : (v : Verdict) → header 1 m ≡ v → Writes (clientHeader m v)
-  writes Verdict.Accepted a = by-parts m Writes (λ e. absurd (Option·none-ne-some f e)) (writes-parts a)
-  writes (Verdict.Refused r) a = λ e. absurd (Option·none-ne-some f e)
-
 pub client-inverse : Inverse clientHello readClientHello
-client-inverse = record { reads-written = reads; writes-read = λ m f b. writes m f b (header 1 m) refl }
+client-inverse = record {
+  reads-written = reads;
+  writes-read = λ m f b. by-header m (Writes m f b) (λ e. absurd (Option·none-ne-some f e)) (writes m f b);
+}
