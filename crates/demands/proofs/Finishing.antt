@@ -23,7 +23,7 @@ use Rattle.layout.specs.Types.{messageLimit}
 use Rattle.layout.specs.Layout.{bytes}
 use Rattle.layout.specs.Header.{header}
 use Rattle.layout.specs.Place.{lastAt, filledBy, afterHeader, contents}
-use Rattle.messages.specs.ClientHello.{clientHeader, clientFields}
+use Rattle.hellos.specs.ClientHello.{clientHeader, clientFields}
 use Rattle.messages.specs.Fixed as Fixed
 use Rattle.messages.specs.Fixed.{readFixed}
 use Rattle.server.specs.declared.Phase.{Phase}

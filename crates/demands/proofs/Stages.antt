@@ -16,7 +16,7 @@ use Rattle.refusal.specs.declared.Refusal.the-variants.{UnexpectedMessage, Hand
 use Rattle.layout.specs.declared.Verdict.{Verdict}
 use Rattle.layout.specs.Header.{header}
 use Rattle.layout.specs.Place.{lastAt, afterHeader, contents}
-use Rattle.messages.specs.ClientHello.{ClientHello, clientHeader, clientFields, readClientHello}
+use Rattle.hellos.specs.ClientHello.{ClientHello, clientHeader, clientFields, readClientHello}
 use Rattle.messages.specs.KeyExchange.{readVector}
 use Rattle.server.specs.declared.Rule.{Rule}
 use Rattle.server.specs.declared.Phase.{Phase}

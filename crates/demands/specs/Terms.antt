@@ -13,7 +13,7 @@ use Rattle.keys.specs.declared.Side.the-variants.{Client}
 use Rattle.keys.specs.Secrets.{verifyData}
 use Rattle.layout.specs.declared.Verdict.the-variants.{Accepted}
 use Rattle.layout.specs.Header.{header}
-use Rattle.messages.specs.ClientHello.{ClientHello, readClientHello}
+use Rattle.hellos.specs.ClientHello.{ClientHello, readClientHello}
 use Rattle.messages.specs.KeyExchange.{readVector}
 use Rattle.messages.specs.Fixed.{readFixed}
 use Rattle.keytable.specs.WellFormed.{Each}

@@ -16,7 +16,7 @@ use Rattle.layout.specs.Header.{header}
 use Rattle.messages.specs.KeyExchange.{serverKeyExchange, clientKeyExchange, readVector}
 use Rattle.messages.specs.Fixed.{serverHelloDone}
 use Rattle.messages.specs.NewSessionTicket.{newSessionTicket}
-use Rattle.messages.specs.ClientHello.{ClientHello, clientHello}
+use Rattle.hellos.specs.ClientHello.{ClientHello, clientHello}
 use Rattle.keytable.specs.Utf8.{validUtf8}
 use Rattle.keytable.specs.Table.{wellFormed, keyOf}
 use Rattle.server.specs.declared.Phase.{Phase}

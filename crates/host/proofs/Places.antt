@@ -14,11 +14,11 @@ use Rattle.endian.specs.Vector.{stated}
 use Rattle.endian.proofs.Numbers.{bytes-drop}
 use Rattle.layout.specs.declared.Verdict.{Verdict}
 use Rattle.layout.specs.declared.Part.{Part}
-use Rattle.messages.specs.declared.hello.Block.{Block}
-use Rattle.messages.specs.declared.hello.BlockFound.{BlockFound}
+use Rattle.hellos.specs.declared.Block.{Block}
+use Rattle.hellos.specs.declared.BlockFound.{BlockFound}
 use Rattle.messages.specs.declared.ticket.Ticket.{Ticket}
-use Rattle.messages.specs.declared.server_hello.Server.{Server}
-use Rattle.messages.specs.declared.client_hello.Client.{Client}
+use Rattle.hellos.specs.declared.server_hello.Server.{Server}
+use Rattle.hellos.specs.declared.client_hello.Client.{Client}
 use Rattle.extensions.specs.declared.Step.{Step}
 use Rattle.layout.specs.Header.{header}
 use Rattle.layout.specs.Place.{endAt, partAt, ruled, lastAt, filledBy, afterHeader}
@@ -26,9 +26,9 @@ use Rattle.messages.specs.KeyExchange.{vectorPlace}
 use Rattle.messages.specs.Fixed.{fixedPlace}
 use Rattle.messages.specs.NewSessionTicket.{withHint, ticketPlace}
 use Rattle.extensions.specs.Extensions.{blockRule, stepAt}
-use Rattle.messages.specs.Hello.{sessionAt, blockIn, blockAt}
-use Rattle.messages.specs.ServerHello.{serverBlock, serverSession, serverHeader, serverPlace}
-use Rattle.messages.specs.ClientHello.{suitesLength, methodsLength, clientBlock, clientMethods, clientSuites, clientSession, clientHeader, clientPlace}
+use Rattle.hellos.specs.Hello.{sessionAt, blockIn, blockAt}
+use Rattle.hellos.specs.ServerHello.{serverBlock, serverSession, serverHeader, serverPlace}
+use Rattle.hellos.specs.ClientHello.{suitesLength, methodsLength, clientBlock, clientMethods, clientSuites, clientSession, clientHeader, clientPlace}
 use Rattle.layout.proofs.Headers.{header-read}
 use Rattle.host.specs.Inner.{Fits, PartFits, BlockFits}
 

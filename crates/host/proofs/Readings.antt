@@ -11,7 +11,7 @@ use mir.Val.{toZ, ofZ}
 use Rattle.refusal.specs.declared.Refusal.{Refusal}
 use Rattle.refusal.specs.declared.Refusal.the-variants.{DecodeError}
 use Rattle.layout.specs.declared.Part.{Part}
-use Rattle.messages.specs.declared.hello.Block.{Block}
+use Rattle.hellos.specs.declared.Block.{Block}
 use Rattle.host.specs.Codes.{refusalCode, rejected, Reading, Reads}
 use Rattle.host.specs.Fields.{partRead, blockFields}
 use Rattle.host.proofs.Signed.{handed-on}

@@ -29,8 +29,8 @@ use Rattle.layout.specs.declared.Verdict.{Verdict}
 use Rattle.layout.specs.Layout.{Layout, bytes, written, valid}
 use Rattle.layout.specs.Header.{header}
 use Rattle.layout.specs.Place.{lastAt, filledBy, contents}
-use Rattle.messages.specs.ClientHello.{ClientHello, clientBody, clientFields}
-use Rattle.messages.specs.ServerHello.{serverHello}
+use Rattle.hellos.specs.ClientHello.{ClientHello, clientBody, clientFields}
+use Rattle.hellos.specs.ServerHello.{serverHello}
 use Rattle.messages.specs.Fixed.{serverHelloDone}
 use Rattle.extensions.specs.Extensions.{Ext, extensionBytes, extensionWritten}
 use Rattle.keytable.specs.Table.{keyOf, found}

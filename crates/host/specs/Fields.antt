@@ -8,10 +8,10 @@ use lib.Dec.{leb}
 use lib.IntN.{pos}
 use Rattle.refusal.specs.declared.Refusal.the-variants.{DecodeError}
 use Rattle.layout.specs.declared.Part.{Part}
-use Rattle.messages.specs.declared.hello.Block.{Block}
+use Rattle.hellos.specs.declared.Block.{Block}
 use Rattle.messages.specs.declared.ticket.Ticket.{Ticket}
-use Rattle.messages.specs.declared.server_hello.Server.{Server}
-use Rattle.messages.specs.declared.client_hello.Client.{Client}
+use Rattle.hellos.specs.declared.server_hello.Server.{Server}
+use Rattle.hellos.specs.declared.client_hello.Client.{Client}
 use Rattle.extensions.specs.declared.Step.{Step}
 use Rattle.extensions.specs.Extensions.{stepAt}
 use Rattle.host.specs.Codes.{Reading, accepted, rejected}

@@ -7,7 +7,7 @@ use Rattle.refusal.specs.declared.Written.{Written}
 use Rattle.refusal.specs.declared.Written.the-variants.{Wrote, Refused}
 use Rattle.refusal.specs.Table.{toClient}
 use Rattle.layout.specs.declared.Part.{Part}
-use Rattle.messages.specs.declared.hello.Block.{Block}
+use Rattle.hellos.specs.declared.Block.{Block}
 use Rattle.server.specs.declared.Connection.{Connection}
 use Rattle.server.specs.Saved.{restored}
 use Rattle.host.specs.Connections.{keptAfter}

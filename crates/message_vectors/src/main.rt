@@ -4,12 +4,12 @@
 // to outputs that are too short. tests/message_vectors.py makes the input, and prints the same lines
 // from a parser of its own.
 use extensions::Step;
+use hellos::Block;
+use hellos::client_hello::Client;
+use hellos::server_hello::Server;
 use layout::Part;
 use libc::STDIN_FILENO;
 use libc::STDOUT_FILENO;
-use messages::client_hello::Client;
-use messages::hello::Block;
-use messages::server_hello::Server;
 use messages::ticket::Ticket;
 use refusal::Refusal;
 use refusal::Written;
@@ -71,7 +71,7 @@ fn print_block(block: &[u8]) {
 
 fn show_client(message: &[u8], out: &mut [u8]) {
     io::write_all(STDOUT_FILENO, b" ClientHello");
-    match messages::client_hello::read(message) {
+    match hellos::client_hello::read(message) {
         Client::Read {
             version,
             session_len,
@@ -94,7 +94,7 @@ fn show_client(message: &[u8], out: &mut [u8]) {
             match block {
                 Block::Absent => {
                     io::write_all(STDOUT_FILENO, b" absent");
-                    let said = messages::client_hello::write(
+                    let said = hellos::client_hello::write(
                         version,
                         random,
                         session_id,
@@ -109,7 +109,7 @@ fn show_client(message: &[u8], out: &mut [u8]) {
                 Block::At { start, len } => {
                     let contents = part(message, start, len);
                     print_block(contents);
-                    let said = messages::client_hello::write(
+                    let said = hellos::client_hello::write(
                         version,
                         random,
                         session_id,
@@ -129,7 +129,7 @@ fn show_client(message: &[u8], out: &mut [u8]) {
 
 fn show_server(message: &[u8], out: &mut [u8]) {
     io::write_all(STDOUT_FILENO, b" ServerHello");
-    match messages::server_hello::read(message) {
+    match hellos::server_hello::read(message) {
         Server::Read {
             version,
             session_len,
@@ -146,7 +146,7 @@ fn show_server(message: &[u8], out: &mut [u8]) {
             match block {
                 Block::Absent => {
                     io::write_all(STDOUT_FILENO, b" absent");
-                    let said = messages::server_hello::write(
+                    let said = hellos::server_hello::write(
                         version,
                         random,
                         session_id,
@@ -161,7 +161,7 @@ fn show_server(message: &[u8], out: &mut [u8]) {
                 Block::At { start, len } => {
                     let contents = part(message, start, len);
                     print_block(contents);
-                    let said = messages::server_hello::write(
+                    let said = hellos::server_hello::write(
                         version,
                         random,
                         session_id,
@@ -358,7 +358,7 @@ fn try_client(
         return;
     }
     let at = out.len() - room;
-    let said = messages::client_hello::write(
+    let said = hellos::client_hello::write(
         version,
         part(bytes, 0, lengths.random),
         part(bytes, 0, lengths.session_id),
@@ -383,7 +383,7 @@ fn try_server(
         return;
     }
     let at = out.len() - room;
-    let said = messages::server_hello::write(
+    let said = hellos::server_hello::write(
         771,
         part(bytes, 0, 32),
         part(bytes, 0, 0),

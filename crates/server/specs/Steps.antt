@@ -19,8 +19,8 @@ use Rattle.keys.specs.Secrets.{premaster, master, verifyData}
 use Rattle.layout.specs.declared.Verdict.{Verdict}
 use Rattle.layout.specs.Layout.{bytes}
 use Rattle.layout.specs.Header.{header}
-use Rattle.messages.specs.ClientHello.{ClientHello, clientBody, clientFields}
-use Rattle.messages.specs.ServerHello.{serverHello}
+use Rattle.hellos.specs.ClientHello.{ClientHello, clientBody, clientFields}
+use Rattle.hellos.specs.ServerHello.{serverHello}
 use Rattle.messages.specs.KeyExchange.{serverKeyExchange}
 use Rattle.messages.specs.Fixed as Fixed
 use Rattle.layout.specs.Place.{lastAt, filledBy, contents}

@@ -4,7 +4,7 @@ ghost use mathlib.Core.List.{List, [], _++_};
 ghost use Prim.Native.Nat.{ℕ, _+_, _≤_};
 ghost use lib.ListN.{length, take};
 ghost use Rattle.refusal.specs.Lent.{Answers, gives};
-ghost use Rattle.messages.specs.ClientHello.{clientBody, clientFields};
+ghost use Rattle.hellos.specs.ClientHello.{clientBody, clientFields};
 ghost use Rattle.messages.specs.Fixed.{serverHelloDone};
 ghost use Rattle.layout.specs.Header.{header};
 ghost use Rattle.layout.specs.Layout.{bytes};
@@ -17,8 +17,8 @@ use crate::Connection;
 use crate::Phase;
 use crate::bytes32;
 use crate::refuse;
+use hellos::client_hello::Client;
 use layout::Verdict;
-use messages::client_hello::Client;
 use refusal::Refusal;
 use refusal::Written;
 
@@ -106,7 +106,7 @@ fn put_flight(random: &[u8], hint: &[u8], suite: u16, out: &mut [u8])
     ensures { λ _. ⌜ now (out .exit) ≡ Inner.front (flight (now (random .entry)) (now (hint .entry)) suite) (now (out .entry)) ⌝ }
 {
     let none = &random[0..0];
-    messages::server_hello::write(0x0303, random, none, suite as usize, 0, false, none, out);
+    hellos::server_hello::write(0x0303, random, none, suite as usize, 0, false, none, out);
     put_rest(hint, &mut out[42..]);
 }
 
@@ -186,7 +186,7 @@ fn body(c: Connection, m: &[u8], out: &mut [u8]) -> Answer
     ensures { λ a. ⌜ Does c (now (out .entry)) (helloFields suites c (now (m .entry)) (clientFields (now (m .entry)) (clientBody (now (m .entry)))))
         a (now (out .exit)) ⌝ }
 {
-    match messages::client_hello::read_body(m) {
+    match hellos::client_hello::read_body(m) {
         Client::Read {
             version,
             session_len: _,

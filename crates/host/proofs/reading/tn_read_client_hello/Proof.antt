@@ -5,8 +5,8 @@ use mathlib.Core.Path.{_≡_, refl, sym, _∙_}
 use native.Mathlib.Omega.{arith}
 use Rattle.endian.specs.Number.{Bytes}
 use Rattle.refusal.specs.declared.Refusal.the-variants.{DecodeError}
-use Rattle.messages.specs.declared.client_hello.Client.{Client}
-use Rattle.messages.specs.ClientHello.{clientPlace}
+use Rattle.hellos.specs.declared.client_hello.Client.{Client}
+use Rattle.hellos.specs.ClientHello.{clientPlace}
 use Rattle.host.proofs.Readings.{refusal-read, three-fields}
 use Rattle.host.proofs.Places.{ClientFits, client-fits}
 use Rattle.host.proofs.reading.tn_read_client_hello.Statement.{statement}

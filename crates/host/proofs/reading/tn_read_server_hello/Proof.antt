@@ -5,8 +5,8 @@ use mathlib.Core.Path.{_≡_, refl, sym, _∙_}
 use native.Mathlib.Omega.{arith}
 use Rattle.endian.specs.Number.{Bytes}
 use Rattle.refusal.specs.declared.Refusal.the-variants.{DecodeError}
-use Rattle.messages.specs.declared.server_hello.Server.{Server}
-use Rattle.messages.specs.ServerHello.{serverPlace}
+use Rattle.hellos.specs.declared.server_hello.Server.{Server}
+use Rattle.hellos.specs.ServerHello.{serverPlace}
 use Rattle.host.proofs.Readings.{refusal-read, three-fields}
 use Rattle.host.proofs.Places.{ServerFits, server-fits}
 use Rattle.host.proofs.reading.tn_read_server_hello.Statement.{statement}

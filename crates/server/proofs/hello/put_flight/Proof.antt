@@ -4,7 +4,7 @@ use mathlib.Core.Path.{_≡_, sym}
 use native.Mathlib.Omega.{arith}
 use mathlib.Core.List.{[], _++_}
 use Rattle.layout.specs.Layout.{bytes}
-use Rattle.messages.specs.ServerHello.{serverHello}
+use Rattle.hellos.specs.ServerHello.{serverHello}
 use Rattle.messages.specs.Fixed.{serverHelloDone}
 use Rattle.server.specs.Steps.{hintMessage}
 use Rattle.server.specs.Inner.{front}
