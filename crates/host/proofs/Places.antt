@@ -21,15 +21,18 @@ use Rattle.hellos.specs.declared.server_hello.Server.{Server}
 use Rattle.hellos.specs.declared.client_hello.Client.{Client}
 use Rattle.extensions.specs.declared.Step.{Step}
 use Rattle.layout.specs.Header.{header}
-use Rattle.layout.specs.Place.{endAt, partAt, ruled, lastAt, filledBy, afterHeader}
+use Rattle.layout.specs.Place.{endAt, lastAt, filledBy, afterHeader}
 use Rattle.messages.specs.KeyExchange.{vectorPlace}
 use Rattle.messages.specs.Fixed.{fixedPlace}
 use Rattle.messages.specs.NewSessionTicket.{withHint, ticketPlace}
 use Rattle.extensions.specs.Extensions.{blockRule, stepAt}
-use Rattle.hellos.specs.Hello.{sessionAt, blockIn, blockAt}
-use Rattle.hellos.specs.ServerHello.{serverBlock, serverSession, serverHeader, serverPlace}
-use Rattle.hellos.specs.ClientHello.{suitesLength, methodsLength, clientBlock, clientMethods, clientSuites, clientSession, clientHeader, clientPlace}
+use Rattle.hellos.specs.Hello.{blockIn, blockAt}
+use Rattle.hellos.specs.ServerHello.{serverPlace}
+use Rattle.hellos.specs.ClientHello.{suitesLength, methodsLength, clientPlace}
 use Rattle.layout.proofs.Headers.{header-read}
+use Rattle.layout.proofs.Places.{ruled-inside}
+use Rattle.hellos.proofs.ServerHellos as ServerHellos
+use Rattle.hellos.proofs.ClientHellos as ClientHellos
 use Rattle.host.specs.Inner.{Fits, PartFits, BlockFits}
 
 two-bytes : (bs : List ℕ) → Bytes bs → number (take 2 bs) < 65536
@@ -51,15 +54,6 @@ accepted-length kind m b e =
 tested : (t : Bool) (s n : ℕ) → (t ≡ true → Fits s n) → PartFits (cond t (Part.At s n) Part.Refused)
 tested true s n h = h refl
 tested false s n h = tt
-
-ruled-fits : (rule : ℕ → Bool) (p : Part) → PartFits p → PartFits (ruled rule p)
-ruled-fits rule (Part.At s n) h = tested (rule n) s n (λ _. h)
-ruled-fits rule Part.Refused h = tt
-
-part-fits : (w : ℕ) (m : List ℕ) (at : ℕ) → length m ≤ 16384 → PartFits (partAt w m at)
-part-fits w m at size = tested (leb (endAt w m at) (length m)) (at + w) (stated w (drop at m)) (λ t.
-    let ends : endAt w m at ≤ length m = leb-true (endAt w m at) (length m) t in
-    record { start-fits = omega arith; len-fits = omega arith })
 
 last-fits : (m : List ℕ) (at : ℕ) → length m ≤ 16384 → PartFits (lastAt 2 m at)
 last-fits m at size = tested (eqb (endAt 2 m at) (length m)) (at + 2) (stated 2 (drop at m)) (λ t.
@@ -119,8 +113,8 @@ block-fits client m at size = go (eqb at (length m))
     go true = tt
     go false = in-part (lastAt 2 m at) (last-fits m at size)
 
-session-fits : (m : List ℕ) → length m ≤ 16384 → PartFits (sessionAt m)
-session-fits m size = ruled-fits (λ n. leb n 32) (partAt 1 m 38) (part-fits 1 m 38 size)
+found-fits : (client : Bool) (m : List ℕ) (at : ℕ) (b : Block) → length m ≤ 16384 → blockAt client m at ≡ BlockFound.Found b → BlockFits b
+found-fits client m at b size e = rw e at (block-fits client m at size)
 
 pub record ServerNumbers (version n suite : ℕ) (b : Block) : Type 0 where
   pub version-fits : version < 2 ^ 32
@@ -133,24 +127,15 @@ ServerFits (Server.Read version n suite compression b) = ServerNumbers version n
 ServerFits Server.Refused = Unit
 
 pub server-fits : (m : List ℕ) → Bytes m → ServerFits (serverPlace m)
-server-fits m b = of-header (header 2 m) refl
-  where
-    of-block : (n : ℕ) (o : BlockFound) → n < 2 ^ 32 → FoundFits o → ServerFits (serverBlock m n o)
-    of-block n (BlockFound.Found k) h block =
-        record { version-fits = number-fits m 4 b; session-fits = h; suite-fits = number-fits m (39 + n) b; block = block }
-    of-block n BlockFound.Refused h block = tt
-
-    of-room : (t : Bool) (n : ℕ) → n < 2 ^ 32 → length m ≤ 16384 → ServerFits (cond t (serverBlock m n (blockAt false m (42 + n))) Server.Refused)
-    of-room true n h size = of-block n (blockAt false m (42 + n)) h (block-fits false m (42 + n) size)
-    of-room false n h size = tt
-
-    of-session : (p : Part) → PartFits p → length m ≤ 16384 → ServerFits (serverSession m p)
-    of-session (Part.At s n) h size = of-room (leb (42 + n) (length m)) n (h .len-fits) size
-    of-session Part.Refused h size = tt
-
-    of-header : (v : Verdict) → header 2 m ≡ v → ServerFits (serverHeader m v)
-    of-header Verdict.Accepted e = let size = accepted-length 2 m b e in of-session (sessionAt m) (session-fits m size) size
-    of-header (Verdict.Refused r) e = tt
+server-fits m b = ServerHellos.by-header m ServerFits tt (λ a x n c p.
+    let size = accepted-length 2 m b a in
+    let room = p .room in
+    record {
+      version-fits = number-fits m 4 b;
+      session-fits = omega arith;
+      suite-fits = number-fits m (39 + n) b;
+      block = found-fits false m (42 + n) c size (p .block);
+    })
 
 pub record ClientNumbers (version n s k t j : ℕ) (b : Block) : Type 0 where
   pub version-fits : version < 2 ^ 32
@@ -164,32 +149,18 @@ ClientFits (Client.Read version n s k t j b) = ClientNumbers version n s k t j b
 ClientFits Client.Refused = Unit
 
 pub client-fits : (m : List ℕ) → Bytes m → ClientFits (clientPlace m)
-client-fits m b = of-header (header 1 m) refl
-  where
-    of-block : (n s k t j : ℕ) (o : BlockFound) → n < 2 ^ 32 → Fits s k → Fits t j → FoundFits o → ClientFits (clientBlock m n s k t j o)
-    of-block n s k t j (BlockFound.Found q) h suites methods block =
-        record { version-fits = number-fits m 4 b; session-fits = h; suites = suites; methods = methods; block = block }
-    of-block n s k t j BlockFound.Refused h suites methods block = tt
-
-    of-methods : (n s k : ℕ) (p : Part) → n < 2 ^ 32 → Fits s k → PartFits p → length m ≤ 16384 → ClientFits (clientMethods m n s k p)
-    of-methods n s k (Part.At t j) h suites methods size = of-block n s k t j (blockAt true m (t + j)) h suites methods (block-fits true m (t + j) size)
-    of-methods n s k Part.Refused h suites methods size = tt
-
-    of-suites : (n : ℕ) (p : Part) → n < 2 ^ 32 → PartFits p → length m ≤ 16384 → ClientFits (clientSuites m n p)
-    of-suites n (Part.At s k) h suites size =
-        let methods = ruled-fits methodsLength (partAt 1 m (s + k)) (part-fits 1 m (s + k) size) in
-        of-methods n s k (ruled methodsLength (partAt 1 m (s + k))) h suites methods size
-    of-suites n Part.Refused h suites size = tt
-
-    of-session : (p : Part) → PartFits p → length m ≤ 16384 → ClientFits (clientSession m p)
-    of-session (Part.At s n) h size =
-        let suites = ruled-fits suitesLength (partAt 2 m (s + n)) (part-fits 2 m (s + n) size) in
-        of-suites n (ruled suitesLength (partAt 2 m (s + n))) (h .len-fits) suites size
-    of-session Part.Refused h size = tt
-
-    of-header : (v : Verdict) → header 1 m ≡ v → ClientFits (clientHeader m v)
-    of-header Verdict.Accepted e = let size = accepted-length 1 m b e in of-session (sessionAt m) (session-fits m size) size
-    of-header (Verdict.Refused r) e = tt
+client-fits m b = ClientHellos.by-header m ClientFits tt (λ a x n s k t j c p.
+    let size = accepted-length 1 m b a in
+    let session = ruled-inside (λ i. leb i 32) 1 m 38 x n (p .session) in
+    let suites = ruled-inside suitesLength 2 m (x + n) s k (p .suites) in
+    let methods = ruled-inside methodsLength 1 m (s + k) t j (p .methods) in
+    record {
+      version-fits = number-fits m 4 b;
+      session-fits = omega arith;
+      suites = record { start-fits = omega arith; len-fits = omega arith };
+      methods = record { start-fits = omega arith; len-fits = omega arith };
+      block = found-fits true m (t + j) c size (p .block);
+    })
 
 -- ---- a step through a block
 
