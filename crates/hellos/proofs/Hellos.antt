@@ -14,6 +14,8 @@ use borrow.Author.Tests.{ltb-true, leb-true, eqb-true, lt-ltb, le-leb, eq-eqb, n
 use Rattle.endian.specs.Number.{Bytes, be, number}
 use Rattle.endian.specs.Vector.{vector, writable, stated}
 use Rattle.endian.proofs.Numbers.{number-be-lt, number-lt, be-number-at, bytes-take, bytes-drop}
+use Rattle.refusal.specs.declared.Refusal.the-variants.{BadValue}
+use Rattle.refusal.specs.Lent.{Outcome, gives, refuses}
 use Rattle.layout.specs.declared.Part.{Part}
 use Rattle.layout.specs.declared.Part.the-variants.{At}
 use Rattle.hellos.specs.declared.Block.{Block}
@@ -21,8 +23,9 @@ use Rattle.hellos.specs.declared.BlockFound.{BlockFound}
 use Rattle.hellos.specs.declared.BlockFound.the-variants.{Found}
 use Rattle.extensions.specs.Extensions.{blockRule}
 use Rattle.layout.specs.Place.{endAt, partAt, lastAt}
-use Rattle.layout.specs.Layout.{message}
-use Rattle.hellos.specs.Hello.{frontRules, frontBytes, sessionAt, blockRules, tailBytes, blockIn, blockAt, blockContents, given}
+use Rattle.layout.specs.Types.{messageLimit}
+use Rattle.layout.specs.Layout.{Layout, message, written}
+use Rattle.hellos.specs.Hello.{frontRules, frontBytes, sessionAt, blockRules, tailBytes, blockIn, blockAt, blockContents, given, between}
 use Rattle.layout.proofs.Places.{part-there, ruled-there, last-there, vector-at, vector-last, part-written}
 use Rattle.layout.proofs.Puts.{front, behind}
 
@@ -149,3 +152,16 @@ front-put kind size version random id out left h e =
 pub tail-bound : (present : Bool) (b : List ℕ) → length (tailBytes (given present b)) ≤ 2 + length b
 tail-bound true b = omega arith
 tail-bound false b = omega arith
+
+-- ---- what stands between
+
+pub length-between : (a b c d : List ℕ) → length (between a b c d) ≡ length a + length b + length c + length d
+length-between a b c d = simp length-append (omega arith)
+
+-- two layouts that have the same type, and fields with the same rules and bytes: their writers write the same
+pub same-written : {F G : Type 0} (l : Layout F) (f : F) (k : Layout G) (g : G) → l .kind ≡ k .kind → l .rules f ≡ k .rules g → l .body f ≡ k .body g
+    → written l f ≡ written k g
+same-written l f k g kind rules body = λ i. all (kind i) (rules i) (body i)
+  where
+    all : ℕ → Bool → List ℕ → Outcome
+    all t r b = cond (r && leb (length (message t b)) messageLimit) (gives (message t b)) (refuses BadValue)

@@ -14,6 +14,7 @@ use Rattle.hellos.specs.declared.Block.{Block}
 use Rattle.hellos.specs.declared.BlockFound.{BlockFound}
 use Rattle.layout.specs.Place.{partAt, lastAt, ruled}
 use Rattle.extensions.specs.Extensions.{blockRule}
+use Rattle.layout.specs.Layout.{Layout}
 
 -- ---- the fields in front
 
@@ -55,3 +56,25 @@ blockContents m (Block.At start len) = some (take len (drop start m))
 -- the block that a writer is given: present or not
 abbrev pub given : Bool → List ℕ → Option (List ℕ)
 given present b = cond present (some b) none
+
+-- ---- a hello with its front, what stands between and the block
+
+pub record Front : Type 0 where
+  pub version : ℕ
+  pub random : List ℕ
+  pub sessionId : List ℕ
+  pub extensions : Option (List ℕ)
+
+abbrev pub helloWith : ℕ → Bool → List ℕ → Layout Front
+helloWith kind client middle = record {
+  kind = kind;
+  rules = λ f. frontRules (f .version) (f .random) (f .sessionId) && blockRules client (f .extensions);
+  body = λ f. frontBytes (f .version) (f .random) (f .sessionId) (middle ++ tailBytes (f .extensions));
+}
+
+-- what stands between, as a writer is given it
+abbrev pub between : List ℕ → List ℕ → List ℕ → List ℕ → List ℕ
+between a b c d = ((a ++ b) ++ c) ++ d
+
+abbrev pub frontGiven : ℕ → List ℕ → List ℕ → Bool → List ℕ → Front
+frontGiven version random sessionId present b = record { version = version; random = random; sessionId = sessionId; extensions = given present b }

@@ -1,20 +1,17 @@
 // ClientHello.
 ghost use mathlib.Core.Path.{_≡_};
-ghost use Prim.Native.Nat.{_+_, _≤_, _<_};
+ghost use Prim.Native.Nat.{_+_, _≤_};
 ghost use mathlib.Core.Bool.{_&&_};
-ghost use mathlib.Core.List.{_++_};
-ghost use lib.ListN.{length, drop};
+ghost use lib.ListN.{length};
 ghost use Rattle.endian.specs.Vector.{writable};
 ghost use Rattle.refusal.specs.Lent.{Answers};
-ghost use Rattle.layout.specs.Layout.{bytes, written};
-ghost use Rattle.hellos.specs.Hello.{tailBytes, given};
+ghost use Rattle.layout.specs.Layout.{written};
 ghost use Rattle.layout.specs.declared.Part.{Part};
 ghost use Rattle.layout.specs.Place.{partAt, ruled};
 ghost use Rattle.hellos.specs.ClientHello.{clientHello, suitesLength, methodsLength, clientSuites, clientSession, clientBody, clientPlace, clientGiven};
 use crate::Block;
 use crate::BlockFound;
 use crate::hello;
-use crate::put;
 use layout::Part;
 use layout::Verdict;
 use layout::header;
@@ -157,38 +154,6 @@ fn lists_valid(suites: &[u8], methods: &[u8]) -> bool
     1 <= methods.len()
 }
 
-// The message at the front of an output that has room for it.
-fn put_all(
-    body_len: usize,
-    version: usize,
-    random: &[u8],
-    session_id: &[u8],
-    suites: &[u8],
-    methods: &[u8],
-    present: bool,
-    block: &[u8],
-    out: &mut [u8],
-) -> usize
-    requires { ⌜ (length (now random) ≡ 32) × (length (now «session_id») ≤ 32) × (length (now methods) < 256)
-        × («body_len» ≡ 38 + length (now «session_id») + length (now suites) + length (now methods) + length (tailBytes (given present (now block))))
-        × (4 + «body_len» ≤ length (now out)) ⌝ }
-    ensures { λ r. ⌜ r ≡ 4 + «body_len» ⌝ }
-    ensures { λ r. ⌜ now (out .exit) ≡ bytes clientHello (clientGiven version (now (random .entry)) (now («session_id» .entry)) (now (suites .entry)) (now (methods .entry)) present (now (block .entry)))
-        ++ drop (4 + «body_len») (now (out .entry)) ⌝ }
-{
-    let at = hello::put_front(
-        types::CLIENT_HELLO,
-        body_len,
-        version,
-        random,
-        session_id,
-        out,
-    );
-    let behind = put::vector16(suites, out, at);
-    let next = put::vector8(methods, out, behind);
-    hello::put_tail(present, block, out, next)
-}
-
 // A ClientHello. The block's bytes count only where it is present.
 pub fn write(
     version: usize,
@@ -203,33 +168,23 @@ pub fn write(
     ensures { λ r. ⌜ Answers (written clientHello (clientGiven version (now (random .entry)) (now («session_id» .entry)) (now (suites .entry)) (now (methods .entry)) present (now (block .entry))))
         (now (out .entry)) r (now (out .exit)) ⌝ }
 {
-    if !hello::front_valid(version, random, session_id) {
-        return Written::Refused(Refusal::BadValue);
-    }
     if !lists_valid(suites, methods) {
         return Written::Refused(Refusal::BadValue);
     }
-    if !hello::tail_valid(true, present, block) {
-        return Written::Refused(Refusal::BadValue);
-    }
-    let lists = suites.len() + methods.len();
-    let body_len = 38 + session_id.len() + lists + hello::tail_len(present, block);
-    if 16380 < body_len {
-        return Written::Refused(Refusal::BadValue);
-    }
-    if out.len() < 4 + body_len {
-        return Written::Refused(Refusal::ShortOutput);
-    }
-    let end = put_all(
-        body_len,
+    let suites_size = endian::bytes16(suites.len());
+    let methods_size = [methods.len() as u8];
+    hello::write(
+        types::CLIENT_HELLO,
+        true,
         version,
         random,
         session_id,
+        &suites_size,
         suites,
+        &methods_size,
         methods,
         present,
         block,
         out,
-    );
-    Written::Wrote(end)
+    )
 }

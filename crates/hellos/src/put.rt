@@ -4,6 +4,7 @@ ghost use Prim.Native.Nat.{_+_, _≤_, _<_};
 ghost use lib.ListN.{length};
 ghost use lib.Seq.{paste};
 ghost use Rattle.endian.specs.Vector.{vector};
+ghost use Rattle.hellos.specs.Hello.{between};
 
 // The part at its place in the output, which has room for it; the answer is where the next one goes.
 pub(crate) fn at(part: &[u8], out: &mut [u8], place: usize) -> usize
@@ -35,4 +36,17 @@ pub(crate) fn vector16(contents: &[u8], out: &mut [u8], place: usize) -> usize
     let size = endian::bytes16(contents.len());
     let next = at(&size, out, place);
     at(contents, out, next)
+}
+
+// Four parts one behind the other.
+pub(crate) fn four(a: &[u8], b: &[u8], c: &[u8], d: &[u8], out: &mut [u8], place: usize) -> usize
+    requires { ⌜ place + length (between (now a) (now b) (now c) (now d)) ≤ length (now out) ⌝ }
+    ensures { λ r. ⌜ r ≡ place + length (between (now (a .entry)) (now (b .entry)) (now (c .entry)) (now (d .entry))) ⌝ }
+    ensures { λ r. ⌜ now (out .exit) ≡ paste (now (out .entry)) place (between (now (a .entry)) (now (b .entry)) (now (c .entry)) (now (d .entry)))
+        (length (between (now (a .entry)) (now (b .entry)) (now (c .entry)) (now (d .entry)))) ⌝ }
+{
+    let second = at(a, out, place);
+    let third = at(b, out, second);
+    let last = at(c, out, third);
+    at(d, out, last)
 }
