@@ -19,10 +19,11 @@ use Rattle.sha256.specs.State.{fresh, absorb}
 use Rattle.sha256.proofs.Absorb.{absorb-append}
 use Rattle.keys.specs.declared.Side.the-variants.{Client}
 use Rattle.utf8.specs.Utf8.{validUtf8}
-use Rattle.messages.specs.Layout.{bytes, limit}
-use Rattle.messages.specs.Header.{header}
-use Rattle.messages.specs.Place.{lastAt, filledBy, afterHeader, contents}
-use Rattle.messages.specs.ClientHello.{clientHeader, clientFields}
+use Rattle.layout.specs.Layout.{bytes}
+use Rattle.layout.specs.Types.{messageLimit}
+use Rattle.layout.specs.Header.{header}
+use Rattle.layout.specs.Place.{lastAt, filledBy, afterHeader, contents}
+use Rattle.hellos.specs.ClientHello.{clientHeader, clientFields}
 use Rattle.messages.specs.Fixed as Fixed
 use Rattle.messages.specs.Fixed.{readFixed}
 use Rattle.server.specs.declared.Phase.{Phase}
@@ -100,15 +101,15 @@ module _ (s : Settings) (v : View) {hello : List ℕ} (legal : LegalHello (s .su
       go true e = inl (key, refl, is-value value (valueUnder s legal exchange key) e)
       go false e = inr (rw (value-compared key value, e))
 
-  judged-right : acceptable s ≡ true → LegalKeyExchange exchange → (m key value : List ℕ) → length m ≤ limit
+  judged-right : acceptable s ≡ true → LegalKeyExchange exchange → (m key value : List ℕ) → length m ≤ messageLimit
       → valueUnder s legal exchange key ≡ gives value
       → (own : List ℕ) × (length own ≡ 12)
       × (judged (changed s legal exchange (some key)) m value ≡ accept (finishedFlight own) (ended Phase.Complete))
   unfolding started
   judged-right ok legal-exchange m key value fits right =
-      let last : length exchange ≤ limit =
+      let last : length exchange ≤ messageLimit =
       read-size (λ h. contents exchange (afterHeader h (lastAt 2 exchange 4))) (λ r. refl) 16 exchange (legal-exchange .identity) (legal-exchange .read) in
-      let first : length hello ≤ limit = read-size (λ h. clientFields hello (clientHeader hello h)) (λ r. refl) 1 hello (legal .fields) (legal .read) in
+      let first : length hello ≤ messageLimit = read-size (λ h. clientFields hello (clientHeader hello h)) (λ r. refl) 1 hello (legal .fields) (legal .read) in
       let middle : length (flightTo s legal) ≤ 180 = flight-short s ok (legal .suite) in
       let few : length messages + length m ≤ 65536 =
       rw (length-append hello (flightTo s legal ++ exchange), length-append (flightTo s legal) exchange) (omega arith) in
@@ -145,7 +146,7 @@ module _ (s : Settings) (v : View) {hello : List ℕ} (legal : LegalHello (s .su
     finished-right : acceptable s ≡ true → LegalKeyExchange exchange → (m : List ℕ) → Right s legal exchange found m
         → (own : List ℕ) × (length own ≡ 12) × (finishedStep m ≡ accept (finishedFlight own) (ended Phase.Complete))
     finished-right ok legal-exchange m r =
-        let fits : length m ≤ limit = read-size (λ h. contents m (afterHeader h (filledBy 12 m))) (λ r. refl) 20 m (r .finished .value) (r .finished .read) in
+        let fits : length m ≤ messageLimit = read-size (λ h. contents m (afterHeader h (filledBy 12 m))) (λ r. refl) 20 m (r .finished .value) (r .finished .read) in
         let own = judged-right ok legal-exchange m (r .key) (r .finished .value) fits (r .right) in
         (own .0, own .1, finished-read m ∙ rw (r .finished .read, r .listed) (own .2))
 

@@ -13,9 +13,9 @@ use Rattle.endian.specs.Vector.{stated}
 use Rattle.refusal.specs.Table.{toClient}
 use Rattle.refusal.specs.declared.Refusal.{Refusal}
 use Rattle.refusal.specs.declared.Refusal.the-variants.{UnexpectedMessage, DecodeError}
-use Rattle.messages.specs.declared.Verdict.{Verdict}
-use Rattle.messages.specs.Layout.{limit}
-use Rattle.messages.specs.Header.{header}
+use Rattle.layout.specs.declared.Verdict.{Verdict}
+use Rattle.layout.specs.Types.{messageLimit}
+use Rattle.layout.specs.Header.{header}
 use Rattle.server.specs.declared.Phase.{Phase}
 use Rattle.server.specs.declared.Connection.{Connection}
 use Rattle.server.specs.Connection.{ended}
@@ -83,20 +83,20 @@ module _ (v : View) (c : Connection) (going : isOver (c .phase) ≡ false) where
 -- ---- the tests on a header, and the readers
 
 abbrev pub Tested : List ℕ → Verdict → Type 0
-Tested m Verdict.Accepted = length m ≤ limit
+Tested m Verdict.Accepted = length m ≤ messageLimit
 Tested m (Verdict.Refused r) = toClient r ≡ true
 
 pub header-tested : (kind : ℕ) (m : List ℕ) → Tested m (header kind m)
-header-tested kind m = go (ltb (length m) 4) (eqb (getD m 0 0) kind) (eqb (stated 3 (drop 1 m)) (length m - 4)) (leb (length m) limit) refl
+header-tested kind m = go (ltb (length m) 4) (eqb (getD m 0 0) kind) (eqb (stated 3 (drop 1 m)) (length m - 4)) (leb (length m) messageLimit) refl
   where
-    go : (a b d e : Bool) → leb (length m) limit ≡ e
+    go : (a b d e : Bool) → leb (length m) messageLimit ≡ e
         → Tested m (cond a (Verdict.Refused DecodeError)
         (cond b (cond d (cond e Verdict.Accepted (Verdict.Refused DecodeError)) (Verdict.Refused DecodeError)) (Verdict.Refused UnexpectedMessage)))
     go true b d e fits = refl
     go false false d e fits = refl
     go false true false e fits = refl
     go false true true false fits = refl
-    go false true true true fits = leb-true (length m) limit fits
+    go false true true true fits = leb-true (length m) messageLimit fits
 
 -- what a message is refused with that its reader refuses
 abbrev refusalOf : Verdict → Refusal
@@ -131,9 +131,9 @@ module _ {A : Type 0} where
     step-read step refuses (Verdict.Refused r) = rw (blind r)
 
     -- a message that its reader accepts is within the limit
-    pub read-size : (kind : ℕ) (m : List ℕ) (a : A) → read (header kind m) ≡ some a → length m ≤ limit
+    pub read-size : (kind : ℕ) (m : List ℕ) (a : A) → read (header kind m) ≡ some a → length m ≤ messageLimit
     read-size kind m a e = go (header kind m) (header-tested kind m) e
       where
-        go : (h : Verdict) → Tested m h → read h ≡ some a → length m ≤ limit
+        go : (h : Verdict) → Tested m h → read h ≡ some a → length m ≤ messageLimit
         go Verdict.Accepted t e = t
         go (Verdict.Refused r) t e = absurd (Option·none-ne-some a (sym (blind r) ∙ e))

@@ -15,10 +15,10 @@ use lib.Dec.{ltb}
 use Rattle.refusal.specs.declared.Refusal.{Refusal}
 use Rattle.refusal.specs.Table.{toClient}
 use Rattle.refusal.specs.declared.Refusal.the-variants.{UnexpectedMessage, HandshakeFailure, IllegalParameter, DecodeError, ProtocolVersion, UnknownPskIdentity}
-use Rattle.messages.specs.declared.Verdict.{Verdict}
-use Rattle.messages.specs.Header.{header}
-use Rattle.messages.specs.Place.{lastAt, afterHeader, contents}
-use Rattle.messages.specs.ClientHello.{ClientHello, clientHeader, clientFields, readClientHello}
+use Rattle.layout.specs.declared.Verdict.{Verdict}
+use Rattle.layout.specs.Header.{header}
+use Rattle.layout.specs.Place.{lastAt, afterHeader, contents}
+use Rattle.hellos.specs.ClientHello.{ClientHello, clientHeader, clientFields, readClientHello}
 use Rattle.messages.specs.KeyExchange.{readVector}
 use Rattle.server.specs.declared.Rule.{Rule}
 use Rattle.server.specs.declared.Phase.{Phase}

@@ -11,7 +11,7 @@ use Rattle.refusal.specs.Lent.{answer}
 use Rattle.refusal.specs.declared.Written.the-variants.{Wrote}
 use Rattle.keys.specs.Secrets.{premaster, premasterBytes}
 use Rattle.keys.proofs.Lengths.{length-premaster, premaster-given}
-use Rattle.messages.proofs.ClientHellos.{at-least-45}
+use Rattle.hellos.proofs.ClientHellos.{at-least-45}
 use Rattle.utf8.specs.Utf8.{validUtf8}
 use Rattle.keytable.specs.Table.{wellFormed, keyOf}
 use Rattle.demands.specs.Worked.{BytesWorkedThrough, GivesR2, unended, odd}

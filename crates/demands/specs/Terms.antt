@@ -13,9 +13,9 @@ use Rattle.refusal.specs.Lent.{Outcome, gives}
 use Rattle.sha256.specs.Hash.{sha256}
 use Rattle.keys.specs.declared.Side.the-variants.{Client}
 use Rattle.keys.specs.Secrets.{verifyData}
-use Rattle.messages.specs.declared.Verdict.the-variants.{Accepted}
-use Rattle.messages.specs.Header.{header}
-use Rattle.messages.specs.ClientHello.{ClientHello, readClientHello}
+use Rattle.layout.specs.declared.Verdict.the-variants.{Accepted}
+use Rattle.layout.specs.Header.{header}
+use Rattle.hellos.specs.ClientHello.{ClientHello, readClientHello}
 use Rattle.messages.specs.KeyExchange.{readVector}
 use Rattle.messages.specs.Fixed.{readFixed}
 use Rattle.lists.specs.Lists.{Each}

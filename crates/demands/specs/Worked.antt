@@ -10,13 +10,13 @@ use Rattle.refusal.specs.Table.{numberOf}
 use Rattle.refusal.specs.declared.Refusal.the-variants.{BadTable, BadValue, ProtocolVersion}
 use Rattle.refusal.specs.declared.Written.the-variants.{Wrote, Refused}
 use Rattle.keys.specs.Secrets.{premaster}
-use Rattle.messages.specs.declared.Verdict.the-variants.{Accepted}
-use Rattle.messages.specs.Layout.{bytes, valid, written}
-use Rattle.messages.specs.Header.{header}
+use Rattle.layout.specs.declared.Verdict.the-variants.{Accepted}
+use Rattle.layout.specs.Layout.{bytes, valid, written}
+use Rattle.layout.specs.Header.{header}
 use Rattle.messages.specs.KeyExchange.{serverKeyExchange, clientKeyExchange, readVector}
 use Rattle.messages.specs.Fixed.{serverHelloDone}
 use Rattle.messages.specs.NewSessionTicket.{newSessionTicket}
-use Rattle.messages.specs.ClientHello.{ClientHello, clientHello}
+use Rattle.hellos.specs.ClientHello.{ClientHello, clientHello}
 use Rattle.utf8.specs.Utf8.{validUtf8}
 use Rattle.keytable.specs.Table.{wellFormed, keyOf}
 use Rattle.server.specs.declared.Phase.{Phase}

@@ -25,14 +25,14 @@ use Rattle.keys.specs.Hmac.{hmac, mac, keyed}
 use Rattle.keys.specs.Prf.{prf, expanded, text}
 use Rattle.keys.specs.Secrets.{premaster, premasterBytes, master, keys, verifyData, isRandom, keyBlockLength, finishedLabel}
 use Rattle.keys.proofs.Lengths.{length-premaster}
-use Rattle.messages.specs.declared.Verdict.{Verdict}
-use Rattle.messages.specs.Layout.{Layout, bytes, written, valid}
-use Rattle.messages.specs.Header.{header}
-use Rattle.messages.specs.Place.{lastAt, filledBy, contents}
-use Rattle.messages.specs.ClientHello.{ClientHello, clientBody, clientFields}
-use Rattle.messages.specs.ServerHello.{serverHello}
+use Rattle.layout.specs.declared.Verdict.{Verdict}
+use Rattle.layout.specs.Layout.{Layout, bytes, written, valid}
+use Rattle.layout.specs.Header.{header}
+use Rattle.layout.specs.Place.{lastAt, filledBy, contents}
+use Rattle.hellos.specs.ClientHello.{ClientHello, clientBody, clientFields}
+use Rattle.hellos.specs.ServerHello.{serverHello}
 use Rattle.messages.specs.Fixed.{serverHelloDone}
-use Rattle.messages.specs.Extensions.{Ext, extensionBytes, extensionWritten}
+use Rattle.extensions.specs.Extensions.{Ext, extensionBytes, extensionWritten}
 use Rattle.keytable.specs.Table.{keyOf, found}
 use Rattle.keytable.proofs.Lookups.{key-size}
 use Rattle.server.specs.declared.Rule.{Rule}

@@ -3,13 +3,13 @@
 // same message of them again. Then it prints what the writers answer to values that no layout has and
 // to outputs that are too short. tests/message_vectors.py makes the input, and prints the same lines
 // from a parser of its own.
+use extensions::Step;
+use hellos::Block;
+use hellos::client_hello::Client;
+use hellos::server_hello::Server;
+use layout::Part;
 use libc::STDIN_FILENO;
 use libc::STDOUT_FILENO;
-use messages::Part;
-use messages::client_hello::Client;
-use messages::extensions::Step;
-use messages::hello::Block;
-use messages::server_hello::Server;
 use messages::ticket::Ticket;
 use refusal::Refusal;
 use refusal::Written;
@@ -53,15 +53,15 @@ fn print_block(block: &[u8]) {
     let mut at: usize = 0;
     let mut left: usize = block.len();
     while 0 < left {
-        match messages::extensions::next(block, at) {
+        match extensions::next(block, at) {
             Step::Extension { kind, start, len } => {
                 print_number(kind);
                 print_number(len);
                 at = start + len;
             }
             Step::End => return,
-            Step::Refused(r) => {
-                print_refusal(r);
+            Step::Refused => {
+                print_refusal(Refusal::DecodeError);
                 return;
             }
         }
@@ -71,7 +71,7 @@ fn print_block(block: &[u8]) {
 
 fn show_client(message: &[u8], out: &mut [u8]) {
     io::write_all(STDOUT_FILENO, b" ClientHello");
-    match messages::client_hello::read(message) {
+    match hellos::client_hello::read(message) {
         Client::Read {
             version,
             session_len,
@@ -94,7 +94,7 @@ fn show_client(message: &[u8], out: &mut [u8]) {
             match block {
                 Block::Absent => {
                     io::write_all(STDOUT_FILENO, b" absent");
-                    let said = messages::client_hello::write(
+                    let said = hellos::client_hello::write(
                         version,
                         random,
                         session_id,
@@ -109,7 +109,7 @@ fn show_client(message: &[u8], out: &mut [u8]) {
                 Block::At { start, len } => {
                     let contents = part(message, start, len);
                     print_block(contents);
-                    let said = messages::client_hello::write(
+                    let said = hellos::client_hello::write(
                         version,
                         random,
                         session_id,
@@ -123,13 +123,13 @@ fn show_client(message: &[u8], out: &mut [u8]) {
                 }
             }
         }
-        Client::Refused(r) => print_refusal(r),
+        Client::Refused => print_refusal(Refusal::DecodeError),
     }
 }
 
 fn show_server(message: &[u8], out: &mut [u8]) {
     io::write_all(STDOUT_FILENO, b" ServerHello");
-    match messages::server_hello::read(message) {
+    match hellos::server_hello::read(message) {
         Server::Read {
             version,
             session_len,
@@ -146,7 +146,7 @@ fn show_server(message: &[u8], out: &mut [u8]) {
             match block {
                 Block::Absent => {
                     io::write_all(STDOUT_FILENO, b" absent");
-                    let said = messages::server_hello::write(
+                    let said = hellos::server_hello::write(
                         version,
                         random,
                         session_id,
@@ -161,7 +161,7 @@ fn show_server(message: &[u8], out: &mut [u8]) {
                 Block::At { start, len } => {
                     let contents = part(message, start, len);
                     print_block(contents);
-                    let said = messages::server_hello::write(
+                    let said = hellos::server_hello::write(
                         version,
                         random,
                         session_id,
@@ -175,7 +175,7 @@ fn show_server(message: &[u8], out: &mut [u8]) {
                 }
             }
         }
-        Server::Refused(r) => print_refusal(r),
+        Server::Refused => print_refusal(Refusal::DecodeError),
     }
 }
 
@@ -193,7 +193,7 @@ fn show_ticket(message: &[u8], out: &mut [u8]) {
             let said = messages::ticket::write(lifetime_hint, part(message, start, len), out);
             print_again(said, out, message);
         }
-        Ticket::Refused(r) => print_refusal(r),
+        Ticket::Refused => print_refusal(Refusal::DecodeError),
     }
 }
 
@@ -206,7 +206,7 @@ fn show_hint(message: &[u8], out: &mut [u8]) {
             let said = messages::key_exchange::write_hint(part(message, start, len), out);
             print_again(said, out, message);
         }
-        Part::Refused(r) => print_refusal(r),
+        Part::Refused => print_refusal(Refusal::DecodeError),
     }
 }
 
@@ -221,7 +221,7 @@ fn show_identity(message: &[u8], out: &mut [u8]) {
             let said = messages::key_exchange::write_identity(identity, out);
             print_again(said, out, message);
         }
-        Part::Refused(r) => print_refusal(r),
+        Part::Refused => print_refusal(Refusal::DecodeError),
     }
 }
 
@@ -234,7 +234,7 @@ fn show_done(message: &[u8], out: &mut [u8]) {
             let said = messages::fixed::write_done(out);
             print_again(said, out, message);
         }
-        Part::Refused(r) => print_refusal(r),
+        Part::Refused => print_refusal(Refusal::DecodeError),
     }
 }
 
@@ -247,7 +247,7 @@ fn show_finished(message: &[u8], out: &mut [u8]) {
             let said = messages::fixed::write_finished(part(message, start, len), out);
             print_again(said, out, message);
         }
-        Part::Refused(r) => print_refusal(r),
+        Part::Refused => print_refusal(Refusal::DecodeError),
     }
 }
 
@@ -358,7 +358,7 @@ fn try_client(
         return;
     }
     let at = out.len() - room;
-    let said = messages::client_hello::write(
+    let said = hellos::client_hello::write(
         version,
         part(bytes, 0, lengths.random),
         part(bytes, 0, lengths.session_id),
@@ -383,7 +383,7 @@ fn try_server(
         return;
     }
     let at = out.len() - room;
-    let said = messages::server_hello::write(
+    let said = hellos::server_hello::write(
         771,
         part(bytes, 0, 32),
         part(bytes, 0, 0),

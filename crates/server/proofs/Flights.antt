@@ -10,7 +10,7 @@ use lib.ListN.{length, take, drop, getD, take-append-drop}
 use lib.Dec.{eqb}
 use lib.Seq.{take-at, drop-at, take-add}
 use borrow.Author.Tests.{eqb-true, ne-eqb}
-use Rattle.messages.specs.Layout.{bytes}
+use Rattle.layout.specs.Layout.{bytes}
 use Rattle.messages.specs.Fixed as Fixed
 use Rattle.server.specs.declared.step.Outgoing.{Outgoing}
 use Rattle.server.specs.Flight.{Flight, joined, flightBytes}

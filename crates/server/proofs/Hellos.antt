@@ -12,13 +12,13 @@ use lib.Dec.{eqb}
 use borrow.Author.Tests.{eq-eqb, ne-eqb, lt-ltb, le-ltb}
 use Rattle.endian.specs.Number.{be, number}
 use Rattle.refusal.specs.declared.Refusal.the-variants.{IllegalParameter, ProtocolVersion}
-use Rattle.messages.specs.ClientHello.{ClientHello}
-use Rattle.messages.specs.Layout.{bytes, valid}
-use Rattle.messages.specs.ServerHello.{ServerHello, serverHello}
+use Rattle.hellos.specs.ClientHello.{ClientHello}
+use Rattle.layout.specs.Layout.{bytes, valid}
+use Rattle.hellos.specs.ServerHello.{ServerHello, serverHello}
 use Rattle.messages.specs.KeyExchange.{serverKeyExchange}
 use Rattle.messages.specs.Fixed.{serverHelloDone}
-use Rattle.messages.proofs.Layouts.{valid-within}
-use Rattle.messages.proofs.Hellos.{length-body}
+use Rattle.layout.proofs.Layouts.{valid-within}
+use Rattle.hellos.proofs.Hellos.{length-body}
 use Rattle.lists.proofs.Walks.{left-cons}
 use Rattle.server.specs.declared.Connection.{Connection}
 use Rattle.server.specs.declared.hello.Choice.{Choice}

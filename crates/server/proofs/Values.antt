@@ -13,11 +13,11 @@ use Rattle.refusal.specs.declared.Written.{Written}
 use Rattle.refusal.specs.declared.Written.the-variants.{Wrote, Refused}
 use Rattle.refusal.specs.Lent.{gives, Answers}
 use Rattle.refusal.proofs.Laws.{refuses-gives, refused-short, wrote-gives}
-use Rattle.messages.specs.declared.Verdict.{Verdict}
-use Rattle.messages.specs.declared.Part.the-variants.{At}
-use Rattle.messages.specs.Header.{header}
+use Rattle.layout.specs.declared.Verdict.{Verdict}
+use Rattle.layout.specs.declared.Part.the-variants.{At}
+use Rattle.layout.specs.Header.{header}
 use Rattle.messages.specs.KeyExchange.{identityIn}
-use Rattle.messages.specs.Place.{lastAt, filledBy, contents}
+use Rattle.layout.specs.Place.{lastAt, filledBy, contents}
 use Rattle.keytable.specs.Table.{keyOf, found, judged}
 use Rattle.keytable.specs.declared.Judged.{Judged}
 use Rattle.keytable.proofs.Lookups.{key-size}

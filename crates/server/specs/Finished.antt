@@ -8,7 +8,7 @@ use Rattle.refusal.specs.Lent.{Outcome, gives, refuses}
 use Rattle.sha256.specs.State.{absorb}
 use Rattle.keys.specs.declared.Side.the-variants.{Client, Server}
 use Rattle.keys.specs.Secrets.{finishedOf}
-use Rattle.messages.specs.Layout.{bytes}
+use Rattle.layout.specs.Layout.{bytes}
 use Rattle.messages.specs.Fixed as Fixed
 use Rattle.lists.specs.Lists.{same}
 use Rattle.server.specs.declared.Phase.{Phase}

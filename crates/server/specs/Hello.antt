@@ -7,9 +7,9 @@ use lib.Dec.{ltb, eqb}
 use Rattle.endian.specs.Number.{number}
 use Rattle.refusal.specs.declared.Refusal.the-variants.{HandshakeFailure, IllegalParameter, DecodeError, ProtocolVersion}
 use Rattle.sha256.specs.State.{absorb}
-use Rattle.messages.specs.Layout.{bytes}
-use Rattle.messages.specs.ClientHello.{ClientHello}
-use Rattle.messages.specs.ServerHello.{serverHello}
+use Rattle.layout.specs.Layout.{bytes}
+use Rattle.hellos.specs.ClientHello.{ClientHello}
+use Rattle.hellos.specs.ServerHello.{serverHello}
 use Rattle.messages.specs.KeyExchange.{serverKeyExchange}
 use Rattle.messages.specs.Fixed.{serverHelloDone}
 use Rattle.server.specs.declared.Phase.{Phase}

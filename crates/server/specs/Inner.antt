@@ -9,8 +9,8 @@ use lib.Dec.{eqb}
 use Rattle.sha256.specs.State.{absorb}
 use Rattle.keys.specs.Secrets.{finishedOf}
 use Rattle.keys.specs.declared.Side.the-variants.{Client, Server}
-use Rattle.messages.specs.declared.Verdict.{Verdict}
-use Rattle.messages.specs.Layout.{bytes}
+use Rattle.layout.specs.declared.Verdict.{Verdict}
+use Rattle.layout.specs.Layout.{bytes}
 use Rattle.messages.specs.Fixed.{serverHelloDone}
 use Rattle.server.specs.declared.Phase.{Phase}
 use Rattle.server.specs.declared.Connection.{Connection}

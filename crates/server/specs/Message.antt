@@ -6,10 +6,11 @@ use mathlib.Core.Option.{Option, none, some}
 use lib.ListN.{length, replicate}
 use lib.Dec.{ltb}
 use Rattle.refusal.specs.declared.Refusal.the-variants.{ConnectionOver, UnexpectedMessage, DecodeError}
-use Rattle.messages.specs.declared.Verdict.{Verdict}
-use Rattle.messages.specs.Header.{header}
-use Rattle.messages.specs.ClientHello.{clientBody, clientFields}
-use Rattle.messages.specs.Place.{lastAt, filledBy, contents}
+use Rattle.layout.specs.declared.Verdict.{Verdict}
+use Rattle.layout.specs.Types.{clientHelloType, clientKeyExchangeType, finishedType}
+use Rattle.layout.specs.Header.{header}
+use Rattle.hellos.specs.ClientHello.{clientBody, clientFields}
+use Rattle.layout.specs.Place.{lastAt, filledBy, contents}
 use Rattle.server.specs.declared.Phase.{Phase}
 use Rattle.server.specs.declared.Connection.{Connection}
 use Rattle.server.specs.declared.Answer.{Answer}
@@ -20,12 +21,12 @@ use Rattle.server.specs.Hello.{helloFields}
 use Rattle.server.specs.KeyExchange.{View, keyIdentity}
 use Rattle.server.specs.Finished.{finishedValue}
 
--- the type of the message that is awaited in each phase, if one is: ClientHello, ClientKeyExchange, Finished
+-- the type of the message that is awaited in each phase, if one is
 abbrev pub awaited : Phase → Option ℕ
-awaited Phase.Hello = some 1
-awaited Phase.KeyExchange = some 16
+awaited Phase.Hello = some clientHelloType
+awaited Phase.KeyExchange = some clientKeyExchangeType
 awaited Phase.Change = none
-awaited Phase.Finished = some 20
+awaited Phase.Finished = some finishedType
 awaited Phase.Complete = none
 awaited Phase.Closed = none
 

@@ -6,7 +6,7 @@ use lib.ListN.{length}
 use Rattle.refusal.specs.Lent.{Outcome, gives, refuses, within, answer, after}
 use Rattle.refusal.specs.declared.Refusal.{Refusal}
 use Rattle.refusal.specs.declared.Written.{Written}
-use Rattle.messages.specs.declared.Verdict.{Verdict}
+use Rattle.layout.specs.declared.Verdict.{Verdict}
 use Rattle.server.specs.declared.Connection.{Connection}
 use Rattle.server.specs.declared.Answer.{Answer}
 use Rattle.server.specs.Connection.{afterRefusal}

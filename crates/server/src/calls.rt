@@ -1,7 +1,7 @@
 // The calls of a connection: a message, a change of cipher, a received alert.
 ghost use mathlib.Core.Path.{_≡_};
 ghost use mathlib.Core.Option.{none};
-ghost use Rattle.messages.specs.declared.Verdict.the-variants.{Accepted};
+ghost use Rattle.layout.specs.declared.Verdict.the-variants.{Accepted};
 ghost use Rattle.server.specs.declared.Phase.{Phase};
 ghost use Rattle.server.specs.Connection.{isOver};
 ghost use Rattle.server.specs.Step.{answered};
@@ -21,7 +21,8 @@ use crate::hello;
 use crate::key_exchange;
 use crate::step;
 use crate::step::Decision;
-use messages::Verdict;
+use layout::Verdict;
+use layout::types;
 use refusal::Refusal;
 use refusal::Written;
 
@@ -52,10 +53,10 @@ fn awaited_in(phase: Phase) -> Awaited
     ensures { λ r. ⌜ r ≡ asAwaited (Message.awaited phase) ⌝ }
 {
     match phase {
-        Phase::Hello => Awaited::Message(1),
-        Phase::KeyExchange => Awaited::Message(16),
+        Phase::Hello => Awaited::Message(types::CLIENT_HELLO),
+        Phase::KeyExchange => Awaited::Message(types::CLIENT_KEY_EXCHANGE),
         Phase::Change => Awaited::Nothing,
-        Phase::Finished => Awaited::Message(20),
+        Phase::Finished => Awaited::Message(types::FINISHED),
         Phase::Complete => Awaited::Nothing,
         Phase::Closed => Awaited::Nothing,
     }
@@ -66,7 +67,7 @@ fn test_header(phase: Phase, m: &[u8]) -> Verdict
     ensures { λ r. ⌜ r ≡ headerTest (Message.awaited phase) (now (m .entry)) ⌝ }
 {
     match awaited_in(phase) {
-        Awaited::Message(kind) => messages::header::test(kind, m),
+        Awaited::Message(kind) => layout::header::test(kind, m),
         Awaited::Nothing => {
             if m.len() < 4 {
                 return Verdict::Refused(Refusal::DecodeError);

@@ -1,6 +1,6 @@
 // Step 4: the client's Finished, judged over every message before it, and the server's.
 ghost use mathlib.Core.Path.{_≡_};
-ghost use Rattle.messages.specs.Place.{filledBy, contents};
+ghost use Rattle.layout.specs.Place.{filledBy, contents};
 ghost use Rattle.server.specs.Finished.{finishedFlight, finishedValue};
 ghost use Rattle.server.specs.Inner as Inner;
 ghost use Rattle.server.specs.Inner.{Decides, Sends};
@@ -11,8 +11,8 @@ use crate::step;
 use crate::step::Decision;
 use crate::step::Outgoing;
 use keys::Side;
-use messages::Part;
-use messages::Verdict;
+use layout::Part;
+use layout::Verdict;
 use refusal::Refusal;
 use refusal::Written;
 
@@ -82,6 +82,6 @@ pub fn body(c: Connection, m: &[u8]) -> Decision
             }
             complete(c, m)
         }
-        Part::Refused(_) => step::refused(c, Refusal::DecodeError),
+        Part::Refused => step::refused(c, Refusal::DecodeError),
     }
 }

@@ -3,7 +3,7 @@ ghost use mathlib.Core.Path.{_≡_};
 ghost use mathlib.Core.List.{List};
 ghost use Prim.Native.Nat.{ℕ, _+_, _≤_};
 ghost use lib.ListN.{length, take};
-ghost use Rattle.messages.specs.ClientHello.{clientBody, clientFields};
+ghost use Rattle.hellos.specs.ClientHello.{clientBody, clientFields};
 ghost use Rattle.messages.specs.Fixed.{serverHelloDone};
 ghost use Rattle.server.specs.Connection.{hintOf};
 ghost use Rattle.server.specs.Flight.{flightBytes, joined};
@@ -20,8 +20,8 @@ use crate::bytes32;
 use crate::step;
 use crate::step::Decision;
 use crate::step::Outgoing;
-use messages::Verdict;
-use messages::client_hello::Client;
+use layout::Verdict;
+use hellos::client_hello::Client;
 use refusal::Refusal;
 
 // TLS 1.2.
@@ -119,7 +119,7 @@ fn put_flight(random: &[u8], hint: &[u8], suite: u16, out: &mut [u8])
     ensures { λ _. ⌜ now (out .exit) ≡ Inner.front (flightBytes (flight (now (random .entry)) (now (hint .entry)) suite)) (now (out .entry)) ⌝ }
 {
     let none = &random[0..0];
-    messages::server_hello::write(VERSION, random, none, suite as usize, 0, false, none, out);
+    hellos::server_hello::write(VERSION, random, none, suite as usize, 0, false, none, out);
     put_rest(hint, &mut out[42..]);
 }
 
@@ -186,7 +186,7 @@ fn accept(c: Connection, m: &[u8], suite: u16) -> Decision
 pub fn body(c: Connection, m: &[u8]) -> Decision
     ensures { λ d. ⌜ Decides d (helloFields c (now (m .entry)) (clientFields (now (m .entry)) (clientBody (now (m .entry))))) ⌝ }
 {
-    match messages::client_hello::read_body(m) {
+    match hellos::client_hello::read_body(m) {
         Client::Read {
             version,
             session_len: _,
@@ -209,6 +209,6 @@ pub fn body(c: Connection, m: &[u8]) -> Decision
                 Choice::Suite(suite) => accept(c, m, suite),
             }
         }
-        Client::Refused(_) => step::refused(c, Refusal::DecodeError),
+        Client::Refused => step::refused(c, Refusal::DecodeError),
     }
 }

@@ -2,9 +2,9 @@
 ghost use mathlib.Core.Path.{_≡_};
 ghost use Prim.Native.Nat.{_≤_};
 ghost use lib.ListN.{length};
-ghost use Rattle.messages.specs.declared.Verdict.the-variants.{Accepted};
-ghost use Rattle.messages.specs.Header.{header};
-ghost use Rattle.messages.specs.Place.{lastAt, contents};
+ghost use Rattle.layout.specs.declared.Verdict.the-variants.{Accepted};
+ghost use Rattle.layout.specs.Header.{header};
+ghost use Rattle.layout.specs.Place.{lastAt, contents};
 ghost use Rattle.keytable.specs.Table.{keyOf};
 ghost use Rattle.server.specs.declared.Phase.{Phase};
 ghost use Rattle.server.specs.KeyExchange as Exchange;
@@ -19,7 +19,7 @@ use crate::Secrets;
 use crate::step;
 use crate::step::Decision;
 use keytable::Judged;
-use messages::Part;
+use layout::Part;
 use refusal::Refusal;
 use refusal::Written;
 
@@ -82,7 +82,7 @@ fn identified(c: Connection, table: &[u8], m: &[u8]) -> Decision
 {
     match messages::key_exchange::read_identity_body(m) {
         Part::At { start: _, len: _ } => look_up(c, table, m, messages::key_exchange::identity(m)),
-        Part::Refused(_) => step::refused(c, Refusal::DecodeError),
+        Part::Refused => step::refused(c, Refusal::DecodeError),
     }
 }
 

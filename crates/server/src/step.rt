@@ -12,7 +12,7 @@ use crate::Answer;
 use crate::Connection;
 use crate::Phase;
 use crate::ended;
-use messages::Verdict;
+use layout::Verdict;
 use refusal::Refusal;
 use refusal::Written;
 

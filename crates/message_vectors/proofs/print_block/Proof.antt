@@ -5,7 +5,7 @@ use Prim.Native.Nat.{_≤_}
 use native.Mathlib.Omega.{arith}
 use mathlib.Core.Path.{sym, _∙_}
 use lib.ListN.{length}
-use Rattle.messages.proofs.Blocks.{step-found}
+use Rattle.extensions.proofs.Blocks.{step-found}
 use Rattle.message_vectors.proofs.print_block.Statement.{statement}
 use Rattle.message_vectors.proofs.print_block.Tie as tie
 

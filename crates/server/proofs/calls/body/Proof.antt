@@ -1,7 +1,7 @@
 -- `server::calls::body` meets its contract, phase by phase.
 -- Assumes nothing.
 use mathlib.Core.Path.{_≡_, ap, subst}
-use Rattle.messages.specs.declared.Verdict.the-variants.{Accepted}
+use Rattle.layout.specs.declared.Verdict.the-variants.{Accepted}
 use Rattle.server.specs.declared.Phase.{Phase}
 use Rattle.server.specs.KeyExchange.{viewOf}
 use Rattle.server.specs.Message.{awaited, headerTest, bodyStep}

@@ -3,7 +3,7 @@
 use mathlib.Core.Path.{_≡_, sym, ap, _∙_}
 use mathlib.Core.Bool.{Bool, cond}
 use Rattle.refusal.specs.declared.Refusal.the-variants.{ConnectionOver}
-use Rattle.messages.specs.declared.Verdict.{Verdict}
+use Rattle.layout.specs.declared.Verdict.{Verdict}
 use Rattle.server.specs.Step.{Step, refuse, afterTests}
 use Rattle.server.specs.KeyExchange.{viewOf}
 use Rattle.server.specs.Message.{awaited, headerTest, bodyStep, messageStep}

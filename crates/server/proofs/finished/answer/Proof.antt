@@ -4,7 +4,7 @@ use mathlib.Core.Path.{_≡_}
 use native.Mathlib.Omega.{arith}
 use lib.ListN.{length}
 use Rattle.messages.specs.Fixed as Fixed
-use Rattle.messages.proofs.Layouts.{at-front}
+use Rattle.layout.proofs.Layouts.{at-front}
 use Rattle.messages.proofs.FixedMessages.{fixed-valid}
 use Rattle.server.proofs.Flights.{finished-sent}
 use borrow.Author.Needs.{needs}

@@ -6,8 +6,8 @@ use native.Mathlib.Omega.{arith}
 use mathlib.Core.List.{List}
 use lib.ListN.{length}
 use borrow.Author.Tests.{not-true, not-false}
-use Rattle.messages.specs.declared.Part.the-variants.{At}
-use Rattle.messages.specs.Place.{filledBy}
+use Rattle.layout.specs.declared.Part.the-variants.{At}
+use Rattle.layout.specs.Place.{filledBy}
 use Rattle.messages.proofs.FixedMessages.{filled-there}
 use Rattle.server.proofs.Values.{judged-right}
 use borrow.Author.Needs.{needs}

@@ -5,13 +5,13 @@ use native.Mathlib.Nat.{add-sub-cancel-left}
 use native.Mathlib.Omega.{arith}
 use lib.ListN.{take, drop}
 use borrow.Author.Tests.{not-true, not-false}
-use Rattle.messages.specs.declared.client_hello.Client.{Client}
-use Rattle.messages.specs.declared.client_hello.Client.the-variants.{Read}
-use Rattle.messages.specs.Hello.{blockContents}
-use Rattle.messages.specs.ClientHello.{ClientHello, clientBody, clientFields}
+use Rattle.hellos.specs.declared.client_hello.Client.{Client}
+use Rattle.hellos.specs.declared.client_hello.Client.the-variants.{Read}
+use Rattle.hellos.specs.Hello.{blockContents}
+use Rattle.hellos.specs.ClientHello.{ClientHello, clientBody, clientFields}
 use Rattle.server.specs.Hello.{chosen, offersNull, helloChosen, helloFields}
 use Rattle.server.specs.Inner.{asChoice}
-use Rattle.messages.proofs.ClientHellos.{Inside, parts-inside}
+use Rattle.hellos.proofs.ClientHellos.{Inside, parts-inside}
 use Rattle.server.proofs.Hellos.{none-chosen, one-chosen, version-old, null-missing, null-there}
 use Rattle.server.proofs.Decisions.{same-step}
 use borrow.Author.Needs.{needs}

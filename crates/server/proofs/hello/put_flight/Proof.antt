@@ -4,11 +4,11 @@ use mathlib.Core.Path.{_≡_, sym, ap, _∙_}
 use Prim.Native.Nat.{ℕ}
 use native.Mathlib.Omega.{arith}
 use mathlib.Core.List.{List}
-use Rattle.messages.specs.Layout.{bytes}
-use Rattle.messages.specs.ServerHello.{serverHello}
+use Rattle.layout.specs.Layout.{bytes}
+use Rattle.hellos.specs.ServerHello.{serverHello}
 use Rattle.server.specs.Inner.{front, restOf}
-use Rattle.messages.proofs.Layouts.{at-front}
-use Rattle.messages.proofs.Puts.{put-behind}
+use Rattle.layout.proofs.Layouts.{at-front}
+use Rattle.layout.proofs.Puts.{put-behind}
 use Rattle.server.proofs.Hellos.{hello, length-hello, hello-valid, flight-parts}
 use borrow.Author.Needs.{needs}
 use Rattle.server.proofs.hello.put_flight.Statement.{statement}

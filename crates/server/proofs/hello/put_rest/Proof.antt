@@ -6,14 +6,14 @@ use native.Mathlib.Omega.{arith}
 use mathlib.Core.List.{[], _∷_}
 use lib.ListN.{length, take, drop, length-drop}
 use Rattle.lists.proofs.Parts.{part-to-end}
-use Rattle.messages.specs.Layout.{bytes}
+use Rattle.layout.specs.Layout.{bytes}
 use Rattle.messages.specs.KeyExchange.{serverKeyExchange}
 use Rattle.messages.specs.Fixed.{serverHelloDone}
 use Rattle.server.specs.Hello.{hintMessage}
 use Rattle.server.specs.Flight.{joined}
 use Rattle.server.specs.Inner.{front}
-use Rattle.messages.proofs.Layouts.{at-front}
-use Rattle.messages.proofs.Puts.{put-behind}
+use Rattle.layout.proofs.Layouts.{at-front}
+use Rattle.layout.proofs.Puts.{put-behind}
 use Rattle.messages.proofs.KeyExchanges.{vector-valid}
 use Rattle.server.proofs.Hellos.{hint-absent, hint-present, hint-size}
 use borrow.Author.Needs.{needs}
