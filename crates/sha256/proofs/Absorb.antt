@@ -10,8 +10,9 @@ use lib.ListN.{length, take, drop, set, length-set, length-drop, take-append-dro
 use lib.Seq.{take-suc-set, drop-set-lt, set-split, length-take-le}
 use borrow.Author.Tests.{le-leb, lt-leb, eq-eqb, ne-eqb}
 use Rattle.sha256.specs.declared.Sha256.{Sha256}
-use Rattle.sha256.specs.Message.{blocks, parse}
-use Rattle.sha256.specs.Hash.{compress, hashBlocks, limit}
+use Rattle.sha256_block.specs.Block.{compress}
+use Rattle.sha256_block.specs.Blocks.{blocks, parse, hashBlocks}
+use Rattle.sha256.specs.Hash.{limit}
 use Rattle.sha256.specs.State.{absorb, absorbByte, over, clear}
 
 -- absorbing in parts is absorbing the whole

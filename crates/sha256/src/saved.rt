@@ -5,8 +5,8 @@
 // on the types of the fields (a word is below 2^32), which a caller in another crate does not see:
 // promised here, it holds for every caller.
 use super::Sha256;
-use super::Words;
 use super::concatenation;
+use sha256_block::Words;
 ghost use mathlib.Core.Path.{_≡_};
 ghost use mathlib.Core.List.{_++_};
 ghost use Prim.Native.Nat.{_+_, _≤_};

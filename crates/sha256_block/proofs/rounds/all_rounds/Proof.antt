@@ -1,15 +1,15 @@
--- `sha256::block::all_rounds` meets its contract: the invariant: the schedule is there for t rounds, and the variables are those after them.
+-- `sha256_block::rounds::all_rounds` meets its contract: the invariant: the schedule is there for t rounds, and the variables are those after them.
 -- Assumes nothing.
 use Prim.Native.Nat.{_+_, _-_, _%_, _≤_}
 use mathlib.Core.Path.{_≡_, refl}
 use mathlib.Core.Logic.{⊎-elim}
 use lib.ListN.{take}
 use native.Mathlib.Omega.{arith}
-use Rattle.sha256.specs.Hash.{schedule, rounds}
-use Rattle.sha256.proofs.Schedule.{rounds-front, rounds-kept}
+use Rattle.sha256_block.specs.Block.{schedule, rounds}
+use Rattle.sha256_block.proofs.Steps.{rounds-front, rounds-kept}
 use borrow.Author.Needs.{needs}
-use Rattle.sha256.proofs.block.all_rounds.Statement.{statement}
-use Rattle.sha256.proofs.block.all_rounds.Tie as tie
+use Rattle.sha256_block.proofs.rounds.all_rounds.Statement.{statement}
+use Rattle.sha256_block.proofs.rounds.all_rounds.Tie as tie
 
 abbrev Inv-loop : tie.InvT-loop
 Inv-loop w₀ k v₀ t₀ w v t =

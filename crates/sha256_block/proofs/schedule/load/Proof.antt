@@ -1,14 +1,14 @@
--- `sha256::block::load` meets its contract: the invariant: the first t words are the block's.
+-- `sha256_block::schedule::load` meets its contract: the invariant: the first t words are the block's.
 -- Assumes nothing.
 use Prim.Native.Nat.{_≤_, _-_}
 use mathlib.Core.Path.{_≡_, refl, _∙_}
 use lib.ListN.{length, take}
 use native.Mathlib.Omega.{arith}
-use Rattle.sha256.specs.Message.{words}
-use Rattle.sha256.proofs.Schedule.{front-grows, next-word}
+use Rattle.sha256_block.specs.Block.{words}
+use Rattle.sha256_block.proofs.Steps.{front-grows, next-word}
 use borrow.Author.Needs.{needs}
-use Rattle.sha256.proofs.block.load.Statement.{statement}
-use Rattle.sha256.proofs.block.load.Tie as tie
+use Rattle.sha256_block.proofs.schedule.load.Statement.{statement}
+use Rattle.sha256_block.proofs.schedule.load.Tie as tie
 
 abbrev Inv-loop : tie.InvT-loop
 Inv-loop block w₀ t₀ w t = (t ≤ 16) × (length w ≡ 64) × (take t w ≡ words t block)

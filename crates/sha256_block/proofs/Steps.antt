@@ -8,11 +8,11 @@ use mathlib.Core.List.{List, [], _∷_, _++_}
 use lib.ListN.{length, take, drop, getD, set}
 use lib.Seq.{drop-cons, drop-drop, take-suc-set, getD-take}
 use Rattle.endian.specs.Number.{number}
-use Rattle.sha256.specs.Functions.{_⊞_, σ₀, σ₁}
-use Rattle.sha256.specs.Message.{words}
-use Rattle.sha256.specs.declared.Words.{Words}
-use Rattle.sha256.specs.Constants.{K}
-use Rattle.sha256.specs.Hash.{schedule, round, rounds}
+use Rattle.sha256_block.specs.Functions.{_⊞_, σ₀, σ₁}
+use Rattle.sha256_block.specs.Block.{words}
+use Rattle.sha256_block.specs.declared.Words.{Words}
+use Rattle.sha256_block.specs.Constants.{K}
+use Rattle.sha256_block.specs.Block.{schedule, round, rounds}
 
 -- a store behind a known front makes it one longer
 pub front-grows : (w front : List ℕ) (t x : ℕ) → t < length w → take t w ≡ front → take (t + 1) (set w t x) ≡ front ++ (x ∷ [])

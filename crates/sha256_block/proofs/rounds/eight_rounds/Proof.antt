@@ -1,14 +1,14 @@
--- `sha256::block::eight_rounds` meets its contract: the invariant: the variables are those after t rounds if they were those after `from`.
+-- `sha256_block::rounds::eight_rounds` meets its contract: the invariant: the variables are those after t rounds if they were those after `from`.
 -- Assumes nothing.
 use Prim.Native.Nat.{_≤_, _+_, _-_}
 use mathlib.Core.Path.{_≡_}
 use native.Mathlib.Omega.{arith}
-use Rattle.sha256.specs.declared.Words.{Words}
-use Rattle.sha256.specs.Hash.{rounds}
-use Rattle.sha256.proofs.Schedule.{next-round}
+use Rattle.sha256_block.specs.declared.Words.{Words}
+use Rattle.sha256_block.specs.Block.{rounds}
+use Rattle.sha256_block.proofs.Steps.{next-round}
 use borrow.Author.Needs.{needs}
-use Rattle.sha256.proofs.block.eight_rounds.Statement.{statement}
-use Rattle.sha256.proofs.block.eight_rounds.Tie as tie
+use Rattle.sha256_block.proofs.rounds.eight_rounds.Statement.{statement}
+use Rattle.sha256_block.proofs.rounds.eight_rounds.Tie as tie
 
 abbrev Inv-loop : tie.InvT-loop
 Inv-loop k w from v₀ t₀ v t = (from ≤ t) × (t ≤ from + 8) × ((s : Words) → v₀ ≡ rounds from w s → v ≡ rounds t w s)

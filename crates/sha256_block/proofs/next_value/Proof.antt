@@ -1,9 +1,9 @@
--- `sha256::block::next_value` meets its contract: the schedule, the rounds and the sum, as the definition has them.
+-- `sha256_block::next_value` meets its contract: the schedule, the rounds and the sum, as the definition has them.
 -- Assumes nothing.
-use Rattle.sha256.specs.Hash.{compress}
+use Rattle.sha256_block.specs.Block.{compress}
 use borrow.Author.Needs.{needs}
-use Rattle.sha256.proofs.block.next_value.Statement.{statement}
-use Rattle.sha256.proofs.block.next_value.Tie as tie
+use Rattle.sha256_block.proofs.next_value.Statement.{statement}
+use Rattle.sha256_block.proofs.next_value.Tie as tie
 
 returns : tie.Need-returns
 unfolding compress

@@ -3,12 +3,12 @@
 use mathlib.Core.Path.{_≡_, sym, ap, _∙_}
 use Prim.Native.Nat.{ℕ, suc, _+_, _/_, _≤_, _<_}
 use native.Mathlib.Omega.{arith}
-use mathlib.Core.List.{List, [], _∷_, _++_}
+use mathlib.Core.List.{List, [], _∷_, _++_, append-nil}
 use lib.ListN.{length, take, drop, length-append, length-drop, take-append-drop}
 use lib.Seq.{take-at, drop-at, drop-drop, length-take-le}
-use Rattle.sha256.specs.declared.Words.{Words}
-use Rattle.sha256.specs.Message.{parse, blocks}
-use Rattle.sha256.specs.Hash.{compress, hashBlocks}
+use Rattle.sha256_block.specs.declared.Words.{Words}
+use Rattle.sha256_block.specs.Blocks.{blocks, parse, hashBlocks}
+use Rattle.sha256_block.specs.Block.{compress}
 
 -- a block in front of whatever follows is the first that parsing gives
 pub parse-block : (x rest : List ℕ) → length x ≡ 64 → parse (x ++ rest) ≡ x ∷ parse rest
@@ -31,3 +31,14 @@ unfolding hashBlocks
 hash-block h m at k =
     let left : 64 ≤ length (drop at m) = rw (length-drop at m) (omega arith) in
     rw (parse-more (drop at m) left, drop-drop 64 at m)
+
+-- one block by itself
+pub hash-one : (h : Words) (block : List ℕ) → length block ≡ 64 → hashBlocks h (parse block) ≡ compress h block
+unfolding hashBlocks
+hash-one h block e = ap (λ (m : List ℕ). hashBlocks h (parse m)) (sym (append-nil block)) ∙ rw (parse-block block [] e, parse-none [] (omega arith))
+
+-- a block hashed, and then what follows it
+pub hash-first : (h : Words) (block rest : List ℕ) → length block ≡ 64
+    → hashBlocks h (parse (block ++ rest)) ≡ hashBlocks (hashBlocks h (parse block)) (parse rest)
+unfolding hashBlocks
+hash-first h block rest e = rw (parse-block block rest e, hash-one h block e)

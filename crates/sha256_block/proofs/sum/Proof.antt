@@ -1,9 +1,9 @@
--- `sha256::block::sum` meets its contract: the eight sums.
+-- `sha256_block::sum` meets its contract: the eight sums.
 -- Assumes nothing.
-use Rattle.sha256.specs.Hash.{added}
+use Rattle.sha256_block.specs.Block.{added}
 use borrow.Author.Needs.{needs}
-use Rattle.sha256.proofs.block.sum.Statement.{statement}
-use Rattle.sha256.proofs.block.sum.Tie as tie
+use Rattle.sha256_block.proofs.sum.Statement.{statement}
+use Rattle.sha256_block.proofs.sum.Tie as tie
 
 returns : tie.Need-returns
 unfolding added

@@ -1,5 +1,4 @@
--- FIPS 180-4, section 4.2.2: the sixty-four constants, "the first thirty-two bits of the fractional parts of the cube roots of the first
--- sixty-four prime numbers".
+-- FIPS 180-4, section 4.2.2: the sixty-four constants. Each is the first 32 bits behind the point of the cube root of one of the first 64 primes.
 use Prim.Native.Nat.{ℕ}
 use mathlib.Core.List.{List, [], _∷_}
 

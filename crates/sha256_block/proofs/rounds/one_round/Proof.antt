@@ -1,9 +1,9 @@
--- `sha256::block::one_round` meets its contract: the sums one after the other.
+-- `sha256_block::rounds::one_round` meets its contract: the sums one after the other.
 -- Assumes nothing.
 use borrow.Author.Needs.{needs}
-use Rattle.sha256.specs.Hash.{round}
-use Rattle.sha256.proofs.block.one_round.Statement.{statement}
-use Rattle.sha256.proofs.block.one_round.Tie as tie
+use Rattle.sha256_block.specs.Block.{round}
+use Rattle.sha256_block.proofs.rounds.one_round.Statement.{statement}
+use Rattle.sha256_block.proofs.rounds.one_round.Tie as tie
 
 returns : tie.Need-returns
 unfolding round

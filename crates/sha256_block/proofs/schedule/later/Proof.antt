@@ -1,8 +1,8 @@
--- `sha256::block::later` meets its contract: the sums one after the other.
+-- `sha256_block::schedule::later` meets its contract: the sums one after the other.
 -- Assumes nothing.
 use borrow.Author.Needs.{needs}
-use Rattle.sha256.proofs.block.later.Statement.{statement}
-use Rattle.sha256.proofs.block.later.Tie as tie
+use Rattle.sha256_block.proofs.schedule.later.Statement.{statement}
+use Rattle.sha256_block.proofs.schedule.later.Tie as tie
 
 returns : tie.Need-returns
 returns c = cc

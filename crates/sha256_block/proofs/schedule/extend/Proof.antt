@@ -1,4 +1,4 @@
--- `sha256::block::extend` meets its contract: the invariant: the words that were there stand, and the first n + 16 words are the schedule's.
+-- `sha256_block::schedule::extend` meets its contract: the invariant: the words that were there stand, and the first n + 16 words are the schedule's.
 -- Assumes nothing.
 use Prim.Native.Nat.{ℕ, _≤_, _+_, _-_}
 use mathlib.Core.Path.{_≡_, refl, _∙_}
@@ -6,11 +6,11 @@ use mathlib.Core.List.{List}
 use lib.ListN.{length, take}
 use lib.Seq.{take-set-le}
 use native.Mathlib.Omega.{arith}
-use Rattle.sha256.specs.Hash.{schedule}
-use Rattle.sha256.proofs.Schedule.{front-grows, next-later}
+use Rattle.sha256_block.specs.Block.{schedule}
+use Rattle.sha256_block.proofs.Steps.{front-grows, next-later}
 use borrow.Author.Needs.{needs}
-use Rattle.sha256.proofs.block.extend.Statement.{statement}
-use Rattle.sha256.proofs.block.extend.Tie as tie
+use Rattle.sha256_block.proofs.schedule.extend.Statement.{statement}
+use Rattle.sha256_block.proofs.schedule.extend.Tie as tie
 
 abbrev Inv-loop : tie.InvT-loop
 Inv-loop w₀ from n₀ w n =

@@ -1,15 +1,14 @@
--- `sha256::all_blocks` meets its contract: the invariant: hashing what is left from the value so far is hashing all from the start.
+-- `sha256_block::all_blocks` meets its contract: the invariant: hashing what is left from the value so far is hashing all from the start.
 -- Assumes nothing.
 use mathlib.Core.Path.{_≡_, refl}
 use Prim.Native.Nat.{_+_, _-_, _≤_, _<_}
 use native.Mathlib.Omega.{arith}
 use lib.ListN.{length, drop, length-drop}
-use Rattle.sha256.specs.Message.{parse}
-use Rattle.sha256.specs.Hash.{hashBlocks}
-use Rattle.sha256.proofs.Parse.{hash-block, parse-none}
+use Rattle.sha256_block.specs.Blocks.{parse, hashBlocks}
+use Rattle.sha256_block.proofs.Parse.{hash-block, parse-none}
 use borrow.Author.Needs.{needs}
-use Rattle.sha256.proofs.all_blocks.Statement.{statement}
-use Rattle.sha256.proofs.all_blocks.Tie as tie
+use Rattle.sha256_block.proofs.all_blocks.Statement.{statement}
+use Rattle.sha256_block.proofs.all_blocks.Tie as tie
 
 abbrev Inv-loop : tie.InvT-loop
 Inv-loop «data» h₀ at₀ h at = (at ≤ length «data») × (hashBlocks h (parse (drop at «data»)) ≡ hashBlocks h₀ (parse «data»))
