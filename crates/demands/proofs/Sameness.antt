@@ -11,11 +11,11 @@ use mathlib.Core.Option.{Option, none, some, Option·none-ne-some}
 use lib.Dec.{eqb}
 use Rattle.refusal.specs.declared.Refusal.the-variants.{IllegalParameter}
 use Rattle.messages.specs.KeyExchange.{readVector}
-use Rattle.keytable.specs.Table.{same, keyOf}
-use Rattle.keytable.specs.WellFormed.{Each}
-use Rattle.keytable.proofs.Apart.{same-eq, same-refl}
+use Rattle.lists.specs.Lists.{same, Each}
+use Rattle.keytable.specs.Table.{keyOf}
+use Rattle.lists.proofs.Equal.{same-eq, same-refl}
 use Rattle.keytable.proofs.Laws.{removed-gone, removed-else}
-use Rattle.keytable.proofs.Texts.{every-append, every-map}
+use Rattle.lists.proofs.Every.{every-append, every-map}
 use Rattle.server.specs.declared.Rule.{Rule}
 use Rattle.server.specs.declared.Phase.{Phase}
 use Rattle.server.specs.declared.Connection.{Connection}

@@ -17,7 +17,7 @@ use Rattle.sha256.proofs.Finish.{finish-absorbed, finished-within, length-diges
 use Rattle.keys.specs.declared.Side.the-variants.{Client, Server}
 use Rattle.keys.specs.Secrets.{verifyData}
 use Rattle.keys.proofs.Lengths.{value-given, value-master}
-use Rattle.keytable.proofs.Apart.{same-eq, same-refl}
+use Rattle.lists.proofs.Equal.{same-eq, same-refl}
 use Rattle.server.specs.Steps.{andThen, bytesOf, finishedOf, isValue}
 
 none-without-master : (o : Outcome) (value : List ℕ) → isValue value (andThen o (verifyData Client [])) ≡ false

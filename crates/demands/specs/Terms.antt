@@ -16,7 +16,7 @@ use Rattle.messages.specs.Header.{header}
 use Rattle.messages.specs.ClientHello.{ClientHello, readClientHello}
 use Rattle.messages.specs.KeyExchange.{readVector}
 use Rattle.messages.specs.Fixed.{readFixed}
-use Rattle.keytable.specs.WellFormed.{Each}
+use Rattle.lists.specs.Lists.{Each}
 use Rattle.server.specs.Connection.{Settings}
 use Rattle.server.specs.Steps.{View, andThen, suites, chosen, offersNull, flight, masterUnder}
 use Rattle.demands.specs.Series.{Call, message, changeOfCipher, alert}

@@ -7,12 +7,15 @@ use mathlib.Core.List.{List, [], _∷_, _++_, map}
 use lib.ListN.{length, length-map}
 use lib.Dec.{leb}
 use borrow.Author.Tests.{leb-true, le-leb, not-true}
-use Rattle.keytable.specs.Table.{colon, upto, past, lines, each, identityOf, validIdentity, validKey, validLine, ended, same, among, apart, wellFormed}
-use Rattle.keytable.specs.WellFormed.{Each, Distinct, Line, ValidLine, identityIn, WellFormed}
-use Rattle.keytable.proofs.Flags.{and-left, and-right, both}
+use Rattle.lists.specs.Lists.{each, same, Each, Distinct}
+use Rattle.keytable.specs.Table.{colon, upto, past, lines, identityOf, validIdentity, validKey, validLine, ended, among, apart, wellFormed}
+use Rattle.keytable.specs.WellFormed.{Line, ValidLine, identityIn, WellFormed}
+use Rattle.lists.proofs.Tests.{and-left, and-right, both}
 use Rattle.keytable.proofs.Tests.{identity-sound, identity-complete, key-sound, key-complete}
-use Rattle.keytable.proofs.Texts.{every-map, upto-append, past-append, parted, lineOf, text-lines, identity-no-colon, lines-text, ended-text}
-use Rattle.keytable.proofs.Apart.{same-refl, same-not, among-none}
+use Rattle.lists.proofs.Every.{every-map}
+use Rattle.keytable.proofs.Texts.{upto-append, past-append, parted, lineOf, text-lines, identity-no-colon, lines-text, ended-text}
+use Rattle.lists.proofs.Equal.{same-refl, same-not}
+use Rattle.keytable.proofs.Apart.{among-none}
 
 -- ---- no identity twice
 

@@ -1,57 +1,20 @@
--- No identity twice: the comparison of two byte strings, of one with those before it, and the numbers that spare most comparisons.
+-- No identity twice: the comparison of one with those before it, and the numbers that spare most comparisons.
 -- Assumes nothing.
-use mathlib.Core.Path.{_≡_, refl, sym, ap, ap₂, _∙_}
+use mathlib.Core.Path.{_≡_, refl, sym, ap, _∙_}
 use Prim.Native.Nat.{ℕ, zero, suc, _+_, _-_, _*_, _%_, _≤_, _<_}
 use native.Mathlib.Omega.{arith}
 use native.Mathlib.Numerals.{add-one}
 use native.Mathlib.Decide.{ℕ-discrete}
-use mathlib.Core.Bool.{Bool, true, false, _||_, true≢false, or-true}
+use mathlib.Core.Bool.{Bool, true, false, _||_, or-true}
 use mathlib.Core.List.{List, [], _∷_, _++_, map, map-append}
 use lib.ListN.{length, take, drop, getD, set, drop-of-length-le, length-drop}
 use lib.Seq.{take-suc, take-take, take-suc-set, getD-set-same, getD-set-other}
-use lib.Dec.{eqb}
-use borrow.Author.Tests.{eq-eqb, ne-eqb, eqb-true}
-use Rattle.keytable.specs.Table.{lineEnd, colon, upto, lines, identityOf, same, among, apart}
-use Rattle.keytable.specs.Inner.{part, identityAt, earlier, fingerprint, Kept}
-use Rattle.keytable.proofs.Flags.{and-left, and-right}
-use Rattle.keytable.proofs.Walks.{left-cons}
+use Rattle.lists.specs.Lists.{same, part}
+use Rattle.keytable.specs.Table.{lineEnd, colon, upto, lines, identityOf, among, apart}
+use Rattle.keytable.specs.Inner.{identityAt, earlier, fingerprint, Kept}
+use Rattle.lists.proofs.Walks.{left-cons}
+use Rattle.lists.proofs.Equal.{same-not}
 use Rattle.keytable.proofs.Lines.{length-upto, take-upto, line-is, line-here}
-
--- ---- equal bytes
-
-pub same-eq : (a b : List ℕ) → same a b ≡ true → a ≡ b
-same-eq [] [] h = refl
-same-eq [] (y ∷ b) h = absurd (true≢false (sym h))
-same-eq (x ∷ a) [] h = absurd (true≢false (sym h))
-same-eq (x ∷ a) (y ∷ b) h =
-    ap₂ (λ (z : ℕ) (l : List ℕ). z ∷ l) (eqb-true x y (and-left (eqb x y) (same a b) h)) (same-eq a b (and-right (eqb x y) (same a b) h))
-
-pub same-refl : (a : List ℕ) → same a a ≡ true
-same-refl [] = refl
-same-refl (x ∷ a) = rw (eq-eqb x x refl) (same-refl a)
-
-pub same-not : (a b : List ℕ) → (a ≡ b → ⊥) → same a b ≡ false
-same-not a b other = go (same a b) refl
-  where
-    go : (t : Bool) → same a b ≡ t → same a b ≡ false
-    go true e = absurd (other (same-eq a b e))
-    go false e = e
-
-pub same-lengths : (a b : List ℕ) → (length a ≡ length b → ⊥) → false ≡ same a b
-same-lengths a b other = sym (same-not a b (λ e. other (ap length e)))
-
-module _ (a b : List ℕ) (i : ℕ) (lengths : length a ≡ length b) where
-  abbrev Left : Type 0
-  Left = same a b ≡ same (drop i a) (drop i b)
-
-  pub same-more : i < length a → getD a i 0 ≡ getD b i 0 → Left → same a b ≡ same (drop (i + 1) a) (drop (i + 1) b)
-  same-more h alike now = now ∙ rw (left-cons a i h, left-cons b i (omega arith)) (rw (eq-eqb _ _ alike))
-
-  pub same-stop : i < length a → (getD a i 0 ≡ getD b i 0 → ⊥) → Left → false ≡ same a b
-  same-stop h other now = sym (now ∙ rw (left-cons a i h, left-cons b i (omega arith)) (rw (ne-eqb _ _ other)))
-
-  pub same-end : length a ≤ i → Left → true ≡ same a b
-  same-end h now = sym (now ∙ rw (drop-of-length-le a h, drop-of-length-le b {i = i} (omega arith)))
 
 -- ---- the number of a byte string
 
@@ -65,7 +28,7 @@ module _ (s : List ℕ) (i p : ℕ) where
 -- ---- the identity of a line, as a part of the table
 
 module _ (t : List ℕ) (at end : ℕ) (h : at ≤ length t) (e : end ≡ at + length (identityAt t at)) where
-  pub identity-part : part at end t ≡ identityAt t at
+  pub identity-part : part at (end - at) t ≡ identityAt t at
   identity-part =
       let size : end - at ≡ length (identityAt t at) = omega arith in
       rw size (sym (take-take (length (identityAt t at)) (length (upto lineEnd (drop at t))) (drop at t) (length-upto colon (upto lineEnd (drop at t))))

@@ -12,9 +12,8 @@ use lib.ListN.{length, take, drop, getD, length-drop}
 use lib.Seq.{take-all, drop-drop}
 use lib.Dec.{leb, eqb}
 use borrow.Author.Tests.{eq-eqb, ne-eqb, lt-leb}
-use Rattle.refusal.proofs.Copy.{window, take-window, part-to-end}
+use Rattle.lists.proofs.Parts.{window, take-window, part-to-end, rest, first-of-drop}
 use Rattle.keytable.specs.Utf8.{leadingOnes, sizeOf, size, character, validAfter}
-use Rattle.keytable.proofs.Parts.{rest, first-of-drop}
 
 -- the front of a text, byte by byte
 pub front : (s : List ℕ) (n w : ℕ) → n ≡ w → n ≤ length s → character (take n s) ≡ character (window w 0 s)

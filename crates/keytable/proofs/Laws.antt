@@ -8,11 +8,13 @@ use mathlib.Core.List.{List, [], _∷_, _++_, map, append-assoc, map-append}
 use mathlib.Core.Option.{Option, none, some}
 use lib.ListN.{length}
 use lib.Dec.{leb, eqb}
-use Rattle.keytable.specs.Table.{lineEnd, colon, upto, past, before, lines, each, identityOf, decoded, keyText, orElse, firstText, keyOfText, keyOf, validIdentity, validKey, validLine, ended, apart, wellFormed}
-use Rattle.keytable.specs.WellFormed.{Each, Distinct, HexDigit, Line, ValidLine, text, WellFormed, LineRemoved}
-use Rattle.keytable.proofs.Flags.{and-left, and-right, both}
+use Rattle.lists.specs.Lists.{each, Each, Distinct}
+use Rattle.keytable.specs.Table.{lineEnd, colon, upto, past, before, lines, identityOf, decoded, keyText, orElse, firstText, keyOfText, keyOf, validIdentity, validKey, validLine, ended, apart, wellFormed}
+use Rattle.keytable.specs.WellFormed.{HexDigit, Line, ValidLine, text, WellFormed, LineRemoved}
+use Rattle.lists.proofs.Tests.{and-left, and-right, both}
 use Rattle.keytable.proofs.Tests.{key-sound}
-use Rattle.keytable.proofs.Texts.{every-map, digit-no-colon, upto-append, past-append, parted, lineOf, valid-parted, identity-no-colon, hex-no-colon, line-no-end, lines-end, text-cons, ended-text}
+use Rattle.lists.proofs.Every.{every-map}
+use Rattle.keytable.proofs.Texts.{digit-no-colon, upto-append, past-append, parted, lineOf, valid-parted, identity-no-colon, hex-no-colon, line-no-end, lines-end, text-cons, ended-text}
 use Rattle.keytable.proofs.Lines.{lines-cons}
 use Rattle.keytable.proofs.Agreement.{apart-sound, line-sound}
 use Rattle.keytable.proofs.Lookups.{own-text, other-text, key-is}

@@ -1,13 +1,11 @@
 pub mod Agreement
 pub mod Apart
 pub mod Characters
-pub mod Flags
 pub mod Laws
 pub mod Lines
 pub mod Lookups
 pub mod Matching
 pub mod Pairs
-pub mod Parts
 pub mod Tests
 pub mod Texts
 pub mod Walks

@@ -9,10 +9,9 @@ use mathlib.Core.List.{List, [], _∷_}
 use lib.ListN.{length, take, drop, getD, length-drop, drop-of-length-le}
 use lib.Seq.{drop-drop}
 use lib.Dec.{eqb}
-use Rattle.refusal.proofs.Copy.{part-to-end}
-use Rattle.keytable.specs.Table.{lineEnd, colon, before, lines, each, upto, past, identityOf, validIdentity, validKey, validLine, ended}
-use Rattle.keytable.specs.Inner.{part}
-use Rattle.keytable.proofs.Parts.{rest}
+use Rattle.lists.proofs.Parts.{part-to-end, rest}
+use Rattle.lists.specs.Lists.{each, part}
+use Rattle.keytable.specs.Table.{lineEnd, colon, before, lines, upto, past, identityOf, validIdentity, validKey, validLine, ended}
 
 pub length-upto : (x : ℕ) (s : List ℕ) → length (upto x s) ≤ length s
 length-upto x [] = omega arith
@@ -57,12 +56,12 @@ module _ (s : List ℕ) (at end : ℕ) (h : at ≤ length s) (e : end ≡ at + l
   pub line-within : end ≤ length s
   line-within = omega (arith, e, length-upto lineEnd (drop at s), length-drop at s)
 
-  pub line-is : part at end s ≡ upto lineEnd (drop at s)
+  pub line-is : part at (end - at) s ≡ upto lineEnd (drop at s)
   line-is =
       let size : end - at ≡ length (upto lineEnd (drop at s)) = omega arith in
       rw size (take-upto lineEnd (drop at s))
 
-  pub line-here : at < length s → lines (drop at s) ≡ part at end s ∷ lines (drop (end + 1) s)
+  pub line-here : at < length s → lines (drop at s) ≡ part at (end - at) s ∷ lines (drop (end + 1) s)
   line-here inside =
       lines-cons (drop at s) (rw length-drop (omega arith))
       ∙ ap₂ (λ (l : List ℕ) (r : List ℕ). l ∷ lines r) (sym line-is) after
@@ -76,11 +75,11 @@ module _ (s : List ℕ) (at end : ℕ) (h : at ≤ length s) (e : end ≡ at + l
     pub count-on : (n : ℕ) → length (lines s) ≡ n + length (lines (drop at s)) → length (lines s) ≡ n + 1 + length (lines (drop (end + 1) s))
     count-on n now = let one : length (lines (drop at s)) ≡ suc (length (lines (drop (end + 1) s))) = ap length (line-here inside) in omega arith
 
-    pub valid-on : validLine (part at end s) ≡ true → each validLine (lines s) ≡ each validLine (lines (drop at s))
+    pub valid-on : validLine (part at (end - at) s) ≡ true → each validLine (lines s) ≡ each validLine (lines (drop at s))
         → each validLine (lines s) ≡ each validLine (lines (drop (end + 1) s))
     valid-on good now = now ∙ ap (each validLine) (line-here inside) ∙ rw good
 
-    pub valid-ends : validLine (part at end s) ≡ false → each validLine (lines s) ≡ each validLine (lines (drop at s))
+    pub valid-ends : validLine (part at (end - at) s) ≡ false → each validLine (lines s) ≡ each validLine (lines (drop at s))
         → false ≡ each validLine (lines s)
     valid-ends bad now = sym (now ∙ ap (each validLine) (line-here inside) ∙ rw bad)
 

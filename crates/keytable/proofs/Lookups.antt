@@ -10,11 +10,12 @@ use mathlib.Core.Option.{Option, none, some, Option·none-ne-some}
 use lib.ListN.{length}
 use lib.Dec.{eqb}
 use borrow.Author.Tests.{eq-eqb, ne-eqb, eqb-true}
-use Rattle.keytable.specs.Table.{colon, lines, decoded, keyText, firstText, keyIn, keyOfText, keyOf, validIdentity, validKey, same, wellFormed}
-use Rattle.keytable.specs.WellFormed.{Each, Distinct, Key, Line, ValidLine, identityIn, WellFormed, Listed}
+use Rattle.lists.specs.Lists.{same, Each, Distinct}
+use Rattle.keytable.specs.Table.{colon, lines, decoded, keyText, firstText, keyIn, keyOfText, keyOf, validIdentity, validKey, wellFormed}
+use Rattle.keytable.specs.WellFormed.{Key, Line, ValidLine, identityIn, WellFormed, Listed}
 use Rattle.keytable.proofs.Tests.{identity-complete, key-sound, key-complete}
 use Rattle.keytable.proofs.Texts.{Without, lineOf, identity-no-colon, hex-no-colon, lines-text}
-use Rattle.keytable.proofs.Apart.{same-eq, same-refl, same-not}
+use Rattle.lists.proofs.Equal.{same-eq, same-refl, same-not}
 use Rattle.keytable.proofs.Pairs.{length-decoded}
 use Rattle.keytable.proofs.Agreement.{sound}
 

@@ -1,24 +1,19 @@
--- Keys as pairs of hex digits: their number and each of them, and how a list is filled from the front.
+-- Keys as pairs of hex digits: their number and each of them.
 -- Assumes nothing.
-use mathlib.Core.Path.{_≡_, refl, sym, _∙_}
+use mathlib.Core.Path.{_≡_, refl}
 use Prim.Native.Nat.{ℕ, zero, suc, _+_, _*_, _/_, _%_, _<_}
 use native.Mathlib.Omega.{arith}
-use native.Mathlib.Numerals.{add-one}
-use mathlib.Core.Bool.{Bool, true, _&&_}
-use mathlib.Core.List.{List, [], _∷_, _++_}
-use lib.ListN.{length, take, drop, getD, set}
-use lib.Seq.{take-length, take-suc, drop-cons, append-snoc, set-at, length-take-le}
+use mathlib.Core.Bool.{true, _&&_}
+use mathlib.Core.List.{List, [], _∷_}
+use lib.ListN.{length, getD}
 use lib.Dec.{eqb}
 use borrow.Author.Tests.{ltb-true}
-use Rattle.keytable.specs.Table.{between, digit, each, hexDigit, validKey, decoded}
-use Rattle.keytable.proofs.Flags.{and-left, and-right}
+use Rattle.lists.specs.Lists.{each}
+use Rattle.keytable.specs.Table.{between, digit, hexDigit, validKey, decoded}
+use Rattle.lists.proofs.Tests.{and-right}
+use Rattle.lists.proofs.Every.{each-at}
 
--- ---- each of a list
-
-each-at : (p : ℕ → Bool) (s : List ℕ) (i : ℕ) → i < length s → each p s ≡ true → p (getD s i 0) ≡ true
-each-at p [] i h all = absurd (omega arith)
-each-at p (b ∷ s) zero h all = and-left (p b) (each p s) all
-each-at p (b ∷ s) (suc i) h all = each-at p s i (omega arith) (and-right (p b) (each p s) all)
+-- ---- digits
 
 pub digit-small : (s : List ℕ) (i : ℕ) → i < length s → each hexDigit s ≡ true → digit (getD s i 0) < 16
 digit-small s i h all = ltb-true (digit (getD s i 0)) 16 (each-at hexDigit s i h all)
@@ -41,19 +36,3 @@ decoded-at (a ∷ b ∷ s) (suc i) h =
     let even : 2 * suc i ≡ suc (suc (2 * i)) = omega arith in
     let odd : 2 * suc i + 1 ≡ suc (suc (2 * i + 1)) = omega arith in
     rw (odd, even) (decoded-at s i (omega arith))
-
--- ---- filling
-
--- the front of d is the first i elements of v
-abbrev pub filled : List ℕ → List ℕ → ℕ → List ℕ
-filled v d i = take i v ++ drop i d
-
-pub fill-turn : (v d : List ℕ) (i : ℕ) → i < length v → i < length d → set (filled v d i) i (getD v i 0) ≡ filled v d (i + 1)
-fill-turn v d i hv hd =
-    rw (drop-cons d i 0 hd)
-    (set-at (take i v) (getD d i 0) (drop (suc i) d) (getD v i 0) i (length-take-le i v (omega arith))
-    ∙ sym (append-snoc (take i v) (getD v i 0) (drop (suc i) d))
-    ∙ rw (add-one i) (rw (take-suc v i 0 hv)))
-
-pub filled-all : (v d : List ℕ) (i n : ℕ) → length v ≡ n → i ≡ n → filled v d i ≡ v ++ drop n d
-filled-all v d i n whole end = rw (end, ← whole) (rw (take-length v))

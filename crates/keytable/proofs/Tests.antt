@@ -5,14 +5,16 @@ use mathlib.Core.Logic.{inl, inr}
 use Prim.Native.Nat.{ℕ, _+_, _-_, _/_, _%_, _≤_, _<_}
 use native.Mathlib.Omega.{arith}
 use mathlib.Core.Bool.{Bool, true, false, not, _&&_, and-false, true≢false}
-use mathlib.Core.List.{List, [], _∷_}
+use mathlib.Core.List.{List}
 use lib.ListN.{length}
 use lib.Dec.{leb, eqb}
 use borrow.Author.Tests.{leb-true, le-leb, lt-leb, eqb-true, eqb-false, eq-eqb, ne-eqb, lt-ltb, not-true}
 use Rattle.keytable.specs.Utf8.{validUtf8}
-use Rattle.keytable.specs.Table.{colon, between, each, hexDigit, validKey, plain, validIdentity}
-use Rattle.keytable.specs.WellFormed.{Each, Plain, Identity, HexDigit, Key}
-use Rattle.keytable.proofs.Flags.{and-left, and-right, both}
+use Rattle.lists.specs.Lists.{each}
+use Rattle.keytable.specs.Table.{colon, between, hexDigit, validKey, plain, validIdentity}
+use Rattle.keytable.specs.WellFormed.{Plain, Identity, HexDigit, Key}
+use Rattle.lists.proofs.Tests.{and-left, and-right, both}
+use Rattle.lists.proofs.Every.{each-sound, each-complete}
 
 -- ---- ranges
 
@@ -25,17 +27,6 @@ between-complete low high n l h = both (le-leb low n l) (le-leb n high h)
 
 between-above : (low high n : ℕ) → high < n → between low high n ≡ false
 between-above low high n h = simp (lt-leb n high h, and-false)
-
--- ---- every element
-
-module _ {A : Type 0} (p : A → Bool) (P : A → Type 0) where
-  each-sound : ((x : A) → p x ≡ true → P x) → (s : List A) → each p s ≡ true → Each P s
-  each-sound f [] h = tt
-  each-sound f (x ∷ s) h = (f x (and-left (p x) (each p s) h), each-sound f s (and-right (p x) (each p s) h))
-
-  each-complete : ((x : A) → P x → p x ≡ true) → (s : List A) → Each P s → each p s ≡ true
-  each-complete f [] h = refl
-  each-complete f (x ∷ s) h = both (f x (h .0)) (each-complete f s (h .1))
 
 -- ---- identities
 

@@ -9,21 +9,12 @@ use mathlib.Core.List.{List, [], _∷_, _++_, map, append-assoc}
 use lib.ListN.{length}
 use lib.Dec.{eqb}
 use borrow.Author.Tests.{eq-eqb, ne-eqb, eqb-true}
-use Rattle.keytable.specs.Table.{lineEnd, colon, lines, each, upto, past, identityOf, validIdentity, validKey, validLine, ended}
-use Rattle.keytable.specs.WellFormed.{Each, Plain, HexDigit, Line, ValidLine, text}
-use Rattle.keytable.proofs.Flags.{and-left, and-right}
+use Rattle.lists.specs.Lists.{each, Each}
+use Rattle.keytable.specs.Table.{lineEnd, colon, lines, upto, past, identityOf, validIdentity, validKey, validLine, ended}
+use Rattle.keytable.specs.WellFormed.{Plain, HexDigit, Line, ValidLine, text}
+use Rattle.lists.proofs.Tests.{and-left, and-right}
+use Rattle.lists.proofs.Every.{every-append, every-map}
 use Rattle.keytable.proofs.Tests.{key-sound}
-
--- ---- every element
-
-module _ {A : Type 0} (P : A → Type 0) where
-  pub every-append : (s t : List A) → Each P s → Each P t → Each P (s ++ t)
-  every-append [] t hs ht = ht
-  every-append (x ∷ s) t hs ht = (hs .0, every-append s t (hs .1) ht)
-
-  pub every-map : (Q : A → Type 0) → ((x : A) → P x → Q x) → (s : List A) → Each P s → Each Q s
-  every-map Q f [] h = tt
-  every-map Q f (x ∷ s) h = (f x (h .0), every-map Q f s (h .1))
 
 -- no byte of the list is x
 abbrev pub Without : ℕ → List ℕ → Type 0

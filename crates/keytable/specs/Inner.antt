@@ -4,17 +4,14 @@ use Prim.Native.Nat.{ℕ, _+_, _-_, _*_, _%_, _≤_, _<_}
 use mathlib.Core.List.{List, [], _∷_, map}
 use mathlib.Core.Option.{Option, none, some}
 use lib.ListN.{length, take, drop, getD}
+use Rattle.lists.specs.Lists.{part}
 use Rattle.keytable.specs.Table.{lineEnd, colon, upto}
 use Rattle.keytable.specs.declared.entries.Hit.{Hit}
 use Rattle.keytable.specs.declared.entries.Hit.the-variants.{Text, Nothing}
 
--- the elements at `from` and after it, up to and not including `to`
-abbrev pub part : ℕ → ℕ → List ℕ → List ℕ
-part from to s = take (to - from) (drop from s)
-
 -- the part of the table that a hit names
 abbrev pub hitText : List ℕ → Hit → Option (List ℕ)
-hitText table (Text from to) = some (part from to table)
+hitText table (Text from to) = some (part from (to - from) table)
 hitText table Nothing = none
 
 abbrev pub Within : List ℕ → Hit → Type 0

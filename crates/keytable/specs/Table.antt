@@ -6,6 +6,7 @@ use mathlib.Core.List.{List, [], _∷_, _++_, map}
 use mathlib.Core.Option.{Option, none, some}
 use lib.ListN.{length}
 use lib.Dec.{leb, ltb, eqb}
+use Rattle.lists.specs.Lists.{each, same}
 use Rattle.refusal.specs.Lent.{Outcome, gives, refuses}
 use Rattle.refusal.specs.declared.Refusal.the-variants.{UnknownPskIdentity}
 use Rattle.keytable.specs.Utf8.{validUtf8}
@@ -44,12 +45,6 @@ digit b =
     (cond (between 0x41 0x46 b) (b - 0x41 + 10)
     (cond (between 0x61 0x66 b) (b - 0x61 + 10)
     16))
-
-module _ {A : Type 0} where
-  -- every element passes the test
-  abbrev pub each : (A → Bool) → List A → Bool
-  each p [] = true
-  each p (b ∷ s) = p b && each p s
 
 abbrev pub hexDigit : ℕ → Bool
 hexDigit b = ltb (digit b) 16
@@ -99,14 +94,7 @@ ended [] = true
 ended (b ∷ []) = eqb b lineEnd
 ended (b ∷ c ∷ s) = ended (c ∷ s)
 
--- "Lookup compares bytes", and so does the test for an identity that stands twice
-abbrev pub same : List ℕ → List ℕ → Bool
-same [] [] = true
-same [] (b ∷ t) = false
-same (a ∷ s) [] = false
-same (a ∷ s) (b ∷ t) = eqb a b && same s t
-
--- x is one of those
+-- x is one of those: "Lookup compares bytes", and so does the test for an identity that stands twice
 abbrev pub among : List ℕ → List (List ℕ) → Bool
 among x [] = false
 among x (y ∷ ys) = same x y || among x ys

@@ -6,19 +6,9 @@ use Prim.Native.Nat.{ℕ, _*_, _≤_}
 use mathlib.Core.Bool.{true}
 use mathlib.Core.List.{List, [], _∷_, _++_, map}
 use lib.ListN.{length}
+use Rattle.lists.specs.Lists.{Each, Distinct}
 use Rattle.keytable.specs.Utf8.{validUtf8}
 use Rattle.keytable.specs.Table.{lineEnd, colon, decoded, ended}
-
-module _ {A : Type 0} where
-  -- every element has the property
-  abbrev pub Each : (A → Type 0) → List A → Type 0
-  Each P [] = Unit
-  Each P (x ∷ xs) = P x × Each P xs
-
-  -- no element stands twice
-  abbrev pub Distinct : List A → Type 0
-  Distinct [] = Unit
-  Distinct (x ∷ xs) = Each (λ y. ¬ (x ≡ y)) xs × Distinct xs
 
 -- "no byte below 20 hex, no 7F, no colon"
 pub record Plain (b : ℕ) : Type 0 where

@@ -1,7 +1,8 @@
 // Whether a table is well formed.
 ghost use mathlib.Core.Path.{_≡_};
 ghost use lib.ListN.{length};
-ghost use Rattle.keytable.specs.Table.{lines, each, plain, validIdentity, validLine, ended, wellFormed};
+ghost use Rattle.lists.specs.Lists.{each};
+ghost use Rattle.keytable.specs.Table.{lines, plain, validIdentity, validLine, ended, wellFormed};
 use crate::distinct::distinct;
 use crate::entries::find;
 use crate::entries::line_end;

@@ -5,28 +5,12 @@ ghost use mathlib.Core.Path.{_≡_};
 ghost use mathlib.Core.List.{[], map};
 ghost use Prim.Native.Nat.{_≤_, _+_};
 ghost use lib.ListN.{length};
-ghost use Rattle.keytable.specs.Table.{identityOf, lines, same, among, apart};
+ghost use Rattle.lists.specs.Lists.{same};
+ghost use Rattle.keytable.specs.Table.{identityOf, lines, among, apart};
 ghost use Rattle.keytable.specs.Inner.{identityAt, earlier, fingerprint, Kept};
 use crate::entries::find;
 use crate::entries::line_end;
 use crate::utf8::wide;
-
-// Whether two byte strings are the same.
-fn equal(a: &[u8], b: &[u8]) -> bool
-    ensures { λ r. ⌜ r ≡ same (now (a .entry)) (now (b .entry)) ⌝ }
-{
-    if a.len() != b.len() {
-        return false;
-    }
-    let mut i = 0;
-    while i < a.len() {
-        if a[i] != b[i] {
-            return false;
-        }
-        i += 1;
-    }
-    true
-}
 
 // A number that equal byte strings have alike.
 fn fingerprint(s: &[u8]) -> u32
@@ -56,7 +40,7 @@ fn same_identity(table: &[u8], at: usize, identity: &[u8]) -> bool
     ensures { λ r. ⌜ r ≡ same (now (identity .entry)) (identityAt (now (table .entry)) at) ⌝ }
 {
     let end = identity_end(table, at);
-    equal(identity, &table[at..end])
+    lists::same(identity, &table[at..end])
 }
 
 // Whether one of the first n lines has the identity, whose fingerprint is p.

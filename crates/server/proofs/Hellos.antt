@@ -19,7 +19,7 @@ use Rattle.messages.specs.KeyExchange.{serverKeyExchange}
 use Rattle.messages.specs.Fixed.{serverHelloDone}
 use Rattle.messages.proofs.Layouts.{valid-within}
 use Rattle.messages.proofs.Hellos.{length-body}
-use Rattle.keytable.proofs.Walks.{left-cons}
+use Rattle.lists.proofs.Walks.{left-cons}
 use Rattle.server.specs.declared.Connection.{Connection}
 use Rattle.server.specs.declared.hello.Choice.{Choice}
 use Rattle.server.specs.Steps.{refuse, suites, offers, chosen, offersNull, hintMessage, flight, helloChosen, helloFields}

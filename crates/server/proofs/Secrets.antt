@@ -25,7 +25,8 @@ use Rattle.messages.specs.declared.Part.the-variants.{At}
 use Rattle.messages.specs.Header.{header}
 use Rattle.messages.specs.KeyExchange.{identityIn}
 use Rattle.messages.specs.Place.{lastAt, filledBy, contents}
-use Rattle.keytable.specs.Table.{same, keyOf, found}
+use Rattle.lists.specs.Lists.{same}
+use Rattle.keytable.specs.Table.{keyOf, found}
 use Rattle.keytable.proofs.Lookups.{key-size}
 use Rattle.server.specs.declared.Connection.{Connection}
 use Rattle.server.specs.declared.finished.Value.{Value}

@@ -24,7 +24,8 @@ use Rattle.messages.specs.ServerHello.{serverHello}
 use Rattle.messages.specs.KeyExchange.{serverKeyExchange}
 use Rattle.messages.specs.Fixed as Fixed
 use Rattle.messages.specs.Place.{lastAt, filledBy, contents}
-use Rattle.keytable.specs.Table.{same, wellFormed, keyOf}
+use Rattle.lists.specs.Lists.{same}
+use Rattle.keytable.specs.Table.{wellFormed, keyOf}
 use Rattle.server.specs.declared.Rule.{Rule}
 use Rattle.server.specs.declared.Phase.{Phase}
 use Rattle.server.specs.declared.Connection.{Connection}

@@ -1,7 +1,7 @@
 // Step 4: the client's Finished, judged over every message before it, and the server's.
 ghost use mathlib.Core.Path.{_≡_};
 ghost use lib.ListN.{length};
-ghost use Rattle.keytable.specs.Table.{same};
+ghost use Rattle.lists.specs.Lists.{same};
 ghost use Rattle.messages.specs.Header.{header};
 ghost use Rattle.messages.specs.Place.{filledBy, contents};
 ghost use Rattle.server.specs.Steps.{finishedOf, finishedValue, afterTests};

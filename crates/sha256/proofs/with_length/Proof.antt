@@ -5,7 +5,7 @@ use mathlib.Core.List.{List, _++_, append-nil}
 use Prim.Native.Nat.{ℕ}
 use native.Mathlib.Omega.{arith}
 use lib.ListN.{length, take, drop-of-length-le}
-use Rattle.refusal.proofs.Copy.{copied-in}
+use Rattle.lists.proofs.Copies.{copied-in}
 use borrow.Author.Needs.{needs}
 use Rattle.sha256.proofs.with_length.Statement.{statement}
 use Rattle.sha256.proofs.with_length.Tie as tie

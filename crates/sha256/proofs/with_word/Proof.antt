@@ -5,7 +5,7 @@ use mathlib.Core.List.{List, _++_}
 use Prim.Native.Nat.{ℕ, _+_}
 use native.Mathlib.Omega.{arith}
 use lib.ListN.{length, take, drop}
-use Rattle.refusal.proofs.Copy.{copied-in}
+use Rattle.lists.proofs.Copies.{copied-in}
 use borrow.Author.Needs.{needs}
 use Rattle.sha256.proofs.with_word.Statement.{statement}
 use Rattle.sha256.proofs.with_word.Tie as tie

@@ -4,9 +4,10 @@ use borrow.Author.Needs.{needs}
 use mathlib.Core.Path.{_≡_}
 use Prim.Native.Nat.{_-_, _≤_}
 use lib.ListN.{length, drop}
-use Rattle.keytable.specs.Table.{each, plain}
-use Rattle.keytable.proofs.Walks.{each-more, each-stop, each-end}
-use Rattle.keytable.proofs.Flags.{failed, passed}
+use Rattle.lists.specs.Lists.{each}
+use Rattle.keytable.specs.Table.{plain}
+use Rattle.lists.proofs.Walks.{each-more, each-stop, each-end}
+use Rattle.lists.proofs.Tests.{failed, passed}
 use Rattle.keytable.proofs.checks.all_plain.Statement.{statement}
 use Rattle.keytable.proofs.checks.all_plain.Tie as tie
 

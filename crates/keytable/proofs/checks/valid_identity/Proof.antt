@@ -2,7 +2,7 @@
 -- Assumes nothing.
 use borrow.Author.Needs.{needs}
 use borrow.Author.Tests.{le-leb, lt-leb}
-use Rattle.keytable.proofs.Flags.{failed, passed}
+use Rattle.lists.proofs.Tests.{failed, passed}
 use Rattle.keytable.proofs.checks.valid_identity.Statement.{statement}
 use Rattle.keytable.proofs.checks.valid_identity.Tie as tie
 

@@ -7,7 +7,7 @@ use denote.Ref.{now}
 use lib.ListN.{length}
 use lib.Seq.{length-take-le}
 use Rattle.keytable.proofs.Lines.{colon-within, identity-fails, colon-fails, key-decides}
-use Rattle.keytable.proofs.Flags.{failed, passed}
+use Rattle.lists.proofs.Tests.{failed, passed}
 use Rattle.keytable.proofs.checks.valid_line.Statement.{statement}
 use Rattle.keytable.proofs.checks.valid_line.Tie as tie
 

@@ -5,9 +5,10 @@ use mathlib.Core.Path.{_≡_, _∙_, ap, sym}
 use Prim.Native.Nat.{_+_, _-_, _≤_}
 use denote.Ref.{now}
 use lib.ListN.{length, drop}
-use Rattle.keytable.specs.Table.{lines, each, validLine}
+use Rattle.lists.specs.Lists.{each}
+use Rattle.keytable.specs.Table.{lines, validLine}
 use Rattle.keytable.proofs.Lines.{line-within, valid-on, valid-ends, no-lines}
-use Rattle.keytable.proofs.Flags.{failed, passed}
+use Rattle.lists.proofs.Tests.{failed, passed}
 use Rattle.keytable.proofs.checks.valid_lines.Statement.{statement}
 use Rattle.keytable.proofs.checks.valid_lines.Tie as tie
 

@@ -7,7 +7,8 @@ use native.Mathlib.Omega.{arith}
 use mathlib.Core.List.{List, [], map}
 use denote.Ref.{now}
 use lib.ListN.{length, drop, length-set}
-use Rattle.keytable.specs.Inner.{part, identityAt, earlier, fingerprint, Kept}
+use Rattle.lists.specs.Lists.{part}
+use Rattle.keytable.specs.Inner.{identityAt, earlier, fingerprint, Kept}
 use Rattle.keytable.specs.Table.{lines, identityOf, among, apart}
 use Rattle.keytable.proofs.Apart.{identity-part, identity-within, some-line, apart-stop, apart-on, kept-on}
 use Rattle.keytable.proofs.Lines.{line-within, line-here, no-lines}
@@ -43,7 +44,7 @@ module _ (c : tie.After-identity-end Inv-loop μ-loop) where
   within : c .identity-end .result ≤ length table
   within = omega (arith, identity-within table place in-table, c .identity-end .ensures)
 
-  identity-is : part place (c .identity-end .result) table ≡ identityAt table place
+  identity-is : part place (c .identity-end .result - place) table ≡ identityAt table place
   identity-is = identity-part table place _ in-table (c .identity-end .ensures)
 
   below : c .before .before .loop .n < 256

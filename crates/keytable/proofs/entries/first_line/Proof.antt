@@ -12,7 +12,7 @@ use mathlib.Core.Option.{none}
 use denote.Ref.{now}
 use lib.ListN.{length, drop, drop-of-length-le}
 use Rattle.keytable.specs.Table.{lines, keyText, firstText}
-use Rattle.keytable.specs.Inner.{part}
+use Rattle.lists.specs.Lists.{part}
 use Rattle.keytable.proofs.Lines.{line-within}
 use Rattle.keytable.proofs.Matching.{Matched, match-more, match-other, match-colon, match-longer, match-end, search-on, search-hit}
 use Rattle.keytable.proofs.entries.first_line.Statement.{statement}
@@ -44,7 +44,7 @@ module _ (c : tie.After-line-end Inv-loop μ-loop Inv-lines μ-lines) where
   within : c .line-end .result ≤ length table
   within = line-within table _ _ (search needs) (c .line-end .ensures)
 
-  on : keyText identity (part place (c .line-end .result) table) ≡ none
+  on : keyText identity (part place (c .line-end .result - place) table) ≡ none
       → firstText identity (lines table) ≡ firstText identity (lines (drop (c .line-end .result + 1) table))
   on = search-on table identity _ _ (c .before .if1 .left) (c .line-end .ensures) (c .before .before .lines .inv .1)
 
@@ -85,7 +85,7 @@ loop-again c =
 
 -- every way out of the comparison but the hit: the line does not match
 missed : (c : tie.Left-loop Inv-loop μ-loop Inv-lines μ-lines)
-    → keyText (identity (c .before .before)) (part (place (c .before .before)) (c .before .before .line-end .result) (table (c .before .before))) ≡ none
+    → keyText (identity (c .before .before)) (part (place (c .before .before)) (c .before .before .line-end .result - place (c .before .before)) (table (c .before .before))) ≡ none
 missed c =
     let m = c .before .loop .inv .2 in
     let w = within (c .before .before) in

@@ -6,7 +6,7 @@ use Prim.Native.Nat.{ℕ, _+_}
 use mathlib.Core.List.{List}
 use denote.Ref.{now}
 use lib.ListN.{length, drop, length-drop}
-use Rattle.refusal.proofs.Copy.{part-to-end}
+use Rattle.lists.proofs.Parts.{part-to-end}
 use Rattle.keytable.specs.Table.{lineEnd, upto}
 use Rattle.keytable.proofs.Lines.{length-upto}
 use Rattle.keytable.proofs.entries.line_end.Statement.{statement}

@@ -6,8 +6,9 @@ use Prim.Native.Nat.{ℕ, _-_, _≤_}
 use lib.Dec.{ltb}
 use lib.ListN.{length, drop}
 use borrow.Author.Tests.{lt-ltb, le-ltb}
-use Rattle.keytable.specs.Table.{each, hexDigit}
-use Rattle.keytable.proofs.Walks.{each-more, each-stop, each-end}
+use Rattle.lists.specs.Lists.{each}
+use Rattle.keytable.specs.Table.{hexDigit}
+use Rattle.lists.proofs.Walks.{each-more, each-stop, each-end}
 use Rattle.keytable.proofs.hex.all_digits.Statement.{statement}
 use Rattle.keytable.proofs.hex.all_digits.Tie as tie
 

@@ -8,7 +8,8 @@ use mathlib.Core.List.{List}
 use denote.Ref.{now}
 use lib.ListN.{length, getD, length-set}
 use Rattle.keytable.specs.Table.{decoded, digit}
-use Rattle.keytable.proofs.Pairs.{digit-small, length-decoded, decoded-at, filled, fill-turn, filled-all}
+use Rattle.lists.proofs.Copies.{filled, fill-turn, filled-all}
+use Rattle.keytable.proofs.Pairs.{digit-small, length-decoded, decoded-at}
 use Rattle.keytable.proofs.hex.decode.Statement.{statement}
 use Rattle.keytable.proofs.hex.decode.Tie as tie
 

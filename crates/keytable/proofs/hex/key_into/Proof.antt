@@ -5,7 +5,7 @@ use denote.Ref.{now}
 use Rattle.refusal.proofs.Laws.{gave, short, refused}
 use Rattle.keytable.specs.Table.{decoded}
 use Rattle.keytable.proofs.Pairs.{length-decoded, digits-of-key}
-use Rattle.keytable.proofs.Flags.{failed, passed}
+use Rattle.lists.proofs.Tests.{failed, passed}
 use Rattle.keytable.proofs.hex.key_into.Statement.{statement}
 use Rattle.keytable.proofs.hex.key_into.Tie as tie
 

@@ -1,7 +1,7 @@
 -- `keytable::utf8::four`: the row of four bytes, test by test.
 -- Assumes nothing.
 use borrow.Author.Needs.{needs}
-use Rattle.keytable.proofs.Flags.{failed, passed}
+use Rattle.lists.proofs.Tests.{failed, passed}
 use Rattle.keytable.proofs.utf8.four.Statement.{statement}
 use Rattle.keytable.proofs.utf8.four.Tie as tie
 

@@ -1,7 +1,7 @@
 -- `keytable::utf8::three`: the row of three bytes, test by test.
 -- Assumes nothing.
 use borrow.Author.Needs.{needs}
-use Rattle.keytable.proofs.Flags.{failed, passed}
+use Rattle.lists.proofs.Tests.{failed, passed}
 use Rattle.keytable.proofs.utf8.three.Statement.{statement}
 use Rattle.keytable.proofs.utf8.three.Tie as tie
 

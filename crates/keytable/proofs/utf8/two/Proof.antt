@@ -1,7 +1,7 @@
 -- `keytable::utf8::two`: the row of two bytes, test by test.
 -- Assumes nothing.
 use borrow.Author.Needs.{needs}
-use Rattle.keytable.proofs.Flags.{failed, passed}
+use Rattle.lists.proofs.Tests.{failed, passed}
 use Rattle.keytable.proofs.utf8.two.Statement.{statement}
 use Rattle.keytable.proofs.utf8.two.Tie as tie
 

@@ -9,8 +9,8 @@ use mathlib.Core.List.{List}
 use denote.Ref.{now}
 use lib.ListN.{length, take, drop, drop-of-length-le}
 use Rattle.keytable.specs.Utf8.{character, validAfter, validUtf8}
-use Rattle.keytable.proofs.Parts.{rest}
-use Rattle.keytable.proofs.Flags.{failed, passed}
+use Rattle.lists.proofs.Parts.{rest}
+use Rattle.lists.proofs.Tests.{failed, passed}
 use Rattle.keytable.proofs.Characters.{turn-begins, turn-ends, turn-moves, turn-within, turn-again}
 use Rattle.keytable.proofs.utf8.valid_utf8.Statement.{statement}
 use Rattle.keytable.proofs.utf8.valid_utf8.Tie as tie

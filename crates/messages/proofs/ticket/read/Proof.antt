@@ -9,7 +9,7 @@ use Rattle.messages.specs.declared.Part.the-variants.{At}
 use Rattle.messages.specs.Header.{header}
 use Rattle.messages.specs.Place.{lastAt, afterHeader}
 use Rattle.messages.proofs.Places.{last-inside}
-use Rattle.refusal.proofs.Copy.{take-window}
+use Rattle.lists.proofs.Parts.{take-window}
 use Rattle.messages.proofs.ticket.read.Statement.{statement}
 use Rattle.messages.proofs.ticket.read.Tie as tie
 

@@ -9,8 +9,8 @@ use mathlib.Core.Logic.{⊎-elim}
 use lib.ListN.{length, getD, drop, drop-of-length-le}
 use lib.Dec.{eqb}
 use borrow.Author.Tests.{eq-eqb, ne-eqb}
-use Rattle.keytable.specs.Table.{same}
-use Rattle.keytable.proofs.Walks.{left-cons}
+use Rattle.lists.specs.Lists.{same}
+use Rattle.lists.proofs.Walks.{left-cons}
 use borrow.Author.Needs.{needs}
 use Rattle.server.proofs.finished.equal.Statement.{statement}
 use Rattle.server.proofs.finished.equal.Tie as tie

@@ -3,7 +3,7 @@
 use mathlib.Core.Path.{_≡_}
 use mathlib.Core.Bool.{_&&_, and-false, and-true}
 use borrow.Author.Tests.{not-true, not-false}
-use Rattle.keytable.specs.Table.{same}
+use Rattle.lists.specs.Lists.{same}
 use Rattle.keys.specs.declared.Side.the-variants.{Client}
 use Rattle.server.specs.Steps.{finishedOf}
 use Rattle.server.specs.Inner.{rightValue}

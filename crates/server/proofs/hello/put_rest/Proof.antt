@@ -5,7 +5,7 @@ use Prim.Native.Nat.{_+_, _-_, _≤_}
 use native.Mathlib.Omega.{arith}
 use mathlib.Core.List.{[]}
 use lib.ListN.{length, take, drop, length-drop}
-use Rattle.refusal.proofs.Copy.{part-to-end}
+use Rattle.lists.proofs.Parts.{part-to-end}
 use Rattle.messages.specs.Layout.{bytes}
 use Rattle.messages.specs.KeyExchange.{serverKeyExchange}
 use Rattle.messages.specs.Fixed.{serverHelloDone}

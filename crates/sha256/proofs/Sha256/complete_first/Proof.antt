@@ -6,7 +6,7 @@ use native.Mathlib.Omega.{arith}
 use lib.ListN.{length, take, drop, length-drop, take-append-drop}
 use lib.Seq.{length-take-le}
 use Rattle.sha256.proofs.Absorb.{absorb-append, absorb-count}
-use Rattle.refusal.proofs.Copy.{part-to-end}
+use Rattle.lists.proofs.Parts.{part-to-end}
 use borrow.Author.Needs.{needs}
 use Rattle.sha256.proofs.Sha256.complete_first.Statement.{statement}
 use Rattle.sha256.proofs.Sha256.complete_first.Tie as tie

@@ -4,7 +4,7 @@ use mathlib.Core.Path.{_≡_, refl}
 use Prim.Native.Nat.{_+_, _%_}
 use native.Mathlib.Omega.{arith}
 use lib.ListN.{length}
-use Rattle.refusal.proofs.Copy.{copied-in}
+use Rattle.lists.proofs.Copies.{copied-in}
 use borrow.Author.Needs.{needs}
 use Rattle.sha256.proofs.Sha256.filled.Statement.{statement}
 use Rattle.sha256.proofs.Sha256.filled.Tie as tie

@@ -6,7 +6,7 @@ use native.Mathlib.Omega.{arith}
 use lib.ListN.{length}
 use lib.Seq.{length-take-le}
 use Rattle.sha256.proofs.Absorb.{absorb-straight}
-use Rattle.refusal.proofs.Copy.{part-to-end}
+use Rattle.lists.proofs.Parts.{part-to-end}
 use borrow.Author.Needs.{needs}
 use Rattle.sha256.proofs.Sha256.straight.Statement.{statement}
 use Rattle.sha256.proofs.Sha256.straight.Tie as tie

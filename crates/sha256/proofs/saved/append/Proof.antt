@@ -3,7 +3,7 @@
 use mathlib.Core.Path.{_≡_}
 use native.Mathlib.Omega.{arith}
 use lib.ListN.{length}
-use Rattle.refusal.proofs.Copy.{copied-behind}
+use Rattle.lists.proofs.Copies.{copied-behind}
 use borrow.Author.Needs.{needs}
 use Rattle.sha256.proofs.saved.append.Statement.{statement}
 use Rattle.sha256.proofs.saved.append.Tie as tie

@@ -1,5 +1,5 @@
--- What a test of a call's answer says of the definition that the answer equals, as in `if !tail(b)`.
--- And the parts of a test made of several. Assumes nothing.
+-- What a test of a call's answer says of the definition that the answer equals, as in `if !tail(b)`, and the parts of a test made of several.
+-- Assumes nothing.
 use mathlib.Core.Path.{_≡_, refl, sym, _∙_}
 use mathlib.Core.Bool.{Bool, true, false, not, _&&_, true≢false}
 use borrow.Author.Tests.{not-true, not-false}

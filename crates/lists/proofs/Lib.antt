@@ -1,0 +1,6 @@
+pub mod Copies
+pub mod Equal
+pub mod Every
+pub mod Parts
+pub mod Tests
+pub mod Walks
