@@ -12,7 +12,8 @@ ghost use mathlib.Core.List.{_++_};
 ghost use Prim.Native.Nat.{_+_, _≤_};
 ghost use lib.ListN.{length, take};
 ghost use Rattle.endian.specs.Number.{number};
-ghost use Rattle.sha256.specs.Saved.{part, saved, wordAt, restored};
+ghost use Rattle.lists.specs.Lists.{part};
+ghost use Rattle.sha256.specs.Saved.{saved, wordAt, restored};
 
 // The bytes with a part put behind the first `at` of them.
 fn append(bytes: [u8; 104], at: usize, part: &[u8]) -> [u8; 104]

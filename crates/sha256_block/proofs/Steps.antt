@@ -6,7 +6,9 @@ use native.Mathlib.Numerals.{add-one}
 use native.Mathlib.Omega.{arith}
 use mathlib.Core.List.{List, [], _∷_, _++_}
 use lib.ListN.{length, take, drop, getD, set}
-use lib.Seq.{drop-cons, drop-drop, take-suc-set, getD-take}
+use lib.Seq.{drop-drop, take-suc-set, getD-take}
+use Rattle.lists.specs.Lists.{part}
+use Rattle.lists.proofs.Parts.{take-window}
 use Rattle.endian.specs.Number.{number}
 use Rattle.sha256_block.specs.Functions.{_⊞_, σ₀, σ₁}
 use Rattle.sha256_block.specs.Block.{words}
@@ -18,12 +20,14 @@ use Rattle.sha256_block.specs.Block.{schedule, round, rounds}
 pub front-grows : (w front : List ℕ) (t x : ℕ) → t < length w → take t w ≡ front → take (t + 1) (set w t x) ≡ front ++ (x ∷ [])
 front-grows w front t x h e = rw (add-one t, take-suc-set w t x, e)
 
--- the four bytes from a place
-four : (bs : List ℕ) (at : ℕ) → at + 3 < length bs
-    → take 4 (drop at bs) ≡ getD bs at 0 ∷ getD bs (at + 1) 0 ∷ getD bs (at + 2) 0 ∷ getD bs (at + 3) 0 ∷ []
-four bs at h =
-    let next : (i j : ℕ) → i < length bs → j ≡ suc i → drop i bs ≡ getD bs i 0 ∷ drop j bs = λ i j k e. rw e (drop-cons bs i 0 k) in
-    rw (next at (at + 1) (omega arith) (omega arith), next (at + 1) (at + 2) (omega arith) (omega arith), next (at + 2) (at + 3) (omega arith) (omega arith), next (at + 3) (at + 4) (omega arith) (omega arith))
+-- the four bytes from a place, as the code indexes them
+pub four : (bs : List ℕ) (at : ℕ) → at + 4 ≤ length bs
+    → part at 4 bs ≡ getD bs at 0 ∷ getD bs (at + 1) 0 ∷ getD bs (at + 2) 0 ∷ getD bs (at + 3) 0 ∷ []
+four bs at inside =
+    let one : suc at ≡ at + 1 = omega arith in
+    let two : suc (suc at) ≡ at + 2 = omega arith in
+    let three : suc (suc (suc at)) ≡ at + 3 = omega arith in
+    rw (take-window 4 at bs inside, three, two, one)
 
 -- the words of a block from its front
 words-more : (n : ℕ) (block : List ℕ) → words (suc n) block ≡ words n block ++ (number (take 4 (drop (4 * n) block)) ∷ [])
@@ -34,7 +38,7 @@ words-more (suc n) block =
     ap (λ (ws : List ℕ). number (take 4 block) ∷ ws) (words-more n (drop 4 block) ∙ rw (drop-drop (4 * n) 4 block, same))
 
 -- the next word, from the four bytes that it is made of
-pub next-word : (t : ℕ) (block : List ℕ) (x : ℕ) → 4 * t + 3 < length block
+pub next-word : (t : ℕ) (block : List ℕ) (x : ℕ) → 4 * t + 4 ≤ length block
     → x ≡ number (getD block (4 * t) 0 ∷ getD block (4 * t + 1) 0 ∷ getD block (4 * t + 2) 0 ∷ getD block (4 * t + 3) 0 ∷ [])
     → words t block ++ (x ∷ []) ≡ words (t + 1) block
 next-word t block x h e = rw (add-one t, words-more t block, four block (4 * t) h, e)

@@ -6,7 +6,8 @@ use lib.ListN.{length, replicate}
 use lib.Seq.{take-all}
 use Rattle.sha256.specs.Hash.{concatenated}
 use Rattle.sha256.specs.Saved.{saved, restored}
-use Rattle.sha256.proofs.Saving.{behind, Fits, restored-saved}
+use Rattle.lists.proofs.Copies.{behind}
+use Rattle.sha256.proofs.Saving.{Fits, restored-saved}
 use borrow.Author.Needs.{needs}
 use Rattle.sha256.proofs.saved.save.Statement.{statement}
 use Rattle.sha256.proofs.saved.save.Tie as tie
