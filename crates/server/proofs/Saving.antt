@@ -10,9 +10,9 @@ use lib.Seq.{take-all}
 use lib.Dec.{leb, eqb}
 use Rattle.endian.proofs.Numbers.{number-be-lt}
 use Rattle.sha256.specs.Saved as Hash
-use Rattle.sha256.specs.Saved.{part}
+use Rattle.lists.specs.Lists.{part}
 use Rattle.sha256.proofs.Saving as HashLaws
-use Rattle.sha256.proofs.Saving.{part-there}
+use Rattle.lists.proofs.Parts.{part-there}
 use Rattle.server.specs.declared.Rule.{Rule}
 use Rattle.server.specs.declared.Phase.{Phase}
 use Rattle.server.specs.declared.Connection.{Connection}

@@ -7,7 +7,7 @@ use lib.ListN.{getD}
 use lib.Dec.{leb, eqb}
 use Rattle.endian.specs.Number.{be, number}
 use Rattle.sha256.specs.Saved as Hash
-use Rattle.sha256.specs.Saved.{part}
+use Rattle.lists.specs.Lists.{part}
 use Rattle.server.specs.declared.Rule.{Rule}
 use Rattle.server.specs.declared.Phase.{Phase}
 use Rattle.server.specs.declared.Connection.{Connection}

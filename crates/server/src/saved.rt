@@ -17,7 +17,7 @@ ghost use Prim.Native.Nat.{_+_, _≤_};
 ghost use lib.ListN.{length, take};
 ghost use Rattle.endian.specs.Number.{be, number};
 ghost use Rattle.sha256.specs.Saved as Hash;
-ghost use Rattle.sha256.specs.Saved.{part};
+ghost use Rattle.lists.specs.Lists.{part};
 ghost use Rattle.server.specs.Saved as Saved;
 ghost use Rattle.server.specs.Saved.{phaseByte, ruleByte, listedByte, saved, toPhase, toRule, restored};
 

@@ -3,7 +3,7 @@
 use mathlib.Core.Path.{_≡_, refl}
 use native.Mathlib.Omega.{arith}
 use lib.ListN.{length}
-use Rattle.sha256.proofs.Saving.{copied-part}
+use Rattle.lists.proofs.Copies.{copied-part}
 use borrow.Author.Needs.{needs}
 use Rattle.server.proofs.saved.hint.Statement.{statement}
 use Rattle.server.proofs.saved.hint.Tie as tie

@@ -4,7 +4,8 @@ use mathlib.Core.Path.{_≡_, refl, sym, ap, _∙_}
 use native.Mathlib.Omega.{arith}
 use lib.ListN.{length, replicate}
 use lib.Seq.{take-all}
-use Rattle.sha256.proofs.Saving.{behind, length-saved}
+use Rattle.lists.proofs.Copies.{behind}
+use Rattle.sha256.proofs.Saving.{length-saved}
 use Rattle.server.specs.Saved.{saved, restored}
 use Rattle.server.proofs.Saving.{Fits, restored-saved}
 use borrow.Author.Needs.{needs}

@@ -1,14 +1,12 @@
 -- `server::saved::suite` meets its contract: two bytes, one by one; their number fits, since each is a byte.
 -- Assumes nothing.
-use mathlib.Core.Path.{_≡_, refl, sym, ap, _∙_}
+use mathlib.Core.Path.{_≡_, sym, ap, _∙_}
 use native.Mathlib.Omega.{arith}
-use mathlib.Core.List.{[], _∷_}
 use lib.ListN.{length, getD}
 use mir.Syntax.{w8}
 use mir.Val.{Fits}
 use Rattle.endian.specs.Number.{number}
-use Rattle.sha256.specs.Saved.{part}
-use Rattle.sha256.proofs.Saving.{part-suc}
+use Rattle.lists.proofs.Parts.{take-window}
 use borrow.Author.Needs.{needs}
 use Rattle.server.proofs.saved.suite.Statement.{statement}
 use Rattle.server.proofs.saved.suite.Tie as tie
@@ -24,8 +22,7 @@ returns : tie.Need-returns
 returns c =
     let bytes = c .before .args .t1 in
     let size : length bytes ≡ 382 = search (needs, c .before .good) in
-    let two : part 4 2 bytes ≡ getD bytes 4 0 ∷ getD bytes 5 0 ∷ [] = rw (part-suc bytes 4 5 1 refl (omega arith), part-suc bytes 5 6 0 refl (omega arith)) in
-    c .number16 .ensures ∙ ap number (sym two)
+    c .number16 .ensures ∙ ap number (sym (take-window 2 4 bytes (omega arith)))
 
 pub suite-spec : {M : Type 1} → statement M
 suite-spec =

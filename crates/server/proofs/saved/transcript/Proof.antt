@@ -4,7 +4,7 @@ use mathlib.Core.Path.{_≡_, refl, ap, _∙_}
 use native.Mathlib.Omega.{arith}
 use lib.ListN.{length}
 use Rattle.sha256.specs.Saved.{restored}
-use Rattle.sha256.proofs.Saving.{copied-part}
+use Rattle.lists.proofs.Copies.{copied-part}
 use borrow.Author.Needs.{needs}
 use Rattle.server.proofs.saved.transcript.Statement.{statement}
 use Rattle.server.proofs.saved.transcript.Tie as tie
