@@ -1,20 +1,19 @@
--- `hash_vectors::print_parts` meets its contract: each part lies within the message, since parts grow by one.
+-- `hash_vectors::in_parts`: each part lies within the message, since parts grow by one.
 -- Assumes nothing.
 use Prim.Native.Nat.{_≤_, _<_, _+_, _-_}
-use mathlib.Core.Path.{_≡_}
 use lib.ListN.{length}
 use borrow.Author.Needs.{needs}
-use Rattle.hash_vectors.proofs.print_parts.Statement.{statement}
-use Rattle.hash_vectors.proofs.print_parts.Tie as tie
+use Rattle.hash_vectors.proofs.in_parts.Statement.{statement}
+use Rattle.hash_vectors.proofs.in_parts.Tie as tie
 
 abbrev Inv-loop : tie.InvT-loop
-Inv-loop message hash₀ at₀ size₀ t6 hash at size = (at ≤ length message) × (0 < size) × (size ≤ at + 1) × (length t6 ≡ 10)
+Inv-loop message hash₀ at₀ size₀ hash at size = (at ≤ length message) × (0 < size) × (size ≤ at + 1)
 
 abbrev μ-loop : tie.MeasureT-loop
-μ-loop message hash₀ at₀ size₀ t6 hash at size = length message - at
+μ-loop message hash₀ at₀ size₀ hash at size = length message - at
 
-pub print-parts-spec : {M : Type 1} → statement M
-print-parts-spec =
+pub in-parts-spec : {M : Type 1} → statement M
+in-parts-spec =
     tie.close
     (tie.spec
     Inv-loop
@@ -33,10 +32,6 @@ print-parts-spec =
     (λ c. search needs)
     (λ c. search needs)
     (λ c. search needs)
-    (λ c. search needs)
-    (λ c κs. search needs)
-    (λ c. search needs)
-    (λ c κs. search needs)
     (λ c. search needs)
     (λ c κs. search needs)
     (λ c. search needs))
