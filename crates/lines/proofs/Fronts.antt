@@ -41,4 +41,5 @@ pub front-lent : (first out last : List ℕ) (at n : ℕ) → Front at first out
     → Front (at + n) first (putMid at (length out - at) out last)
 front-lent first out last at n before next =
     let inside : at ≤ length out = rw (before .size) (before .inside) in
-    rw (post-is at (length out) out inside, drop-length out, append-nil last) (front-more first out last at n before (rw (part-to-end out at) at next))
+    rw (post-is at (length out) out inside, drop-length out, append-nil last)
+    (front-more first out last at n before (rw (part-to-end out at) at next))

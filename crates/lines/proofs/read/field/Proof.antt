@@ -1,4 +1,4 @@
--- `lines::read::field` meets its contract: the invariant: the bytes so far are a front. The measure counts the pieces, since nothing says that input ends.
+-- `lines::read::field` meets its contract: the invariant: the bytes so far are a front. The measure counts the pieces.
 -- Assumes nothing.
 use Prim.Native.Nat.{_≤_, _-_}
 use Rattle.lines.proofs.Fronts.{front-lent}
@@ -16,9 +16,10 @@ abbrev μ-loop : tie.MeasureT-loop
 loop-again : tie.Need-loop-again Inv-loop μ-loop
 loop-again c =
     let at-loop = c .before .before .before .before .before .before .before in
-    let first = at-loop .before .before .args .out .now in
+    let out = at-loop .loop .out in
+    let at = at-loop .loop .at in
     let piece = c .before .before .piece in
-    let more = front-lent first (at-loop .loop .out) (piece .last .1 .0) (at-loop .loop .at) (piece .result) (at-loop .loop .inv .1) (piece .ensures) in
+    let more = front-lent (at-loop .before .before .args .out .now) out (piece .last .1 .0) at (piece .result) (at-loop .loop .inv .1) (piece .ensures) in
     (search needs, more)
 
 pub field-spec : {M : Type 1} → statement M

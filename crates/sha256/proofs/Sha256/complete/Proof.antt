@@ -19,7 +19,10 @@ returns c =
     let s = start .args .self in
     let xs = start .args .«data» .now in
     let size : length (s .block) ≡ 64 = search (needs, start .good) in
-    let full : xs ++ drop (s .count % 64 + length xs) (s .block) ≡ xs = rw (drop-of-length-le (s .block) {i = s .count % 64 + length xs} (omega arith), append-nil xs) in
+    let full : xs ++ drop (s .count % 64 + length xs) (s .block) ≡ xs = rw (
+      drop-of-length-le (s .block) {i = s .count % 64 + length xs} (omega arith),
+      append-nil xs,
+    ) in
     let front = take (s .count % 64) (s .block) in
     let held : length front ≡ s .count % 64 = length-take-le (s .count % 64) (s .block) (omega arith) in
     let whole : length (front ++ xs) ≡ 64 = rw (length-append front xs, held) (start .pre .1) in

@@ -24,7 +24,11 @@ loop-again : tie.Need-loop-again Inv-loop μ-loop
 loop-again c =
     let at-loop = c .before .before .before .before .before .before in
     let block = at-loop .before .before .before .args .block .now in
-    (search needs, search needs, front-grows (at-loop .loop .w) (words (at-loop .loop .t) block) (at-loop .loop .t) (c .number32 .result) (omega arith) (at-loop .loop .inv .2) ∙ next-word (at-loop .loop .t) block (c .number32 .result) (omega arith) (c .number32 .ensures))
+    let w = at-loop .loop .w in
+    let t = at-loop .loop .t in
+    let word = c .number32 in
+    let grown = front-grows w (words t block) t (word .result) (omega arith) (at-loop .loop .inv .2) in
+    (search needs, search needs, grown ∙ next-word t block (word .result) (omega arith) (word .ensures))
 
 returns : tie.Need-returns Inv-loop μ-loop
 returns c =
