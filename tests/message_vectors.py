@@ -1,12 +1,14 @@
 """The input and the expected output of crates/message_vectors, from a parser that is written here.
 
-  message_vectors.py stdin    the messages, each with its length in two bytes in front
+  message_vectors.py stdin    messages, and fields for the writers
   message_vectors.py stdout   what the program has to print of them
 
 The messages: document 01's V3 to V8, recordings of OpenSSL (tests/recorded, made by
 record_messages.py), messages at the limits, and damaged variants of all of these.
 """
 import glob, os, random, sys
+
+from calls import field, literal, number, series
 
 HERE = os.path.dirname(os.path.abspath(__file__))
 LIMIT = 16384
@@ -240,47 +242,74 @@ def line(m):
     return shown
 
 
-# What the writers answer: R5 for what a layout forbids, else R1 where the output is too short. The
-# second number is how far the output is changed then, counted over the calls that share it.
-WRITERS = """\
- 5 0
- 5 0
- 1 0
- 5 0
- 1 0
- 16384 16384
- 16384 16384
- 5 0
- 1 0
- 1 0
- 4 4
- 5 0
- 5 0
- 5 0
- 5 0
- 5 0
- 5 0
- 5 0
- 16383 16383
- 5 0
- 5 0
- 1 0
- 45 45
- 5 0
- 5 0
- 1 0
- 48 48
-"""
+CLIENT, SERVER, TICKET, HINT, DONE, IDENTITY, FINISHED = 3, 2, 4, 12, 14, 16, 20
+TWICE, EMPTY_TICKET = extension(23) + extension(23), extension(35)
+
+
+def hello(kind, number, said, room=16400, random=32, session=0, suites=2, methods=1, block=None):
+    """A hello's writer: the sizes of its fields, of bytes 07, and what it answers."""
+    fields = [series(7, 0, size) for size in (random, session, suites, methods)] + [literal(block or b"")]
+    return kind, number, block is not None, room, fields, said
+
+
+def one(kind, size, room, said):
+    """The writer of a message with one field of so many bytes 07."""
+    return kind, 0, False, room, [series(7, 0, size)], said
+
+
+# What the writers answer: R5 for what a layout forbids, else R1 where the output is too short, else a length.
+WRITERS = [
+    one(IDENTITY, 16379, 16400, "5"),
+    one(HINT, 16379, 3, "5"),
+    one(HINT, 16378, 16383, "1"),
+    one(TICKET, 16375, 16400, "5"),
+    one(TICKET, 2, 11, "1"),
+    one(TICKET, 16374, 16384, "wrote 16384"),
+    one(IDENTITY, 16378, 16384, "wrote 16384"),
+    one(FINISHED, 11, 16400, "5"),
+    one(FINISHED, 12, 15, "1"),
+    one(DONE, 0, 3, "1"),
+    one(DONE, 0, 16400, "wrote 4"),
+    hello(CLIENT, 65536, "5"),
+    hello(CLIENT, 771, "5", random=31),
+    hello(CLIENT, 771, "5", session=33),
+    hello(CLIENT, 771, "5", suites=3),
+    hello(CLIENT, 771, "5", methods=0),
+    hello(CLIENT, 771, "5", methods=256),
+    hello(CLIENT, 771, "5", suites=16342),
+    hello(CLIENT, 771, "wrote 16383", suites=16340),
+    hello(CLIENT, 771, "5", block=TWICE),
+    hello(CLIENT, 771, "5", block=EMPTY_TICKET),
+    hello(CLIENT, 771, "1", room=44),
+    hello(CLIENT, 771, "wrote 45", room=45),
+    hello(SERVER, 65536, "5"),
+    hello(SERVER, 174, "5", block=TWICE),
+    hello(SERVER, 174, "1", room=41),
+    hello(SERVER, 174, "wrote 48", block=EMPTY_TICKET),
+]
+
+
+def writer_call(kind, version, present, room, fields, said):
+    return bytes((kind,)) + number(version) + bytes((present,)) + number(room, 2) + b"".join(map(field, fields))
+
+
+def writer_line(kind, version, present, room, fields, said):
+    """How much was written or the refusal, and how far the output has changed: all that was written, or nothing."""
+    n = said.removeprefix("wrote ")
+    return f" {n} {n if n != said else 0}"
 
 
 def main():
     if sys.argv[1] == "stdin":
         for m in inputs():
-            sys.stdout.buffer.write(len(m).to_bytes(2, "big") + m)
+            sys.stdout.buffer.write(b"\x01" + field(literal(m)))
+        for w in WRITERS:
+            sys.stdout.buffer.write(writer_call(*w))
     else:
         for m in inputs():
             print(line(m))
-        print(WRITERS, end="")
+        for w in WRITERS:
+            print(writer_line(*w))
 
 
 main()

@@ -1,7 +1,13 @@
 #!/usr/bin/env python3
-"""What the program table_vectors must print, from Python's UTF-8 decoder and regular expressions."""
+"""The input of the program table_vectors, and what it must print, from Python's UTF-8 decoder and regular expressions.
+
+  table_vectors.py stdin    document 01's V9 to V11, and good and damaged texts and tables
+  table_vectors.py stdout   what the key table's functions say of them
+"""
 import re
 import sys
+
+from calls import field, literal, series, shown
 
 LINE = re.compile(rb"([^\x00-\x1f\x7f:]{1,128}):((?:[0-9A-Fa-f]{2}){1,64})\n")
 
@@ -38,19 +44,24 @@ def key(table, identity):
     return None
 
 
-def say(text):
-    sys.stdout.buffer.write(text.encode("ascii") + b"\n")
+def call(kind, room, first, second=b""):
+    global calls
+    calls += bytes((kind, room)) + field(first) + field(second)
 
 
 def print_text(text):
-    say(text.hex() + (" UTF-8" if utf8(text) else " bad"))
+    call(1, 0, literal(text))
+    lines.append(text.hex() + (" UTF-8" if utf8(text) else " bad"))
 
 
 def print_table(name, table):
-    say(name + (": well formed" if well_formed(table) else ": R2"))
+    """The table is given in pieces."""
+    call(2, 0, literal(name.encode("ascii")), table)
+    lines.append(name + (": well formed" if well_formed(shown(table)) else ": R2"))
 
 
 def print_room(table, identity, room):
+    call(3, room, literal(identity), literal(table))
     found = key(table, identity)
     if found is None:
         said = "115"
@@ -58,7 +69,7 @@ def print_room(table, identity, room):
         said = "R1"
     else:
         said = found.hex()
-    say(identity.hex() + " " + said)
+    lines.append(identity.hex() + " " + said)
 
 
 def print_key(table, identity):
@@ -66,13 +77,14 @@ def print_key(table, identity):
 
 
 def sized(number, identity, digits):
-    return (b"%03d" % number).ljust(identity, b"x") + b":" + b"a" * digits + b"\n"
+    """A line in pieces, with an identity and a key of these sizes."""
+    return literal(b"%03d" % number) + series(ord("x"), 0, identity - 3) + literal(b":") + series(ord("a"), 0, digits) + literal(b"\n")
 
 
 def print_sizes(name, count, identity, digits, number, last_identity, last_digits):
-    lines = [sized(i, identity, digits) for i in range(count)]
-    lines.append(sized(number, last_identity, last_digits))
-    print_table(name, b"".join(lines))
+    pieces = [sized(i, identity, digits) for i in range(count)]
+    pieces.append(sized(number, last_identity, last_digits))
+    print_table(name, b"".join(pieces))
 
 
 TEXTS = [
@@ -151,10 +163,11 @@ SIZES = [
     ("the last as another", 255, 128, 126, 254, 128, 126),
 ]
 
+calls, lines = b"", []
 for text in TEXTS:
     print_text(bytes.fromhex(text))
 for name, table in TABLES:
-    print_table(name, table)
+    print_table(name, literal(table))
 for sizes in SIZES:
     print_sizes(*sizes)
 
@@ -176,3 +189,8 @@ for table, identity in [
     (b"", b"a"),
 ]:
     print_key(table, identity)
+
+if sys.argv[1] == "stdin":
+    sys.stdout.buffer.write(calls)
+else:
+    print("\n".join(lines))

@@ -7,9 +7,6 @@
 // with its length in one byte); 2 the table from now on (length in three bytes); 3 a message (room of
 // the output in one byte, length in three bytes); 4 a change of cipher; 5 an alert (level,
 // description); 6 the key block under the last master secret (suite, server random, client random).
-use libc::STDIN_FILENO;
-use libc::STDOUT_FILENO;
-use refusal::Refusal;
 use refusal::Written;
 use server::Answer;
 use server::Connection;
@@ -22,77 +19,29 @@ struct Kept {
     master: [u8; 48],
 }
 
-fn print_byte(byte: u8) {
-    io::print_hex(STDOUT_FILENO, byte as u64, 2);
-}
-
 fn print_bytes(bytes: &[u8]) {
-    io::write_all(STDOUT_FILENO, b" ");
-    let mut i: usize = 0;
-    while i < bytes.len() {
-        print_byte(bytes[i]);
-        i += 1;
-    }
+    lines::text(b" ");
+    lines::hex(bytes);
 }
 
 // How many bytes were written, the alert, or the R number.
 fn print_said(said: Written) {
     match said {
         Written::Wrote(n) => {
-            io::write_all(STDOUT_FILENO, b"wrote ");
-            io::print_decimal(STDOUT_FILENO, n as u64);
+            lines::text(b"wrote ");
+            lines::number(n);
         }
         Written::Refused(r) => {
             if refusal::for_client(r) {
-                io::write_all(STDOUT_FILENO, b"alert ");
-            } else {
-                io::write_all(STDOUT_FILENO, b"R");
+                lines::text(b"alert ");
             }
-            io::print_decimal(STDOUT_FILENO, refusal::number(r) as u64);
+            lines::refused(r);
         }
     }
 }
 
 fn end_line() {
-    io::write_all(STDOUT_FILENO, b"\n");
-}
-
-// The next byte of the input; 0 at its end, which is no call.
-fn next_byte() -> u8 {
-    let mut byte = [0u8; 1];
-    io::read_full(STDIN_FILENO, &mut byte);
-    byte[0]
-}
-
-fn next_length() -> usize {
-    let high = next_byte();
-    let middle = next_byte();
-    let low = next_byte();
-    endian::number24(high, middle, low)
-}
-
-fn next_number() -> u16 {
-    let high = next_byte();
-    let low = next_byte();
-    (high as u16) * 256 + low as u16
-}
-
-// The front of the buffer, or all of it where it is shorter.
-fn front(buffer: &[u8], n: usize) -> &[u8] {
-    if n <= buffer.len() {
-        &buffer[..n]
-    } else {
-        buffer
-    }
-}
-
-// Reads the next n bytes of the input to the front of the buffer, or fewer where it is shorter.
-fn fill(buffer: &mut [u8], n: usize) {
-    if n <= buffer.len() {
-        io::read_full(STDIN_FILENO, &mut buffer[..n]);
-    } else {
-        io::read_full(STDIN_FILENO, buffer);
-    }
+    lines::text(b"\n");
 }
 
 fn named(byte: u8) -> Named {
@@ -116,23 +65,23 @@ fn answered(kept: Kept, answer: Answer) -> Kept {
 }
 
 fn start(kept: Kept) -> Kept {
-    let rule = named(next_byte());
+    let rule = named(lines::byte());
     let mut random = [0u8; 255];
     let mut hint = [0u8; 255];
     let mut stand_in = [0u8; 255];
-    let random_length = next_byte() as usize;
-    fill(&mut random, random_length);
-    let hint_length = next_byte() as usize;
-    fill(&mut hint, hint_length);
-    let key_length = next_byte() as usize;
-    fill(&mut stand_in, key_length);
+    let random_length = lines::byte() as usize;
+    lines::fill(&mut random, random_length);
+    let hint_length = lines::byte() as usize;
+    lines::fill(&mut hint, hint_length);
+    let key_length = lines::byte() as usize;
+    lines::fill(&mut stand_in, key_length);
     let answer = server::start(
-        front(&random, random_length),
-        front(&hint, hint_length),
-        front(&stand_in, key_length),
+        lines::part(&random, 0, random_length),
+        lines::part(&hint, 0, hint_length),
+        lines::part(&stand_in, 0, key_length),
         rule,
     );
-    io::write_all(STDOUT_FILENO, b"start ");
+    lines::text(b"start ");
     answered(kept, answer)
 }
 
@@ -143,7 +92,7 @@ fn replied(kept: Kept, reply: Reply) -> Kept {
     if reply.handed {
         let handed = reply.master;
         master = handed;
-        io::write_all(STDOUT_FILENO, b" master");
+        lines::text(b" master");
         print_bytes(&handed);
     }
     end_line();
@@ -155,7 +104,7 @@ fn deliver(kept: Kept, table: &[u8], bytes: &[u8], out: &mut [u8]) -> Kept {
     let connection = kept.connection;
     let reply = server::message(connection, table, bytes, out);
     let said = reply.said;
-    io::write_all(STDOUT_FILENO, b"message ");
+    lines::text(b"message ");
     print_said(said);
     print_bytes(out);
     replied(kept, reply)
@@ -164,38 +113,43 @@ fn deliver(kept: Kept, table: &[u8], bytes: &[u8], out: &mut [u8]) -> Kept {
 fn message(kept: Kept, table: &[u8]) -> Kept {
     let mut bytes = [0u8; 16400];
     let mut lent = [0xeeu8; 255];
-    let room = next_byte() as usize;
-    let size = next_length();
-    fill(&mut bytes, size);
-    deliver(kept, table, front(&bytes, size), &mut lent[255 - room..])
+    let room = lines::byte() as usize;
+    let size = lines::number24();
+    lines::fill(&mut bytes, size);
+    deliver(
+        kept,
+        table,
+        lines::part(&bytes, 0, size),
+        &mut lent[255 - room..],
+    )
 }
 
 fn change(kept: Kept) -> Kept {
     let connection = kept.connection;
     let answer = server::change_of_cipher(connection);
-    io::write_all(STDOUT_FILENO, b"change ");
+    lines::text(b"change ");
     answered(kept, answer)
 }
 
 fn alert(kept: Kept) -> Kept {
-    let level = next_byte();
-    let description = next_byte();
+    let level = lines::byte();
+    let description = lines::byte();
     let connection = kept.connection;
     let answer = server::alert(connection, level, description);
-    io::write_all(STDOUT_FILENO, b"alert ");
+    lines::text(b"alert ");
     answered(kept, answer)
 }
 
 fn key_block(kept: Kept) -> Kept {
-    let suite = next_number();
+    let suite = lines::number16() as u16;
     let mut server = [0u8; 32];
     let mut client = [0u8; 32];
-    io::read_full(STDIN_FILENO, &mut server);
-    io::read_full(STDIN_FILENO, &mut client);
+    lines::fill(&mut server, 32);
+    lines::fill(&mut client, 32);
     let mut block = [0u8; 96];
     let master = kept.master;
     let said = keys::key_block(&master, &server, &client, suite, &mut block);
-    io::write_all(STDOUT_FILENO, b"keys ");
+    lines::text(b"keys ");
     print_said(said);
     print_bytes(&block);
     end_line();
@@ -236,9 +190,8 @@ fn next_table(call: u8, table: &mut [u8], size: usize) -> usize {
     if call != 2 {
         return size;
     }
-    let n = next_length();
-    fill(table, n);
-    n
+    let n = lines::number24();
+    lines::fill(table, n)
 }
 
 fn main() {
@@ -247,13 +200,13 @@ fn main() {
     let mut kept = nothing();
     let mut calls: usize = 0;
     while calls < 65536 {
-        let call = next_byte();
+        let call = lines::byte();
         if call == 0 {
             break;
         }
         let n = next_table(call, &mut table, size);
         size = n;
-        let next = once(call, kept, front(&table, size));
+        let next = once(call, kept, lines::part(&table, 0, size));
         kept = next;
         calls += 1;
     }

@@ -1,35 +1,20 @@
-// Prints SHA-256 digests of FIPS 180's example messages and of messages whose lengths lie about the
-// ends of a block, each absorbed whole and in uneven parts. tests/hash_vectors.py prints the same
+// Reads messages from standard input and prints their SHA-256 digests: each absorbed whole and in uneven
+// parts, or one part absorbed many times. tests/hash_vectors.py makes the input and prints the same
 // lines from another implementation.
-use libc::STDOUT_FILENO;
 use sha256::Sha256;
-ghost use Prim.Native.Nat.{_<_, _≤_};
-
-fn print_byte(byte: u8) {
-    io::print_hex(STDOUT_FILENO, byte as u64, 2);
-}
 
 // A line: the message's length, how it was absorbed, and the digest.
-fn print_line(length: usize, how: &[u8], digest: &[u8; 32]) {
-    io::print_decimal(STDOUT_FILENO, length as u64);
-    io::write_all(STDOUT_FILENO, how);
-    let mut i: usize = 0;
-    while i < 32 {
-        print_byte(digest[i]);
-        i += 1;
-    }
-    io::write_all(STDOUT_FILENO, b"\n");
-}
-
-// The message's digest in one call.
-fn print_whole(message: &[u8]) {
+fn print_line(length: usize, how: &[u8], hash: Sha256) {
     let mut digest = [0u8; 32];
-    sha256::hash(message, &mut digest);
-    print_line(message.len(), b" whole ", &digest);
+    hash.finish(&mut digest);
+    lines::number(length);
+    lines::text(how);
+    lines::hex(&digest);
+    lines::text(b"\n");
 }
 
-// The message's digest when it comes in parts of one byte, two bytes, three bytes, and so on.
-fn print_parts(message: &[u8]) {
+// The message in parts of one byte, two bytes, three bytes, and so on.
+fn in_parts(message: &[u8]) -> Sha256 {
     let mut hash = Sha256::new();
     let mut at: usize = 0;
     let mut size: usize = 1;
@@ -38,63 +23,45 @@ fn print_parts(message: &[u8]) {
         at += size;
         size += 1;
     }
-    let mut digest = [0u8; 32];
-    hash.update(&message[at..]).finish(&mut digest);
-    print_line(message.len(), b" in parts ", &digest);
+    hash.update(&message[at..])
 }
 
-fn print_both(message: &[u8]) {
-    print_whole(message);
-    print_parts(message);
-}
-
-// The digest of a million times the letter a, absorbed in `times` parts.
-fn print_million(part: &[u8], times: usize) {
+// So many times the same part.
+fn in_equal_parts(part: &[u8], times: usize) {
     let mut hash = Sha256::new();
+    let mut length: usize = 0;
     let mut i: usize = 0;
     while i < times {
         hash = hash.update(part);
+        length = std::num::wrapping_add_usize(length, part.len());
         i += 1;
     }
-    let mut digest = [0u8; 32];
-    hash.finish(&mut digest);
-    print_line(1000000, b" in equal parts ", &digest);
+    print_line(length, b" in equal parts ", hash);
 }
 
-// A message of n bytes, the byte at place i being 7 i + 3 modulo 256.
-fn print_pattern(n: usize)
-    requires { ⌜ n ≤ 128 ⌝ }
-{
-    let mut message = [0u8; 128];
-    let mut i: usize = 0;
-    while i < 128 {
-        message[i] = ((7 * i + 3) % 256) as u8;
-        i += 1;
+fn print_both(message: &[u8]) {
+    print_line(message.len(), b" whole ", Sha256::new().update(message));
+    print_line(message.len(), b" in parts ", in_parts(message));
+}
+
+// A call of the input, and whether there was one: 1 and a message, or 2, a part and how often it comes.
+fn call() -> bool {
+    let kind = lines::byte();
+    let mut buffer = [0u8; 1024];
+    let n = lines::field(&mut buffer);
+    if kind == 1 {
+        print_both(lines::part(&buffer, 0, n));
     }
-    print_both(&message[..n]);
+    if kind == 2 {
+        in_equal_parts(lines::part(&buffer, 0, n), lines::number24());
+    }
+    kind != 0
 }
 
-fn print_patterns() {
-    print_pattern(55);
-    print_pattern(56);
-    print_pattern(57);
-    print_pattern(63);
-    print_pattern(64);
-    print_pattern(65);
-    print_pattern(119);
-    print_pattern(120);
-    print_pattern(127);
-    print_pattern(128);
-}
-
+// Nothing says that input ends, so the calls are counted, from a number that no input has.
 fn main() {
-    print_both(b"");
-    print_both(b"abc");
-    print_both(b"abcdbcdecdefdefgefghfghighijhijkijkljklmklmnlmnomnopnopq");
-    print_both(
-        b"abcdefghbcdefghicdefghijdefghijkefghijklfghijklmghijklmnhijklmnoijklmnopjklmnopqklmnopqrlmnopqrsmnopqrstnopqrstu",
-    );
-    print_million(&[97u8; 1000], 1000);
-    print_million(&[97u8; 64], 15625);
-    print_patterns();
+    let mut left: u32 = 1000000;
+    while 0 < left && call() {
+        left -= 1;
+    }
 }

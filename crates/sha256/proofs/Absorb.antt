@@ -10,8 +10,9 @@ use lib.ListN.{length, take, drop, set, length-set, length-drop, take-append-dro
 use lib.Seq.{take-suc-set, drop-set-lt, set-split, length-take-le}
 use borrow.Author.Tests.{le-leb, lt-leb, eq-eqb, ne-eqb}
 use Rattle.sha256.specs.declared.Sha256.{Sha256}
-use Rattle.sha256.specs.Message.{blocks, parse}
-use Rattle.sha256.specs.Hash.{compress, hashBlocks, limit}
+use Rattle.sha256_block.specs.Block.{compress}
+use Rattle.sha256_block.specs.Blocks.{blocks, parse, hashBlocks}
+use Rattle.sha256.specs.Hash.{limit}
 use Rattle.sha256.specs.State.{absorb, absorbByte, over, clear}
 
 -- absorbing in parts is absorbing the whole
@@ -82,7 +83,16 @@ absorb-held s (x ∷ xs) h k l =
     let held : (s .count + 1) % 64 ≡ suc at = omega arith in
     let total : s .count + 1 + length xs ≡ s .count + suc (length xs) = omega arith in
     let past : suc at + length xs ≡ at + suc (length xs) = omega arith in
-    rw (byte-held s x (omega arith) (omega arith), absorb-held next xs (omega arith) (omega arith) (length-set (s .block) at x ∙ l), held, total, past, take-suc-set (s .block) at x (omega arith), drop-set-lt (at + suc (length xs)) (s .block) at x (omega arith), append-assoc (take at (s .block)) (x ∷ []) (xs ++ drop (at + suc (length xs)) (s .block)))
+    rw (
+      byte-held s x (omega arith) (omega arith),
+      absorb-held next xs (omega arith) (omega arith) (length-set (s .block) at x ∙ l),
+      held,
+      total,
+      past,
+      take-suc-set (s .block) at x (omega arith),
+      drop-set-lt (at + suc (length xs)) (s .block) at x (omega arith),
+      append-assoc (take at (s .block)) (x ∷ []) (xs ++ drop (at + suc (length xs)) (s .block)),
+    )
 
 -- ---- a part that completes the block
 
@@ -102,7 +112,14 @@ completes-first s x xs h k l then =
     let next : Sha256 = record { words = s .words; block = set (s .block) at x; count = s .count + 1 } in
     let held : (s .count + 1) % 64 ≡ suc at = omega arith in
     let total : s .count + 1 + length xs ≡ s .count + suc (length xs) = omega arith in
-    rw (byte-held s x h k, then next refl (length-set (s .block) at x ∙ l), held, total, take-suc-set (s .block) at x (omega arith), append-assoc (take at (s .block)) (x ∷ []) xs)
+    rw (
+      byte-held s x h k,
+      then next refl (length-set (s .block) at x ∙ l),
+      held,
+      total,
+      take-suc-set (s .block) at x (omega arith),
+      append-assoc (take at (s .block)) (x ∷ []) xs,
+    )
 
 pub absorb-completes : (s : Sha256) (xs : List ℕ) → s .count + length xs ≤ limit → s .count % 64 + length xs ≡ 64 → length (s .block) ≡ 64
     → absorb s xs ≡ completed s xs
@@ -136,14 +153,16 @@ first-block : (s : Sha256) (xs : List ℕ) → s .count + 64 ≤ limit → s .co
 unfolding completed
 first-block s xs h k e l = rw (absorb-completes s xs (omega arith) (omega arith) l, k, e)
 
-blocks-first : (n : ℕ) (s next : Sha256) (xs : List ℕ) → next ≡ record { words = compress (s .words) (take 64 xs); block = clear; count = s .count + 64 }
+blocks-first : (n : ℕ) (s next : Sha256) (xs : List ℕ)
+    → next ≡ record { words = compress (s .words) (take 64 xs); block = clear; count = s .count + 64 }
     → 64 ≤ length xs → absorb next (drop 64 xs) ≡ advanced next n (drop 64 xs) → absorb next (drop 64 xs) ≡ advanced s (suc n) xs
 unfolding advanced blocks hashBlocks
 blocks-first n s next xs e h then =
     let total : s .count + 64 + (length xs - 64) ≡ s .count + length xs = omega arith in
     then ∙ rw (e, kept-clear n, length-drop 64 xs, total)
 
-pub absorb-blocks : (n : ℕ) (s : Sha256) (xs : List ℕ) → s .count + length xs ≤ limit → s .count % 64 ≡ 0 → length xs ≡ 64 * n → length (s .block) ≡ 64
+pub absorb-blocks : (n : ℕ) (s : Sha256) (xs : List ℕ)
+    → s .count + length xs ≤ limit → s .count % 64 ≡ 0 → length xs ≡ 64 * n → length (s .block) ≡ 64
     → absorb s xs ≡ advanced s n xs
 unfolding absorb
 absorb-blocks zero s [] h k e l = advanced-none s

@@ -9,13 +9,14 @@ use lib.ListN.{length, take, length-set, length-append}
 use lib.Seq.{take-suc-set, length-take-le}
 use borrow.Author.Tests.{le-leb, lt-leb}
 use Rattle.refusal.specs.Lent.{gives}
-use Rattle.sha256.specs.declared.Words.{Words}
+use Rattle.sha256_block.specs.declared.Words.{Words}
+use Rattle.sha256_block.specs.Blocks.{parse, hashBlocks}
+use Rattle.sha256_block.proofs.Parse.{parse-block}
 use Rattle.sha256.specs.declared.Sha256.{Sha256}
-use Rattle.sha256.specs.Message.{pad, padding, parse}
-use Rattle.sha256.specs.Hash.{hashBlocks, concatenated, limit, digest, sha256}
+use Rattle.sha256.specs.Message.{pad, padding}
+use Rattle.sha256.specs.Hash.{concatenated, limit, digest, sha256}
 use Rattle.sha256.specs.State.{absorb, absorbByte, over, fresh, finished}
 use Rattle.sha256.proofs.Absorb.{byte-held, byte-completes, byte-count, absorb-count, absorb-past}
-use Rattle.sha256.proofs.Parse.{parse-block}
 
 -- the hash value when `rest` has come after what was absorbed
 unfoldable pending : Sha256 → List ℕ → Words

@@ -1,5 +1,3 @@
-pub mod Functions
-pub mod Constants
 pub mod Message
 pub mod Hash
 pub mod State

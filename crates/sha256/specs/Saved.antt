@@ -2,14 +2,10 @@
 -- proofs/Saving.antt has the law that what was saved is restored.
 use Prim.Native.Nat.{ℕ}
 use mathlib.Core.List.{List, _++_}
-use lib.ListN.{take, drop}
+use Rattle.lists.specs.Lists.{part}
 use Rattle.endian.specs.Number.{be, number}
 use Rattle.sha256.specs.declared.Sha256.{Sha256}
 use Rattle.sha256.specs.Hash.{concatenated}
-
--- the n bytes that stand at a place
-abbrev pub part : ℕ → ℕ → List ℕ → List ℕ
-part at n bytes = take n (drop at bytes)
 
 -- the words a to h, 4 bytes each, the block's 64, and the count in 8
 unfoldable pub saved : Sha256 → List ℕ

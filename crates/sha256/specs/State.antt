@@ -9,8 +9,10 @@ use lib.Dec.{leb, eqb}
 use Rattle.refusal.specs.Lent.{Outcome, gives, refuses}
 use Rattle.refusal.specs.declared.Refusal.the-variants.{BadValue}
 use Rattle.sha256.specs.declared.Sha256.{Sha256}
-use Rattle.sha256.specs.Message.{padding, parse}
-use Rattle.sha256.specs.Hash.{H⁰, compress, hashBlocks, concatenated, limit}
+use Rattle.sha256_block.specs.Block.{compress}
+use Rattle.sha256_block.specs.Blocks.{parse, hashBlocks}
+use Rattle.sha256.specs.Message.{padding}
+use Rattle.sha256.specs.Hash.{H⁰, concatenated, limit}
 
 abbrev pub clear : List ℕ
 clear = replicate 64 0

@@ -1,35 +1,24 @@
 // SHA-256 (FIPS 180-4): a state that absorbs a message in any parts, and the digest of a whole
-// message. Nothing above this crate sees how a block is computed.
+// message. The computation on blocks is crate sha256_block's.
 //
 // specs/ has FIPS 180-4 section by section, and State.antt has what the state means.
 // proofs/Finish.antt has the theorem that joins the two.
-mod block;
 pub mod saved;
 
-use block::next_value;
 use refusal::Refusal;
 use refusal::Written;
+use sha256_block::Words;
+use sha256_block::all_blocks;
 ghost use mathlib.Core.Path.{_≡_};
 ghost use mathlib.Core.List.{_∷_, _++_};
 ghost use Prim.Native.Nat.{_+_, _-_, _*_, _%_, _≤_, _<_};
 ghost use lib.ListN.{length, take, drop, replicate};
 ghost use Rattle.endian.specs.Number.{be};
 ghost use Rattle.refusal.specs.Lent.{Answers};
-ghost use Rattle.sha256.specs.Message.{padding, parse};
-ghost use Rattle.sha256.specs.Hash.{limit, sha256, hashBlocks, concatenated};
+ghost use Rattle.sha256_block.specs.Blocks.{parse, hashBlocks};
+ghost use Rattle.sha256.specs.Message.{padding};
+ghost use Rattle.sha256.specs.Hash.{limit, sha256, concatenated};
 ghost use Rattle.sha256.specs.State.{fresh, over, absorb, finished};
-
-// Eight 32-bit words: the hash value H0 to H7, and the working variables a to h.
-pub struct Words {
-    a: u32,
-    b: u32,
-    c: u32,
-    d: u32,
-    e: u32,
-    f: u32,
-    g: u32,
-    h: u32,
-}
 
 // A hash under way. specs/State.antt says what each field means.
 pub struct Sha256 {
@@ -123,7 +112,7 @@ impl Sha256 {
     {
         let count = self.count + data.len() as u64;
         let block = self.filled(data);
-        let words = next_value(self.words, &block);
+        let words = all_blocks(self.words, &block);
         Sha256 {
             words,
             block: [0u8; 64],
@@ -199,11 +188,11 @@ impl Sha256 {
         let block = marked(kept, held);
         if held < 56 {
             let last = with_length(block, self.count);
-            return next_value(words, &last);
+            return all_blocks(words, &last);
         }
-        let next = next_value(words, &block);
+        let next = all_blocks(words, &block);
         let last = with_length([0u8; 64], self.count);
-        next_value(next, &last)
+        all_blocks(next, &last)
     }
 
     // The digest of what was absorbed at the front of the lent output: R5 where that was more than
@@ -272,17 +261,4 @@ fn concatenation(h: Words) -> [u8; 32]
     let f = with_word(e, 20, h.f);
     let g = with_word(f, 24, h.g);
     with_word(g, 28, h.h)
-}
-
-// The hash value after the whole blocks at the front of data.
-fn all_blocks(start: Words, data: &[u8]) -> Words
-    ensures { λ r. ⌜ r ≡ hashBlocks start (parse (now («data» .entry))) ⌝ }
-{
-    let mut h = start;
-    let mut at = 0;
-    while 64 <= data.len() - at {
-        h = next_value(h, &data[at..at + 64]);
-        at += 64;
-    }
-    h
 }

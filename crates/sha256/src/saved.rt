@@ -5,14 +5,15 @@
 // on the types of the fields (a word is below 2^32), which a caller in another crate does not see:
 // promised here, it holds for every caller.
 use super::Sha256;
-use super::Words;
 use super::concatenation;
+use sha256_block::Words;
 ghost use mathlib.Core.Path.{_≡_};
 ghost use mathlib.Core.List.{_++_};
 ghost use Prim.Native.Nat.{_+_, _≤_};
 ghost use lib.ListN.{length, take};
 ghost use Rattle.endian.specs.Number.{number};
-ghost use Rattle.sha256.specs.Saved.{part, saved, wordAt, restored};
+ghost use Rattle.lists.specs.Lists.{part};
+ghost use Rattle.sha256.specs.Saved.{saved, wordAt, restored};
 
 // The bytes with a part put behind the first `at` of them.
 fn append(bytes: [u8; 104], at: usize, part: &[u8]) -> [u8; 104]

@@ -2,6 +2,7 @@
 -- again; a function above it, with plain parameters, lends it a transcript of its own. A later one of the same kind is a copy of `add` (`&mut`) or
 -- `handshake_hash` (`&`), and of `with_message` or `hash_of` above them, with other names, positions and callee.
 --     hash-value, value     the machine values of a hash, and of the transcript with it.        IsHash    the machine can hold the hash
+--     lent-args, lent-values, own-values, token, tokens     the arguments and values of either kind of function, and the tokens of its lifetimes
 --     opened, closed        a `&mut Transcript` is opened, which gives the cell that it points to, and closed at another hash
 --     looked, shut          a `&Transcript` is looked into, which gives a share of the cell, and shut again
 --     lent, back            a local is lent by `&mut` for a lifetime of one call, and comes back as the call left it
@@ -44,7 +45,7 @@ use denote.Builtin.{u8}
 use denote.Lend.{lends-ref, ref-back, lends-shr}
 use denote.Ref.{RefT, MutRef, ShrRef}
 use denote.Signature.{typesAt}
-use denote.Slice.{finally}
+use denote.Slice.{sliceVal, finally}
 use denote.Steps.{only, opens, closes, looks, shuts, owned, peeks, heard}
 use denote.Struct.Steps.{spelt}
 use denote.Struct.Laws as LL
@@ -71,6 +72,23 @@ of-hash s = record { hash = s }
 abbrev pub at : ℕ → ℕ → GName → Sha256 → RefT Transcript
 at b o γ s = record { ptr = (b, o); name = γ; now = of-hash s }
 
+-- the value of a slice; and the arguments of a function that is lent a transcript and a slice, with their values
+abbrev pub slice-value : RefT (List ℕ) → Val
+slice-value m = sliceVal (m .ptr) (length (m .now))
+
+abbrev pub lent-args : ℕ → ℕ → GName → Sha256 → RefT (List ℕ) → RefT Transcript × (RefT (List ℕ) × Unit {0})
+lent-args b o γ s m = (at b o γ s, (m, tt))
+
+abbrev pub lent-values : ℕ → ℕ → RefT (List ℕ) → List Val × (List Val × Unit {0})
+lent-values b o m = (vptr b o ∷ [], (slice-value m ∷ [], tt))
+
+-- the token of a lifetime that the caller has, and those of a call that a transcript is lent to for the lifetime ν
+abbrev pub token : {M : Type 1} {𝓤 : URA M} → Lft → Share → Item 𝓤
+token κ q = ‵ (flft κ q) ⊛ ‵ ftrue
+
+abbrev pub tokens : {M : Type 1} {𝓤 : URA M} → ℕ → Lft → Share → Item 𝓤
+tokens ν κ q = ‵ (flft (ν ∷ []) fullShare) ⊛ token κ q
+
 -- the transcript as a borrow keeps it, and what a borrow of one holds
 abbrev pub coded : Sha256 → Gv
 coded s = T.the-row .coded .code (of-hash s)
@@ -80,6 +98,10 @@ Held b o γ = Body (mem T.the-row) b o γ
 
 abbrev pub hash-value : Sha256 → Val
 hash-value = LL.val S.the-type S′.the-laws
+
+-- the values of the arguments of a function that takes a hash and is lent a slice
+abbrev pub own-values : Sha256 → RefT (List ℕ) → List Val × (List Val × Unit {0})
+own-values s m = (hash-value s ∷ [], (slice-value m ∷ [], tt))
 
 abbrev value : Sha256 → Val
 value s = vstruct (vcons (hash-value s) vnil)
@@ -109,7 +131,8 @@ module _ {M : Type 1} {𝓤 : URA M} {H : Heap 𝓤} {A : Atoms 𝓤} {K : Type 
   apart : K → (q : Share) (s : Sha256) (vs : List Val) (b o : ℕ) → (IsHash s → Seq K W (‵ (fat q T′.mir b o (value s)) ∷ Γ) G)
       → Seq K W (‵ (cellAt q (T.the-row .mir) vs b o) ∷ ‵ (T.the-row .own (of-hash s) vs) ∷ Γ) G
   apart t q s vs b o k =
-      spelt t T.the-row (Is T.the-row) (shows 𝓤 H A T.the-row) (LL.vals T.the-type T′.the-laws) (LL.tells T.the-type T′.the-laws) q (of-hash s) vs b o $
+      spelt t T.the-row (Is T.the-row) (shows 𝓤 H A T.the-row) (LL.vals T.the-type T′.the-laws) (LL.tells T.the-type T′.the-laws) q
+      (of-hash s) vs b o $
       use1 W (‵ (fat q T′.mir b o (value s))) (W .laws .raw-at q T′.mir b o (value s)) $ move t (1 ∷ []) $
       peeks t T.the-row (Is T.the-row) (shows 𝓤 H A T.the-row) (of-hash s) (value s ∷ []) (λ p. drop t $ k (held s p))
 
@@ -134,9 +157,11 @@ module _ {M : Type 1} {𝓤 : URA M} {H : Heap 𝓤} {A : Atoms 𝓤} {K : Type 
       fpack t (List Val) (λ us. fsep (cellAt fullShare (T.the-row .mir) us b o) (T.the-row .own (of-hash s) us)) (value s ∷ []) $ k)
 
 -- ---- the function that a transcript is lent to
-module _ {M : Type 1} {𝓤 : URA M} {H : Heap 𝓤} {A : Atoms 𝓤} {K : Type 0} {W : Given 𝓤 H A} {Γ : List (Item 𝓤)} {G : Goal 𝓤 H} {κ : Lft} {q : Share} where
+module _ {M : Type 1} {𝓤 : URA M} {H : Heap 𝓤} {A : Atoms 𝓤} {K : Type 0} {W : Given 𝓤 H A} {Γ : List (Item 𝓤)} {G : Goal 𝓤 H} {κ : Lft}
+    {q : Share} where
   pub opened : K → Soaks G → {γ : GName} (s : Sha256) (b o : ℕ)
-      → (IsHash s → Seq K W (‵ (fat fullShare T′.mir b o (value s)) ∷ ‵ (fobor κ q (Held b o γ)) ∷ ‵ (fobs γ (coded s)) ∷ ‵ (fauth γ (coded s)) ∷ Γ) G)
+      → (IsHash s → Seq K W (‵ (fat fullShare T′.mir b o (value s)) ∷ ‵ (fobor κ q (Held b o γ)) ∷ ‵ (fobs γ (coded s)) ∷
+      ‵ (fauth γ (coded s)) ∷ Γ) G)
       → Seq K W (‵ (fobs γ (coded s)) ∷ ‵ (fbor κ (Held b o γ)) ∷ ‵ (flft κ q) ∷ Γ) G
   opened t z s b o k = opens t z T.the-row {h = of-hash s} b o (λ vs. apart t fullShare s vs b o k)
 
@@ -163,7 +188,8 @@ module _ {M : Type 1} {𝓤 : URA M} {H : Heap 𝓤} {A : Atoms 𝓤} {K : Type 
       ∷ ‵ (flft (ν ∷ []) fullShare) ∷ Γ) G)
       → Seq K W (‵ (fat fullShare T′.mir b o (value s)) ∷ Γ) G
   lent t z s p b o k = into t s p b o $ lft-new t z (λ ν. move t (1 ∷ []) $
-      use1 W (later (some (λ (γ : GName). ‵ (MutRef (named 0) (ν ∷ []) T.the-row .own (at b o γ s) (vptr b o ∷ [])) ⊛ ‵ (flent (ν ∷ []) (Held b o γ)))))
+      use1 W (later (some (λ (γ : GName). ‵ (MutRef (named 0) (ν ∷ []) T.the-row .own (at b o γ s) (vptr b o ∷ [])) ⊛
+      ‵ (flent (ν ∷ []) (Held b o γ)))))
       (lends-ref 𝓤 H A W T.the-row (named 0) (ν ∷ []) (of-hash s) b o) $ await t z $ pick t (λ γ. split t $ k ν γ))
 
   pub back : K → Soaks G → {ν : ℕ} {γ : GName} (s : Sha256) (b o : ℕ) → (IsHash s → Seq K W (‵ (fat fullShare T′.mir b o (value s)) ∷ Γ) G)

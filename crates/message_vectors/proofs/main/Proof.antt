@@ -1,17 +1,14 @@
--- `message_vectors::main`: the loop counts the messages; the two buffers keep their length.
+-- `message_vectors::main`: the loop counts the calls.
 -- Assumes nothing.
 use borrow.Author.Needs.{needs}
-use Prim.Native.Nat.{_≤_, _-_}
-use mathlib.Core.Path.{_≡_}
-use lib.ListN.{length}
 use Rattle.message_vectors.proofs.main.Statement.{statement}
 use Rattle.message_vectors.proofs.main.Tie as tie
 
 abbrev Inv-loop : tie.InvT-loop
-Inv-loop message₀ out₀ lines₀ message out lines = (lines ≤ 65536) × (length message ≡ 16400) × (length out ≡ 16400)
+Inv-loop left₀ left = Unit
 
 abbrev μ-loop : tie.MeasureT-loop
-μ-loop message₀ out₀ lines₀ message out lines = 65536 - lines
+μ-loop left₀ left = left
 
 pub main-spec : {M : Type 1} → statement M
 main-spec =
@@ -22,13 +19,7 @@ main-spec =
     (λ c. search needs)
     (λ c κs. search needs)
     (λ c. search needs)
-    (λ c κs. search needs)
-    (λ c. search needs)
-    (λ c κs. search needs)
-    (λ c. search needs)
-    (λ c κs. search needs)
     (λ c. search needs)
     (λ c. search needs)
     (λ c. search needs)
-    (λ c κs. search needs)
     (λ c. search needs))

@@ -37,7 +37,13 @@ returns c =
     let args = c .before .before .before .before .before .before .args in
     let xs = args .«data» .now in
     let room = 64 - args .self .count % 64 in
-    rw (c .straight .ensures, part-to-end xs room, c .before .before .complete .ensures, ← absorb-append (args .self) (take room xs) (drop room xs), take-append-drop room xs)
+    rw (
+      c .straight .ensures,
+      part-to-end xs room,
+      c .before .before .complete .ensures,
+      ← absorb-append (args .self) (take room xs) (drop room xs),
+      take-append-drop room xs,
+    )
 
 pub complete-first-spec : {M : Type 1} → statement M
 complete-first-spec =

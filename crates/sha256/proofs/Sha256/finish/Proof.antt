@@ -21,8 +21,9 @@ unfolding finished
 returns-2 c =
     let at-concatenation = c .before .before .before .before .before in
     let at-padded = at-concatenation .before in
-    let within : at-padded .before .before .before .before .args .self .count ≤ limit = at-padded .before .if1 .left in
-    let given : gives (at-concatenation .concatenation .result) ≡ finished (at-padded .before .before .before .before .args .self) =
+    let s = at-padded .before .before .before .before .args .self in
+    let within : s .count ≤ limit = at-padded .before .if1 .left in
+    let given : gives (at-concatenation .concatenation .result) ≡ finished s =
     rw (le-leb _ _ within, at-concatenation .concatenation .ensures, at-padded .padded .ensures) in
     rw given at (c .before .before .put .ensures)
 

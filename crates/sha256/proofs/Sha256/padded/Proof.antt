@@ -1,11 +1,14 @@
 -- `sha256::Sha256::padded` meets its contract: one block or two, by whether the length has room.
 -- Assumes nothing.
 use mathlib.Core.Path.{_≡_}
-use Prim.Native.Nat.{_%_}
+use Prim.Native.Nat.{_-_, _*_, _%_}
+use mathlib.Core.List.{_∷_, _++_}
 use native.Mathlib.Omega.{arith}
-use lib.ListN.{length, take}
+use lib.ListN.{length, take, replicate}
 use lib.Seq.{length-take-le}
-use Rattle.sha256.proofs.Padding.{padded-one, padded-two}
+use Rattle.endian.specs.Number.{be}
+use Rattle.sha256_block.proofs.Parse.{hash-first}
+use Rattle.sha256.proofs.Padding.{length-marked, padding-one, padding-two}
 use borrow.Author.Needs.{needs}
 use Rattle.sha256.proofs.Sha256.padded.Statement.{statement}
 use Rattle.sha256.proofs.Sha256.padded.Tie as tie
@@ -20,7 +23,13 @@ returns c =
     let at-marked = c .before .before .before .before in
     let start = at-marked .before .before .before .before in
     let s = start .args .self in
-    rw (c .next-value .ensures, c .before .before .with-length .ensures, at-marked .marked .ensures, padded-one (s .words) (take (s .count % 64) (s .block)) (s .count) (held start) (omega arith))
+    let front = take (s .count % 64) (s .block) in
+    rw (
+      c .all-blocks .ensures,
+      c .before .before .with-length .ensures,
+      at-marked .marked .ensures,
+      padding-one front (s .count) (held start) (omega arith),
+    )
 
 returns-2 : tie.Need-returns-2
 returns-2 c =
@@ -29,7 +38,18 @@ returns-2 c =
     let at-marked = at-first .before .before .before in
     let start = at-marked .before .before .before .before in
     let s = start .args .self in
-    rw (c .next-value3 .ensures, at-second .with-length2 .ensures, at-first .next-value2 .ensures, at-marked .marked .ensures, padded-two (s .words) (take (s .count % 64) (s .block)) (s .count) (held start) (omega arith))
+    let front = take (s .count % 64) (s .block) in
+    let first = front ++ (0x80 ∷ replicate (63 - s .count % 64) 0) in
+    let size : length first ≡ 64 = rw (length-marked front (63 - s .count % 64), held start) (omega arith) in
+    let second = take 56 (replicate 64 0) ++ be 8 (8 * s .count) in
+    rw (
+      c .all-blocks3 .ensures,
+      at-second .with-length2 .ensures,
+      at-first .all-blocks2 .ensures,
+      at-marked .marked .ensures,
+      padding-two front (s .count) (held start) (omega arith),
+      hash-first (s .words) first second size,
+    )
 
 pub padded-spec : {M : Type 1} → statement M
 padded-spec =

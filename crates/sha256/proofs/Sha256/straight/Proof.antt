@@ -21,7 +21,12 @@ returns-2 c =
     let xs = start .args .«data» .now in
     let n = length xs - length xs % 64 in
     let size : length (s .block) ≡ 64 = search (needs, start .good) in
-    rw (c .hold2 .ensures, part-to-end xs n, c .before .before .before .all-blocks .ensures, absorb-straight s xs n (start .pre .0) (start .pre .1) size (omega arith) (omega arith) (omega arith))
+    rw (
+      c .hold2 .ensures,
+      part-to-end xs n,
+      c .before .before .before .all-blocks .ensures,
+      absorb-straight s xs n (start .pre .0) (start .pre .1) size (omega arith) (omega arith) (omega arith),
+    )
 
 pub straight-spec : {M : Type 1} → statement M
 straight-spec =

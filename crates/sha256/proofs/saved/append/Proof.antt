@@ -11,8 +11,10 @@ use Rattle.sha256.proofs.saved.append.Tie as tie
 returns : tie.Need-returns
 returns c =
     let start = c .before .before .before .before in
-    let size : length (start .args .bytes) ≡ 104 = search (needs, start .good) in
-    copied-behind (start .args .bytes) (start .args .part .now) (c .before .copy .last .1 .0) (start .args .at) (omega arith) (c .before .copy .ensures .1)
+    let args = start .args in
+    let copy = c .before .copy in
+    let size : length (args .bytes) ≡ 104 = search (needs, start .good) in
+    copied-behind (args .bytes) (args .part .now) (copy .last .1 .0) (args .at) (omega arith) (copy .ensures .1)
 
 pub append-spec : {M : Type 1} → statement M
 append-spec =

@@ -3,7 +3,7 @@
 use mathlib.Core.Path.{_≡_, refl}
 use native.Mathlib.Omega.{arith}
 use lib.ListN.{length}
-use Rattle.sha256.proofs.Saving.{copied-part}
+use Rattle.lists.proofs.Copies.{copied-part}
 use borrow.Author.Needs.{needs}
 use Rattle.sha256.proofs.saved.block.Statement.{statement}
 use Rattle.sha256.proofs.saved.block.Tie as tie

@@ -1,9 +1,9 @@
--- `sha256::saved::count` meets its contract: two words, by `number-eight`.
+-- `sha256::saved::count` meets its contract: two words, by `count-there`.
 -- Assumes nothing.
 use mathlib.Core.Path.{_≡_}
 use native.Mathlib.Omega.{arith}
 use lib.ListN.{length}
-use Rattle.sha256.proofs.Saving.{number-eight}
+use Rattle.sha256.proofs.Saving.{count-there}
 use borrow.Author.Needs.{needs}
 use Rattle.sha256.proofs.saved.count.Statement.{statement}
 use Rattle.sha256.proofs.saved.count.Tie as tie
@@ -12,7 +12,7 @@ returns : tie.Need-returns
 returns c =
     let start = c .before .before in
     let size : length (start .args .bytes) ≡ 104 = search (needs, start .good) in
-    omega (arith, number-eight (start .args .bytes) 96 (omega arith))
+    omega (arith, count-there (start .args .bytes) size)
 
 pub count-spec : {M : Type 1} → statement M
 count-spec =

@@ -6,7 +6,8 @@ use lib.ListN.{length, replicate}
 use lib.Seq.{take-all}
 use Rattle.sha256.specs.Hash.{concatenated}
 use Rattle.sha256.specs.Saved.{saved, restored}
-use Rattle.sha256.proofs.Saving.{behind, Fits, restored-saved}
+use Rattle.lists.proofs.Copies.{behind}
+use Rattle.sha256.proofs.Saving.{Fits, restored-saved}
 use borrow.Author.Needs.{needs}
 use Rattle.sha256.proofs.saved.save.Statement.{statement}
 use Rattle.sha256.proofs.saved.save.Tie as tie
@@ -42,10 +43,13 @@ returns c =
     let r = c .append3 .result in
     let size : length r ≡ 104 = search (needs, c .append3 .ok) in
     let words = at-words .concatenation in
-    let front = behind (replicate 104 0) (words .result) (at-front .append .result) 0 32 (at-front .append .ensures) refl (words .ensures) refl in
-    let held = behind (at-front .append .result) (state .block) (at-held .append2 .result) 32 64 (at-held .append2 .ensures) front refl (fits start .size) in
+    let first = at-front .append in
+    let second = at-held .append2 in
+    let third = c .append3 in
     let count = at-count .bytes64 in
-    let all = behind (at-held .append2 .result) (count .result) r 96 8 (c .append3 .ensures) held (count .ensures) refl in
+    let front = behind (replicate 104 0) (words .result) (first .result) 0 32 (first .ensures) refl (words .ensures) refl in
+    let held = behind (first .result) (state .block) (second .result) 32 64 (second .ensures) front refl (fits start .size) in
+    let all = behind (second .result) (count .result) r 96 8 (third .ensures) held (count .ensures) refl in
     let whole : r ≡ saved state = sym (take-all 104 r (omega arith)) ∙ all in
     (whole, ap restored whole ∙ restored-saved state (fits start))
 

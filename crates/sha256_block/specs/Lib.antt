@@ -1,0 +1,4 @@
+pub mod Functions
+pub mod Constants
+pub mod Block
+pub mod Blocks
