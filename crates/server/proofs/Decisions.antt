@@ -1,7 +1,8 @@
 -- What a decision means, and what a call makes of it.
 -- Assumes nothing.
 use mathlib.Core.Path.{_≡_, refl}
-use Prim.Native.Nat.{ℕ}
+use Prim.Native.Nat.{ℕ, _≤_}
+use native.Mathlib.Omega.{arith}
 use mathlib.Core.List.{List, []}
 use lib.ListN.{length}
 use borrow.Author.Tests.{le-leb, lt-leb}
@@ -13,7 +14,7 @@ use Rattle.refusal.proofs.Laws.{wrote-all, refused-short}
 use Rattle.server.specs.declared.Connection.{Connection}
 use Rattle.server.specs.declared.Answer.{Answer}
 use Rattle.server.specs.declared.step.Decision.{Decision}
-use Rattle.server.specs.Flight.{Flight, flightBytes}
+use Rattle.server.specs.Flight.{Flight, flightBytes, longest}
 use Rattle.server.specs.Step.{Step, refuse, accept, settled, answered}
 use Rattle.server.specs.Inner.{Decides, Does}
 
@@ -26,13 +27,14 @@ same-does e h = rw e h
 
 -- a refusal writes nothing
 pub refused-does : (c : Connection) (out : List ℕ) (r : Refusal) {a : Answer} → a ≡ answered (settled c [] (refuse r)) → Does c out (refuse r) a out
-refused-does c out r e = record { answers = e; leaves = refl }
+refused-does c out r e = record { answers = e; leaves = refl; brief = rw e (omega arith) }
 
 -- a flight that was put to the lent output, by what was said
-module _ (c next : Connection) (flight : Flight) {out left : List ℕ} {said : Written} (a : Answers (gives (flightBytes flight)) out said left) where
+module _ (c next : Connection) (flight : Flight) (few : length (flightBytes flight) ≤ longest) {out left : List ℕ} {said : Written}
+    (a : Answers (gives (flightBytes flight)) out said left) where
   pub sent : {n : ℕ} → said ≡ Wrote n → Does c out (accept flight next) (record { said = said; next = next }) left
-  sent e = record { answers = rw (a .told, le-leb (length (flightBytes flight)) (length out) (wrote-all a e .0)); leaves = a .left }
+  sent e = record { answers = rw (a .told, le-leb (length (flightBytes flight)) (length out) (wrote-all a e .0)); leaves = a .left; brief = rw e (omega (arith, wrote-all a e .1)) }
 
   -- R1: the connection itself comes back
   pub not-sent : {r : Refusal} → said ≡ Refused r → Does c out (accept flight next) (record { said = said; next = c }) left
-  not-sent e = record { answers = rw (a .told, lt-leb (length (flightBytes flight)) (length out) (refused-short a e)); leaves = a .left }
+  not-sent e = record { answers = rw (a .told, lt-leb (length (flightBytes flight)) (length out) (refused-short a e)); leaves = a .left; brief = rw e (omega arith) }

@@ -19,7 +19,7 @@ use Rattle.server.specs.declared.step.Outgoing.{Outgoing}
 use Rattle.server.specs.declared.step.Decision.{Decision}
 use Rattle.server.specs.declared.calls.Awaited.{Awaited}
 use Rattle.server.specs.declared.hello.Choice.{Choice}
-use Rattle.server.specs.Flight.{Flight, joined}
+use Rattle.server.specs.Flight.{Flight, joined, longest, counted}
 use Rattle.server.specs.Step.{Step, refuse, accept, settled, answered}
 use Rattle.server.specs.Hello.{hintMessage}
 use Rattle.server.specs.Finished.{isValue, completed}
@@ -46,7 +46,7 @@ flightOf o =
 -- messages that stand within their array
 pub record Sends (o : Outgoing) (flight : Flight) : Type 0 where
   pub means : flightOf o ≡ flight
-  pub fits : total (o .lengths) ≤ 180
+  pub fits : total (o .lengths) ≤ longest
 
 -- ---- a step's decision
 
@@ -59,12 +59,13 @@ decided d = decidedBy (d .verdict) d
 
 pub record Decides (d : Decision) (step : Step) : Type 0 where
   pub means : decided d ≡ step
-  pub fits : total (d .outgoing .lengths) ≤ 180
+  pub fits : total (d .outgoing .lengths) ≤ longest
 
 -- what a call gives back for a step, and what it leaves in the lent output
 pub record Does (c : Connection) (out : List ℕ) (step : Step) (given : Answer) (left : List ℕ) : Type 0 where
   pub answers : given ≡ answered (settled c out step)
   pub leaves : left ≡ settled c out step .out
+  pub brief : counted (given .said) ≤ longest
 
 -- ---- parts of the steps
 

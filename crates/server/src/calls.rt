@@ -4,6 +4,8 @@ ghost use mathlib.Core.Option.{none};
 ghost use Rattle.layout.specs.declared.Verdict.the-variants.{Accepted};
 ghost use Rattle.server.specs.declared.Phase.{Phase};
 ghost use Rattle.server.specs.Connection.{isOver};
+ghost use Prim.Native.Nat.{_≤_};
+ghost use Rattle.server.specs.Flight.{longest, counted};
 ghost use Rattle.server.specs.Step.{answered};
 ghost use Rattle.server.specs.KeyExchange.{viewOf};
 ghost use Rattle.server.specs.Message as Message;
@@ -156,10 +158,11 @@ fn reply(phase: Phase, d: Decision, a: Answer) -> Reply
     }
 }
 
-// A handshake message.
+// A handshake message. No answer is longer than the longest flight.
 pub fn message(c: Connection, table: &[u8], m: &[u8], out: &mut [u8]) -> Reply
     ensures { λ r. ⌜ (r ≡ messageReply (viewOf (now (table .entry))) c (now (m .entry)) (now (out .entry)))
         × (now (out .exit) ≡ messageCall (viewOf (now (table .entry))) c (now (m .entry)) (now (out .entry)) .out) ⌝ }
+    ensures { λ r. ⌜ counted (r .said) ≤ longest ⌝ }
 {
     let phase = c.phase;
     let d = decide(c, table, m);

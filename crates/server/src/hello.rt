@@ -20,8 +20,8 @@ use crate::bytes32;
 use crate::step;
 use crate::step::Decision;
 use crate::step::Outgoing;
-use layout::Verdict;
 use hellos::client_hello::Client;
+use layout::Verdict;
 use refusal::Refusal;
 
 // TLS 1.2.

@@ -6,7 +6,7 @@ use native.Mathlib.Omega.{arith}
 use lib.ListN.{length}
 use lib.Seq.{length-take-le}
 use Rattle.refusal.specs.Lent.{gives, Answers}
-use Rattle.server.specs.Flight.{flightBytes}
+use Rattle.server.specs.Flight.{flightBytes, longest}
 use Rattle.server.specs.Inner.{flightOf}
 use Rattle.server.proofs.Decisions.{sent, not-sent}
 use Rattle.server.proofs.Flights.{flight-bytes}
@@ -33,17 +33,24 @@ put c =
     let start = c .before .before .before .before .before .before .before in
     rw (flight-bytes (start .args .outgoing), ← c .before .before .before .size .ensures) (c .put .ensures)
 
+few : (c : tie.After-put) → length (flightBytes (flightOf (c .before .before .before .before .before .before .before .args .outgoing))) ≤ longest
+few c =
+    let start = c .before .before .before .before .before .before .before in
+    let at-size = c .before .before .before in
+    rw (flight-bytes (start .args .outgoing), ← at-size .size .ensures)
+    (omega (arith, length-take-le (at-size .size .result) (start .args .outgoing .bytes) (within at-size), at-size .size .ensures, start .pre))
+
 returns : tie.Need-returns
 returns c =
     let at-put = c .before .before .before .before in
     let args = at-put .before .before .before .before .before .before .before .args in
-    sent (args .c) (args .next) (flightOf (args .outgoing)) (put at-put) (c .enum-told .given .1)
+    sent (args .c) (args .next) (flightOf (args .outgoing)) (few at-put) (put at-put) (c .enum-told .given .1)
 
 returns-2 : tie.Need-returns-2
 returns-2 c =
     let at-put = c .before .before .before .before in
     let args = at-put .before .before .before .before .before .before .before .args in
-    not-sent (args .c) (args .next) (flightOf (args .outgoing)) (put at-put) (c .enum-told2 .given .1)
+    not-sent (args .c) (args .next) (flightOf (args .outgoing)) (few at-put) (put at-put) (c .enum-told2 .given .1)
 
 pub send-spec : {M : Type 1} → statement M
 send-spec =
