@@ -1,23 +1,39 @@
--- A connection that was saved is restored, and cleared memory is a closed one.
+-- Parts that were joined are found again by their widths, so that a connection that was saved is restored; and cleared memory is a closed one.
 -- Assumes nothing.
-use mathlib.Core.Path.{_≡_, refl}
-use Prim.Native.Nat.{ℕ, _^_, _<_}
+use mathlib.Core.Path.{_≡_, refl, sym, ap, _∙_}
+use Prim.Native.Nat.{ℕ, _+_, _^_, _<_}
+use native.Mathlib.Omega.{arith}
 use native.Mathlib.Nat.{le-of-eq}
 use mathlib.Core.Bool.{Bool, true, false, _||_}
-use mathlib.Core.List.{List, _++_, append-assoc}
-use lib.ListN.{length, replicate}
+use mathlib.Core.List.{List, [], _∷_, map}
+use lib.ListN.{length, getD, drop, replicate}
 use lib.Seq.{take-all}
 use lib.Dec.{leb, eqb}
 use Rattle.endian.proofs.Numbers.{number-be-lt}
+use Rattle.endian.specs.Number.{be, number}
 use Rattle.sha256.specs.Saved as Hash
 use Rattle.lists.specs.Lists.{part}
-use Rattle.sha256.proofs.Saving as HashLaws
-use Rattle.lists.proofs.Parts.{part-there}
+use Rattle.lists.proofs.Parts.{part-there, take-window}
 use Rattle.server.specs.declared.Rule.{Rule}
 use Rattle.server.specs.declared.Phase.{Phase}
 use Rattle.server.specs.declared.Connection.{Connection}
 use Rattle.server.specs.Connection.{ended}
-use Rattle.saved.specs.Saved.{phaseByte, ruleByte, listedByte, saved, toPhase, toRule, restored}
+use Rattle.server.specs.Flight.{joined}
+use Rattle.saved.specs.Saved.{phaseByte, ruleByte, listedByte, parts, saved, toPhase, toRule, restored}
+
+-- ---- parts, one behind the other
+
+-- the parts of these widths, the first at `at`
+abbrev cut : List ℕ → ℕ → List ℕ → List (List ℕ)
+cut [] at bytes = []
+cut (w ∷ ws) at bytes = part at w bytes ∷ cut ws (at + w) bytes
+
+-- joined parts, cut at their widths, are the parts
+cut-joined : (xs : List (List ℕ)) (at : ℕ) (bytes : List ℕ) → drop at bytes ≡ joined xs → cut (map length xs) at bytes ≡ xs
+cut-joined [] at bytes e = refl
+cut-joined (x ∷ xs) at bytes e =
+    let there = part-there bytes x (joined xs) at (length x) e refl in
+    rw (there .0, cut-joined xs (at + length x) bytes (there .1))
 
 -- ---- one byte each
 
@@ -39,44 +55,72 @@ listed-there true = (refl, refl)
 
 -- ---- all of it
 
--- What the types say of a connection's fields, as far as the law asks for it: bytes are kept as they stand, whatever they are.
+-- What the types say of a connection's fields, as far as the law asks for it (bytes are kept as they stand, whatever they are), and what saving a hash
+-- promises of the transcript.
 pub record Fits (c : Connection) : Type 0 where
   pub suite : c .client .suite < 2 ^ 16
   pub three : length (c .setup .suites) ≡ 3
-  pub suites : Each (λ (n : ℕ). n < 2 ^ 16) (c .setup .suites)
+  pub suites : (i : ℕ) → getD (c .setup .suites) i 0 < 2 ^ 16
   pub hint : length (c .setup .hint) ≡ 128
   pub standIn : length (c .setup .«stand_in») ≡ 32
   pub own : length (c .setup .random) ≡ 32
   pub client : length (c .client .random) ≡ 32
   pub master : length (c .secrets .master) ≡ 48
-  pub transcript : HashLaws.Fits (c .transcript)
+  pub transcript : length (Hash.saved (c .transcript)) ≡ 104
+  pub kept : Hash.restored (Hash.saved (c .transcript)) ≡ c .transcript
 
--- three numbers of two bytes, and what stands before and behind them
-pairs-there : (ns : List ℕ) (front rest : List ℕ) → length ns ≡ 3 → Each (λ (n : ℕ). n < 2 ^ 16) ns → length front ≡ 6 →
-    let bytes = front ++ (pairs ns ++ rest) in
-    number (part 6 2 bytes) ∷ number (part 8 2 bytes) ∷ number (part 10 2 bytes) ∷ [] ≡ ns
-pairs-there ns front rest size fits h = ?
+-- a list of three, one by one
+pub three-of : (s : List ℕ) → length s ≡ 3 → getD s 0 0 ∷ getD s 1 0 ∷ getD s 2 0 ∷ [] ≡ s
+three-of s size = sym (take-window 3 0 s (omega arith)) ∙ take-all 3 s (le-of-eq size)
+
+-- how wide the parts are
+abbrev allWidths : List ℕ
+allWidths = 6 ∷ 6 ∷ 128 ∷ 32 ∷ 32 ∷ 32 ∷ 48 ∷ 104 ∷ []
+
+widths : (c : Connection) → Fits c → map length (parts c) ≡ allWidths
+widths c fits =
+    rw (
+      ← three-of (c .setup .suites) (fits .three),
+      fits .hint,
+      fits .standIn,
+      fits .own,
+      fits .client,
+      fits .master,
+      fits .transcript,
+    )
 
 pub restored-saved : (c : Connection) → Fits c → restored (saved c) ≡ c
 unfolding restored saved
 restored-saved c fits =
-    let bytes = saved c in
-    let master-on : List ℕ = c .secrets .master ++ Hash.saved (c .transcript) in
-    let client-on : List ℕ = c .client .random ++ master-on in
-    let own-on : List ℕ = c .setup .random ++ client-on in
-    let stand-in-on : List ℕ = c .setup .«stand_in» ++ own-on in
-    let head-on : drop 12 bytes ≡ c .setup .hint ++ stand-in-on = ? in
-    let hint = part-there bytes (c .setup .hint) stand-in-on 12 128 head-on (fits .hint) in
-    let stand-in = part-there bytes (c .setup .«stand_in») own-on 140 32 (hint .1) (fits .standIn) in
-    let own = part-there bytes (c .setup .random) client-on 172 32 (stand-in .1) (fits .own) in
-    let client = part-there bytes (c .client .random) master-on 204 32 (own .1) (fits .client) in
-    let master = part-there bytes (c .secrets .master) (Hash.saved (c .transcript)) 236 48 (client .1) (fits .master) in
-    let transcript : part 284 104 bytes ≡ Hash.saved (c .transcript) =
-    rw (master .1) (take-all 104 (Hash.saved (c .transcript)) (le-of-eq (HashLaws.length-saved (c .transcript) (fits .transcript)))) in
+    let ours = c .setup .suites in
     let phase = phase-there (c .phase) in
     let rule = rule-there (c .setup .rule) in
     let listed = listed-there (c .client .listed) in
-    ?
+    let all = ap (λ (ws : List ℕ). cut ws 0 (saved c)) (sym (widths c fits)) ∙ cut-joined (parts c) 0 (saved c) refl in
+    let found : (i : ℕ) → getD (cut allWidths 0 (saved c)) i [] ≡ getD (parts c) i [] = λ i. ap (λ (xs : List (List ℕ)). getD xs i []) all in
+    let our : (i : ℕ) → number (be 2 (getD ours i 0)) ≡ getD ours i 0 = λ i. number-be-lt 2 (getD ours i 0) (fits .suites i) in
+    let three = three-of ours (fits .three) in
+    rw (
+      phase .0,
+      listed .0,
+      rule .0,
+      phase .1,
+      rule .1,
+      listed .1,
+      number-be-lt 2 (c .client .suite) (fits .suite),
+      found 2,
+      found 3,
+      found 4,
+      found 5,
+      found 6,
+      found 7,
+      fits .kept,
+      ← three,
+      our 0,
+      our 1,
+      our 2,
+      three,
+    )
 
 -- memory that was cleared is a closed connection
 pub cleared-closed : restored (replicate 388 0) ≡ ended Phase.Closed

@@ -2,7 +2,7 @@
 -- proofs/Saving.antt has the law that what was saved is restored, for every value of the type.
 use Prim.Native.Nat.{ℕ}
 use mathlib.Core.Bool.{Bool, true, false, cond, _&&_, _||_}
-use mathlib.Core.List.{List, [], _∷_, _++_}
+use mathlib.Core.List.{List, [], _∷_, map}
 use lib.ListN.{getD}
 use lib.Dec.{leb, eqb}
 use Rattle.endian.specs.Number.{be, number}
@@ -13,6 +13,7 @@ use Rattle.server.specs.declared.Phase.{Phase}
 use Rattle.server.specs.declared.Setup.{Setup}
 use Rattle.server.specs.declared.Connection.{Connection}
 use Rattle.server.specs.Connection.{ended}
+use Rattle.server.specs.Flight.{joined}
 
 -- a phase in one byte, closed being 0
 abbrev pub phaseByte : Phase → ℕ
@@ -33,23 +34,31 @@ abbrev pub listedByte : Bool → ℕ
 listedByte false = 0
 listedByte true = 1
 
+-- phase, rule, whether the identity is listed, and the hint's length (1 byte each), and the suite that was chosen (2)
+abbrev pub head : Connection → List ℕ
+head c = phaseByte (c .phase) ∷ ruleByte (c .setup .rule) ∷ listedByte (c .client .listed) ∷ c .setup .«hint_length» ∷ be 2 (c .client .suite)
+
 -- numbers of two bytes each, one behind the other
 abbrev pub pairs : List ℕ → List ℕ
-pairs [] = []
-pairs (n ∷ ns) = be 2 n ++ pairs ns
+pairs ns = joined (map (be 2) ns)
 
--- phase, rule, whether the identity is listed, and the hint's length (1 byte each), the suite that was chosen (2) and ours (6)
-abbrev pub head : Connection → List ℕ
-head c =
-    phaseByte (c .phase) ∷ ruleByte (c .setup .rule) ∷ listedByte (c .client .listed) ∷ c .setup .«hint_length»
-    ∷ (be 2 (c .client .suite) ++ pairs (c .setup .suites))
-
--- those 12 bytes, the hint's field (128), stand-in key (32), server random (32), client random (32), master secret (48), transcript (104)
-unfoldable pub saved : Connection → List ℕ
-saved c =
+-- Those 6 bytes, our suites (6), the hint's field (128), the stand-in key (32), the server's random (32), the client's random (32), the master
+-- secret (48) and the transcript (104).
+abbrev pub parts : Connection → List (List ℕ)
+parts c =
     head c
-    ++ (c .setup .hint
-    ++ (c .setup .«stand_in» ++ (c .setup .random ++ (c .client .random ++ (c .secrets .master ++ Hash.saved (c .transcript))))))
+    ∷ pairs (c .setup .suites)
+    ∷ c .setup .hint
+    ∷ c .setup .«stand_in»
+    ∷ c .setup .random
+    ∷ c .client .random
+    ∷ c .secrets .master
+    ∷ Hash.saved (c .transcript)
+    ∷ []
+
+-- the parts, one behind the other
+unfoldable pub saved : Connection → List ℕ
+saved c = joined (parts c)
 
 -- the phases in the order of their bytes
 abbrev pub phases : List Phase

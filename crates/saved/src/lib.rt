@@ -62,33 +62,33 @@ fn listed_byte(listed: bool) -> u8
     0
 }
 
-// What stands before the hint.
-fn head(c: Connection) -> [u8; 12]
+// What stands before our suites.
+fn head(c: Connection) -> [u8; 6]
     ensures { λ r. ⌜ r ≡ Saved.head c ⌝ }
 {
     let phase = c.phase;
     let setup = c.setup;
     let client = c.client;
     let rule = setup.rule;
-    let ours = setup.suites;
-    let chosen = endian::bytes16(client.suite as usize);
-    let first = endian::bytes16(ours[0] as usize);
-    let second = endian::bytes16(ours[1] as usize);
-    let third = endian::bytes16(ours[2] as usize);
+    let suite = endian::bytes16(client.suite as usize);
     [
         phase_byte(phase),
         rule_byte(rule),
         listed_byte(client.listed),
         setup.hint_length,
-        chosen[0],
-        chosen[1],
-        first[0],
-        first[1],
-        second[0],
-        second[1],
-        third[0],
-        third[1],
+        suite[0],
+        suite[1],
     ]
+}
+
+// Our suites, two bytes each.
+fn pairs(suites: [u16; 3]) -> [u8; 6]
+    ensures { λ r. ⌜ r ≡ Saved.pairs suites ⌝ }
+{
+    let first = endian::bytes16(suites[0] as usize);
+    let second = endian::bytes16(suites[1] as usize);
+    let third = endian::bytes16(suites[2] as usize);
+    [first[0], first[1], second[0], second[1], third[0], third[1]]
 }
 
 // The bytes with a part put behind the first `at` of them.
@@ -110,6 +110,7 @@ pub fn save(c: Connection) -> [u8; 388]
     let setup = c.setup;
     let client = c.client;
     let secrets = c.secrets;
+    let suites = setup.suites;
     let hint = setup.hint;
     let stand_in = setup.stand_in;
     let own_random = setup.random;
@@ -118,8 +119,10 @@ pub fn save(c: Connection) -> [u8; 388]
     let hash = c.transcript;
     let transcript = sha256::saved::save(hash);
     let front = head(c);
+    let ours = pairs(suites);
     let with_head = append([0u8; 388], 0, &front);
-    let with_hint = append(with_head, 12, &hint);
+    let with_ours = append(with_head, 6, &ours);
+    let with_hint = append(with_ours, 12, &hint);
     let with_stand_in = append(with_hint, 140, &stand_in);
     let with_own = append(with_stand_in, 172, &own_random);
     let with_client = append(with_own, 204, &client_random);

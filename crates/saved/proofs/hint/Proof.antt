@@ -13,7 +13,7 @@ returns c =
     let start = c .before .before .before .before .before in
     let bytes = start .args .t1 in
     let size : length bytes ≡ 388 = search (needs, start .good) in
-    copied-part bytes (c .before .copy .last .1 .0) 6 128 128 refl (omega arith) (c .before .copy .ensures .1)
+    copied-part bytes (c .before .copy .last .1 .0) 12 128 128 refl (omega arith) (c .before .copy .ensures .1)
 
 pub hint-spec : {M : Type 1} → statement M
 hint-spec =

@@ -13,7 +13,7 @@ returns c =
     let start = c .before .before .before .before .before in
     let bytes = start .args .t1 in
     let size : length bytes ≡ 388 = search (needs, start .good) in
-    copied-part bytes (c .before .copy .last .1 .0) 230 48 48 refl (omega arith) (c .before .copy .ensures .1)
+    copied-part bytes (c .before .copy .last .1 .0) 236 48 48 refl (omega arith) (c .before .copy .ensures .1)
 
 pub master-spec : {M : Type 1} → statement M
 master-spec =

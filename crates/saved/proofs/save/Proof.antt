@@ -1,94 +1,80 @@
--- `saved::save` meets its contract: seven parts, one behind the other.
+-- `saved::save` meets its contract: the parts, one behind the other.
 -- Assumes nothing.
 use mathlib.Core.Path.{_≡_, refl, sym, ap, _∙_}
+use Prim.Native.Nat.{ℕ}
 use native.Mathlib.Omega.{arith}
-use lib.ListN.{length, replicate}
+use mathlib.Core.List.{List, [], _∷_, _++_, append-assoc, append-nil}
+use lib.ListN.{length, getD, replicate}
 use lib.Seq.{take-all}
-use Rattle.sha256.proofs.Saving.{behind, length-saved}
-use Rattle.saved.specs.Saved.{saved, restored}
+use mir.Syntax.{w16}
+use mir.Val as Val
+use Rattle.sha256.specs.Saved as Hash
+use Rattle.lists.proofs.Copies.{behind}
+use Rattle.server.specs.Flight.{joined}
+use Rattle.saved.specs.Saved as Saved
+use Rattle.saved.specs.Saved.{pairs, saved, restored}
 use Rattle.saved.proofs.Saving.{Fits, restored-saved}
 use borrow.Author.Needs.{needs}
 use Rattle.saved.proofs.save.Statement.{statement}
 use Rattle.saved.proofs.save.Tie as tie
 
--- the fields fit, since each has its type
-fits : (c : tie.Start) → Fits (c .args .c)
+-- the fields fit, since each has its type, and the transcript's bytes have theirs
+fits : (c : tie.After-save) → Fits (c .before .before .before .before .before .before .before .before .before .before .before .args .c)
 fits c =
+    let start = c .before .before .before .before .before .before .before .before .before .before .before in
+    let ours = start .args .c .setup .suites in
+    let fields = start .good .0 .1 .1 in
+    let setup = fields .1 .0 .1 .1 in
+    let client = fields .1 .1 .0 .1 .1 in
+    let size : length (c .save .result) ≡ 104 = search (needs, c .save .ok) in
     record {
-      suite = search needs;
-      hint = search needs;
-      standIn = search needs;
-      server = search needs;
-      client = search needs;
-      master = search needs;
-      transcript = search needs;
+      suite = search (needs, client .1);
+      three = search (needs, setup .1 .0);
+      suites = λ i. let one : Val.Fits w16 (getD ours i 0) = search (needs, setup .1 .0) in omega arith;
+      hint = search (needs, setup .1 .1 .1 .0);
+      standIn = search (needs, setup .1 .1 .1 .1 .0);
+      own = search (needs, setup .1 .1 .1 .1 .1);
+      client = search (needs, client .0);
+      master = search (needs, fields .1 .1 .1 .0);
+      transcript = rw (c .save .ensures .0) at size;
+      kept = rw (c .save .ensures .0) at (c .save .ensures .1);
     }
 
--- the entry, seen from where the first part is put
-abbrev entry : tie.After-append → tie.Start
-entry c = c .before .before .before .before .before .before .before .before .before .before
+-- the transcript's bytes, seen from where our suites are put
+abbrev entry : tie.After-append2 → tie.After-save
+entry c = c .before .before .before .before .before .before
 
-slice-aggregate-append-2 : tie.Need-slice-aggregate-append-2
-slice-aggregate-append-2 c = sym (fits (entry (c .before)) .hint)
-
-append-requires-2 : tie.Need-append-requires-2
-append-requires-2 c κs = rw (fits (entry (c .before)) .hint) (omega arith)
-
-slice-aggregate-append-3 : tie.Need-slice-aggregate-append-3
-slice-aggregate-append-3 c = sym (fits (entry (c .before .before .before)) .standIn)
-
-append-requires-3 : tie.Need-append-requires-3
-append-requires-3 c κs = rw (fits (entry (c .before .before .before)) .standIn) (omega arith)
-
-slice-aggregate-append-4 : tie.Need-slice-aggregate-append-4
-slice-aggregate-append-4 c = sym (fits (entry (c .before .before .before .before .before)) .server)
-
-append-requires-4 : tie.Need-append-requires-4
-append-requires-4 c κs = rw (fits (entry (c .before .before .before .before .before)) .server) (omega arith)
-
-slice-aggregate-append-5 : tie.Need-slice-aggregate-append-5
-slice-aggregate-append-5 c = sym (fits (entry (c .before .before .before .before .before .before .before)) .client)
-
-append-requires-5 : tie.Need-append-requires-5
-append-requires-5 c κs = rw (fits (entry (c .before .before .before .before .before .before .before)) .client) (omega arith)
-
-slice-aggregate-append-6 : tie.Need-slice-aggregate-append-6
-slice-aggregate-append-6 c = sym (fits (entry (c .before .before .before .before .before .before .before .before .before)) .master)
-
-append-requires-6 : tie.Need-append-requires-6
-append-requires-6 c κs = rw (fits (entry (c .before .before .before .before .before .before .before .before .before)) .master) (omega arith)
+grouped : (a b c d e f g h : List ℕ) → a ++ b ++ c ++ d ++ e ++ f ++ g ++ h ≡ joined (a ∷ b ∷ c ∷ d ∷ e ∷ f ∷ g ∷ h ∷ [])
+grouped a b c d e f g h = simp (append-assoc, append-nil)
 
 returns : tie.Need-returns
 unfolding saved
 returns c =
-    let at-master = c .before .before in
-    let at-client = at-master .before .before in
-    let at-server = at-client .before .before in
-    let at-stand-in = at-server .before .before in
-    let at-hint = at-stand-in .before .before in
-    let at-head = at-hint .before .before in
-    let start = entry at-head in
-    let ok = fits start in
-    let conn = start .args .c in
-    let made = at-head .before .before in
-    let r = c .append7 .result in
-    let size : length r ≡ 388 = search (needs, c .append7 .ok) in
-    let hash = made .before .save in
-    let one = at-head .append in
-    let two = at-hint .append2 in
-    let three = at-stand-in .append3 in
-    let four = at-server .append4 in
-    let five = at-client .append5 in
-    let six = at-master .append6 in
-    let head = behind (replicate 388 0) (made .head .result) (one .result) 0 6 (one .ensures) refl (made .head .ensures) refl in
-    let hint = behind (one .result) (conn .hint) (two .result) 6 128 (two .ensures) head refl (ok .hint) in
-    let stand-in = behind (two .result) (conn .«stand_in») (three .result) 134 32 (three .ensures) hint refl (ok .standIn) in
-    let server = behind (three .result) (conn .«server_random») (four .result) 166 32 (four .ensures) stand-in refl (ok .server) in
-    let client = behind (four .result) (conn .«client_random») (five .result) 198 32 (five .ensures) server refl (ok .client) in
-    let master = behind (five .result) (conn .master) (six .result) 230 48 (six .ensures) client refl (ok .master) in
-    let size-hash = length-saved (conn .transcript) (ok .transcript) in
-    let all = behind (six .result) (hash .result) r 278 104 (c .append7 .ensures) master (hash .ensures .0) size-hash in
-    let whole : r ≡ saved conn = sym (take-all 388 r (omega arith)) ∙ all in
+    let seven = c .before .before in
+    let six = seven .before .before in
+    let five = six .before .before in
+    let four = five .before .before in
+    let three = four .before .before in
+    let two = three .before .before in
+    let one = two .before .before in
+    let hash = entry two in
+    let ok = fits hash in
+    let conn = hash .before .before .before .before .before .before .before .before .before .before .before .args .c in
+    let made = one .before .before in
+    let r = c .append8 .result in
+    let size : length r ≡ 388 = search (needs, c .append8 .ok) in
+    let ours-size : length (made .pairs .result) ≡ 6 = search (needs, made .pairs .ok) in
+    let head = behind (replicate 388 0) (made .before .head .result) (one .append .result) 0 6 (one .append .ensures) refl (made .before .head .ensures) refl in
+    let ours = behind (one .append .result) (made .pairs .result) (two .append2 .result) 6 6 (two .append2 .ensures) head (made .pairs .ensures) (rw (made .pairs .ensures) at ours-size) in
+    let hint = behind (two .append2 .result) (conn .setup .hint) (three .append3 .result) 12 128 (three .append3 .ensures) ours refl (ok .hint) in
+    let stand-in = behind (three .append3 .result) (conn .setup .«stand_in») (four .append4 .result) 140 32 (four .append4 .ensures) hint refl (ok .standIn) in
+    let own = behind (four .append4 .result) (conn .setup .random) (five .append5 .result) 172 32 (five .append5 .ensures) stand-in refl (ok .own) in
+    let client = behind (five .append5 .result) (conn .client .random) (six .append6 .result) 204 32 (six .append6 .ensures) own refl (ok .client) in
+    let master = behind (six .append6 .result) (conn .secrets .master) (seven .append7 .result) 236 48 (seven .append7 .ensures) client refl (ok .master) in
+    let all = behind (seven .append7 .result) (hash .save .result) r 284 104 (c .append8 .ensures) master (hash .save .ensures .0) (ok .transcript) in
+    let whole : r ≡ saved conn =
+    sym (take-all 388 r (omega arith)) ∙ all
+    ∙ grouped (Saved.head conn) (pairs (conn .setup .suites)) (conn .setup .hint) (conn .setup .«stand_in») (conn .setup .random) (conn .client .random) (conn .secrets .master) (Hash.saved (conn .transcript)) in
     (whole, ap restored whole ∙ restored-saved conn ok)
 
 pub save-spec : {M : Type 1} → statement M
@@ -97,18 +83,21 @@ save-spec =
     (tie.spec
     (λ c κs. search needs)
     (λ c κs. search needs)
+    (λ c κs. search needs)
     (λ c. search needs)
     (λ c κs. search needs)
-    slice-aggregate-append-2
-    append-requires-2
-    slice-aggregate-append-3
-    append-requires-3
-    slice-aggregate-append-4
-    append-requires-4
-    slice-aggregate-append-5
-    append-requires-5
-    slice-aggregate-append-6
-    append-requires-6
     (λ c. search needs)
     (λ c κs. search needs)
+    (λ c. sym (fits (entry (c .before)) .hint))
+    (λ c κs. rw (fits (entry (c .before)) .hint) (omega arith))
+    (λ c. sym (fits (entry (c .before .before .before)) .standIn))
+    (λ c κs. rw (fits (entry (c .before .before .before)) .standIn) (omega arith))
+    (λ c. sym (fits (entry (c .before .before .before .before .before)) .own))
+    (λ c κs. rw (fits (entry (c .before .before .before .before .before)) .own) (omega arith))
+    (λ c. sym (fits (entry (c .before .before .before .before .before .before .before)) .client))
+    (λ c κs. rw (fits (entry (c .before .before .before .before .before .before .before)) .client) (omega arith))
+    (λ c. sym (fits (entry (c .before .before .before .before .before .before .before .before .before)) .master))
+    (λ c κs. rw (fits (entry (c .before .before .before .before .before .before .before .before .before)) .master) (omega arith))
+    (λ c. search (needs, entry (c .before .before .before .before .before .before .before .before .before .before .before) .save .ok))
+    (λ c κs. search (needs, entry (c .before .before .before .before .before .before .before .before .before .before .before) .save .ok))
     returns)

@@ -16,7 +16,7 @@ returns c =
     let bytes = start .args .t1 in
     let size : length bytes ≡ 388 = search (needs, start .good) in
     c .restore .ensures
-    ∙ ap restored (copied-part bytes (at-copy .copy .last .1 .0) 278 104 104 refl (omega arith) (at-copy .copy .ensures .1))
+    ∙ ap restored (copied-part bytes (at-copy .copy .last .1 .0) 284 104 104 refl (omega arith) (at-copy .copy .ensures .1))
 
 pub transcript-spec : {M : Type 1} → statement M
 transcript-spec =
