@@ -1,7 +1,7 @@
 -- From what the server said to the code that comes back, to the connection's bytes and to what the next call reads there.
 -- Assumes nothing.
 use mathlib.Core.Path.{_≡_, refl, sym, ap, subst, _∙_}
-use Prim.Native.Nat.{ℕ, _<_, _^_}
+use Prim.Native.Nat.{ℕ, _≤_, _<_, _^_}
 use native.Mathlib.Omega.{arith}
 use mathlib.Core.Bool.{Bool, true, false, cond, true≢false}
 use mathlib.Core.List.{List}
@@ -21,9 +21,10 @@ use Rattle.server.specs.declared.Connection.{Connection}
 use Rattle.server.specs.declared.Answer.{Answer}
 use Rattle.server.specs.declared.Reply.{Reply}
 use Rattle.server.specs.Connection.{Settings, ended, acceptable, badSetting, started, startAnswer}
-use Rattle.server.specs.Step.{Step, Settled, outcome, nextAfter, settled}
+use Rattle.server.specs.Flight.{longest, counted}
+use Rattle.server.specs.Step.{Step, Settled, outcome, nextAfter, settled, answered}
 use Rattle.server.specs.Message.{withMaster}
-use Rattle.server.specs.Saved.{saved, restored}
+use Rattle.saved.specs.Saved.{saved, restored}
 use Rattle.server.proofs.Refusals.{alerts-close}
 use Rattle.host.specs.Codes.{coded}
 use Rattle.host.specs.Connections.{Keeps, Starts, masterAfter}
@@ -59,6 +60,11 @@ next-read c step (refuses r) = subst (λ (n : Connection). cond (toClient r) n c
 pub step-count : (c : Connection) (out : List ℕ) (step : Step) {said : Written} → said ≡ settled c out step .said → Brief step → count said < 2 ^ 31
 step-count c out step e brief = few {wanted = outcome step} {out = out} (record { told = e; left = refl }) brief
 
+-- a message's answer is never long, as the server promises
+pub brief : (said : Written) → counted said ≤ longest → count said < 2 ^ 31
+brief (Wrote n) h = omega arith
+brief (Refused r) h = omega arith
+
 -- of a step on the connection that was restored
 pub keeps : (bytes out : List ℕ) (step : Connection → Step) {c : Connection} {said : Written} {next : Connection} {bytes' : List ℕ} {result : ℤ}
     → c ≡ restored bytes → said ≡ settled c out (step c) .said → next ≡ settled c out (step c) .next
@@ -91,16 +97,16 @@ starts {bytes = bytes} {bytes' = bytes'} {result = result} e fits told kept =
 
 -- ---- a message's reply
 
-pub reply-parts : (s : Settled) (o : Option (List ℕ)) {r : Reply} → r ≡ withMaster s o → (r .said ≡ s .said) × (r .next ≡ s .next)
+pub reply-parts : (s : Settled) (o : Option (List ℕ)) {r : Reply} → r ≡ withMaster (answered s) o → (r .said ≡ s .said) × (r .next ≡ s .next)
 reply-parts s none e = rw e (refl, refl)
 reply-parts s (some secret) e = rw e (refl, refl)
 
-pub master-handed : (s : Settled) (o : Option (List ℕ)) {r : Reply} (master : List ℕ) → r ≡ withMaster s o → r .handed ≡ true
+pub master-handed : (s : Settled) (o : Option (List ℕ)) {r : Reply} (master : List ℕ) → r ≡ withMaster (answered s) o → r .handed ≡ true
     → r .master ≡ masterAfter o master
 master-handed s none master e t = absurd (true≢false (sym t ∙ ap (λ (x : Reply). x .handed) e))
 master-handed s (some secret) master e t = rw e
 
-pub master-kept : (s : Settled) (o : Option (List ℕ)) {r : Reply} (master : List ℕ) → r ≡ withMaster s o → r .handed ≡ false
+pub master-kept : (s : Settled) (o : Option (List ℕ)) {r : Reply} (master : List ℕ) → r ≡ withMaster (answered s) o → r .handed ≡ false
     → master ≡ masterAfter o master
 master-kept s none master e t = refl
 master-kept s (some secret) master e t = absurd (true≢false (sym (ap (λ (x : Reply). x .handed) e) ∙ t))

@@ -1,4 +1,4 @@
--- The server's calls as C makes them: the connection in lent bytes (crates/server/specs/Saved.antt).
+-- The server's calls as C makes them: the connection in lent bytes (crates/saved/specs/Saved.antt).
 use mathlib.Core.Path.{_≡_}
 use Prim.Native.Nat.{ℕ}
 use mathlib.Core.Bool.{cond}
@@ -17,7 +17,7 @@ use Rattle.server.specs.KeyExchange.{View}
 use Rattle.server.specs.Step.{Settled}
 use Rattle.server.specs.Connection.{suites}
 use Rattle.server.specs.Message.{messageStep, messageCall, handedOver}
-use Rattle.server.specs.Saved.{saved, restored}
+use Rattle.saved.specs.Saved.{saved, restored}
 use Rattle.host.specs.Codes.{coded}
 
 -- the connection's bytes afterwards: "No refusal writes a byte of lent memory; the connection changes only as the last column says"
@@ -39,7 +39,7 @@ namedOf n = cond (eqb n 0) Named.Nothing (cond (eqb n 1) Named.Tell Named.Hide)
 
 abbrev pub startCall : (random hint standIn : List ℕ) → ℕ → Answer
 startCall random hint standIn rule =
-    cond (leb rule 2) (startAnswer (record { random = random; hint = hint; standIn = standIn; named = namedOf rule })) badSetting
+    cond (leb rule 2) (startAnswer (record { random = random; hint = hint; standIn = standIn; named = namedOf rule; suites = suites })) badSetting
 
 -- Where R3 is given no connection is made, and the bytes stay.
 pub record Starts (wanted : Answer) (bytes : List ℕ) (result : ℤ) (bytes' : List ℕ) : Type 0 where
@@ -57,4 +57,4 @@ masterAfter (some secret) master = secret
 -- what a message leaves in the lent output and in the lent master secret
 pub record Replies (v : View) (c : Connection) (message out out' master master' : List ℕ) : Type 0 where
   pub left : out' ≡ messageCall v c message out .out
-  pub handed : master' ≡ masterAfter (handedOver (c .phase) (messageStep suites v c message (c .phase))) master
+  pub handed : master' ≡ masterAfter (handedOver (c .phase) (messageStep v c message (c .phase))) master

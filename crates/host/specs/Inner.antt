@@ -9,7 +9,7 @@ use Rattle.refusal.specs.Table.{toClient}
 use Rattle.layout.specs.declared.Part.{Part}
 use Rattle.hellos.specs.declared.Block.{Block}
 use Rattle.server.specs.declared.Connection.{Connection}
-use Rattle.server.specs.Saved.{restored}
+use Rattle.saved.specs.Saved.{restored}
 use Rattle.host.specs.Connections.{keptAfter}
 
 -- how many bytes were written

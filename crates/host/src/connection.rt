@@ -1,4 +1,4 @@
-// The server's calls, on a connection that the host keeps as 382 bytes. Bytes that no call has
+// The server's calls, on a connection that the host keeps as 388 bytes. Bytes that no call has
 // written stand for a closed connection, cleared memory among them. An R number leaves the bytes as
 // they were, an alert makes them those of a closed connection.
 ghost use mathlib.Core.Path.{_≡_};
@@ -8,7 +8,7 @@ ghost use Rattle.server.specs.KeyExchange.{viewOf};
 ghost use Rattle.server.specs.Message.{messageCall};
 ghost use Rattle.server.specs.Change.{changeCall};
 ghost use Rattle.server.specs.Alert.{alertCall};
-ghost use Rattle.server.specs.Saved.{restored, phaseByte};
+ghost use Rattle.saved.specs.Saved.{restored, phaseByte};
 ghost use Rattle.host.specs.Codes.{coded};
 ghost use Rattle.host.specs.Connections.{Keeps, Starts, Replies, startCall, namedOf};
 ghost use Rattle.host.specs.Inner.{count, Kept};
@@ -19,18 +19,18 @@ use server::Connection;
 use server::Named;
 
 // The code of what was said; the connection's bytes change unless it is an R number.
-fn keep(said: Written, next: Connection, connection: &mut [u8; 382]) -> i32
+fn keep(said: Written, next: Connection, connection: &mut [u8; 388]) -> i32
     requires { ⌜ count said < 2 ^ 31 ⌝ }
     ensures { λ r. ⌜ r ≡ coded said ⌝ }
     ensures { λ _. ⌜ Kept said next (now (connection .entry)) (now (connection .exit)) ⌝ }
 {
     match said {
         Written::Wrote(_) => {
-            *connection = server::saved::save(next);
+            *connection = saved::save(next);
         }
         Written::Refused(r) => {
             if refusal::for_client(r) {
-                *connection = server::saved::save(next);
+                *connection = saved::save(next);
             }
         }
     }
@@ -51,7 +51,7 @@ fn named(rule: u8) -> Named
 // A new connection; rule 0 names none, 1 is tell, 2 hide, and R3 any other.
 #[no_mangle]
 pub extern "C" fn tn_start(
-    connection: &mut [u8; 382],
+    connection: &mut [u8; 388],
     random: &[u8],
     hint: &[u8],
     stand_in: &[u8],
@@ -72,7 +72,7 @@ pub extern "C" fn tn_start(
 // answer is 0 there and nowhere else.
 #[no_mangle]
 pub extern "C" fn tn_message(
-    connection: &mut [u8; 382],
+    connection: &mut [u8; 388],
     table: &[u8],
     message: &[u8],
     out: &mut [u8],
@@ -84,7 +84,7 @@ pub extern "C" fn tn_message(
         (now (out .entry)) (now (out .exit)) (now (master .entry)) (now (master .exit)) ⌝ }
 {
     let bytes = *connection;
-    let reply = server::message(server::saved::restore(bytes), table, message, out);
+    let reply = server::message(saved::restore(bytes), table, message, out);
     if reply.handed {
         let secret = reply.master;
         *master = secret;
@@ -96,11 +96,11 @@ pub extern "C" fn tn_message(
 
 // A change of cipher.
 #[no_mangle]
-pub extern "C" fn tn_change_of_cipher(connection: &mut [u8; 382]) -> i32
+pub extern "C" fn tn_change_of_cipher(connection: &mut [u8; 388]) -> i32
     ensures { λ r. ⌜ Keeps (changeCall (restored (now (connection .entry)))) (now (connection .entry)) r (now (connection .exit)) ⌝ }
 {
     let bytes = *connection;
-    let answer = server::change_of_cipher(server::saved::restore(bytes));
+    let answer = server::change_of_cipher(saved::restore(bytes));
     let said = answer.said;
     let next = answer.next;
     keep(said, next, connection)
@@ -108,11 +108,11 @@ pub extern "C" fn tn_change_of_cipher(connection: &mut [u8; 382]) -> i32
 
 // A received alert.
 #[no_mangle]
-pub extern "C" fn tn_alert(connection: &mut [u8; 382], level: u8, description: u8) -> i32
+pub extern "C" fn tn_alert(connection: &mut [u8; 388], level: u8, description: u8) -> i32
     ensures { λ r. ⌜ Keeps (alertCall (restored (now (connection .entry))) level description) (now (connection .entry)) r (now (connection .exit)) ⌝ }
 {
     let bytes = *connection;
-    let answer = server::alert(server::saved::restore(bytes), level, description);
+    let answer = server::alert(saved::restore(bytes), level, description);
     let said = answer.said;
     let next = answer.next;
     keep(said, next, connection)
@@ -121,9 +121,9 @@ pub extern "C" fn tn_alert(connection: &mut [u8; 382], level: u8, description: u
 // What the connection awaits: 0 closed, 1 ClientHello, 2 ClientKeyExchange, 3 a change of cipher, 4
 // Finished, 5 complete.
 #[no_mangle]
-pub extern "C" fn tn_phase(connection: &[u8; 382]) -> i32
+pub extern "C" fn tn_phase(connection: &[u8; 388]) -> i32
     ensures { λ r. ⌜ r ≡ pos (phaseByte (restored (now (connection .entry)) .phase)) ⌝ }
 {
     let bytes = *connection;
-    server::saved::phase(server::saved::restore(bytes)) as i32
+    saved::phase(saved::restore(bytes)) as i32
 }

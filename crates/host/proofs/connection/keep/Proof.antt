@@ -3,7 +3,7 @@
 use borrow.Author.Needs.{needs}
 use mathlib.Core.Path.{_≡_, sym, ap, _∙_}
 use mathlib.Core.Logic.{⊎-elim}
-use Rattle.server.specs.Saved.{restored}
+use Rattle.saved.specs.Saved.{restored}
 use Rattle.host.specs.Codes.{coded}
 use Rattle.host.specs.Inner.{Kept}
 use Rattle.host.proofs.Signed.{handed-on}

@@ -9,12 +9,10 @@ use Prim.Native.Nat.{ℕ}
 use Rattle.server.specs.declared.Connection.{Connection}
 use Rattle.server.specs.Step.{Step, Settled, settled}
 use Rattle.server.specs.KeyExchange.{View, viewOf}
-use Rattle.server.specs.Connection.{suites}
 use Rattle.server.specs.Message.{messageStep, handedOver}
-use Rattle.server.specs.Saved.{restored}
+use Rattle.saved.specs.Saved.{restored}
 use Rattle.host.specs.Connections.{masterAfter}
-use Rattle.host.proofs.Sizes.{Brief, message-brief}
-use Rattle.host.proofs.Keeping.{step-count, keeps, reply-parts, master-handed, master-kept}
+use Rattle.host.proofs.Keeping.{brief, keeps, reply-parts, master-handed, master-kept}
 use Rattle.host.proofs.connection.tn_message.Statement.{statement}
 use Rattle.host.proofs.connection.tn_message.Tie as tie
 
@@ -28,7 +26,7 @@ module _ (c : tie.After-message) where
   view = viewOf (entry c .args .table .now)
 
   abbrev stepOn : Connection → Step
-  stepOn x = messageStep suites view x (entry c .args .message .now) (x .phase)
+  stepOn x = messageStep view x (entry c .args .message .now) (x .phase)
 
   abbrev over : Connection → Option (List ℕ)
   over x = handedOver (x .phase) (stepOn x)
@@ -43,25 +41,23 @@ module _ (c : tie.After-message) where
   replied = settled was (entry c .args .out .now) (stepOn was)
 
   parts : (c .message .result .said ≡ replied .said) × (c .message .result .next ≡ replied .next)
-  parts = reply-parts replied (over was) (c .message .ensures .0)
+  parts = reply-parts replied (over was) (c .message .ensures .0 .0)
 
 keep-requires : tie.Need-keep-requires
 keep-requires c κs =
-    let m = c .before .before .before .before .before in
-    let a = entry m .args in
-    let brief = subst (λ (x : Connection). Brief (stepOn m x)) (sym (restored-as m)) (message-brief (view m) (a .connection .now) (a .message .now)) in
-    step-count (was m) (a .out .now) (stepOn m (was m)) (parts m .0) brief
+    let reply = c .before .before .before .before .before .message in
+    brief (reply .result .said) (reply .ensures .1)
 
 returns : tie.Need-returns
 returns c =
     let m = c .before .before .before .before .before .before in
     let a = entry m .args in
     let master = a .master .now in
-    let secret = ⊎-elim (λ w. w .2 ∙ master-handed (replied m) (over m (was m)) master (m .message .ensures .0) (w .0 .taken))
-    (λ w. w .1 ∙ master-kept (replied m) (over m (was m)) master (m .message .ensures .0) (w .0 .left)) (c .before .before .before .if1 .came) in (
+    let secret = ⊎-elim (λ w. w .2 ∙ master-handed (replied m) (over m (was m)) master (m .message .ensures .0 .0) (w .0 .taken))
+    (λ w. w .1 ∙ master-kept (replied m) (over m (was m)) master (m .message .ensures .0 .0) (w .0 .left)) (c .before .before .before .if1 .came) in (
       keeps (a .connection .now) (a .out .now) (stepOn m) (restored-as m) (parts m .0) (parts m .1) (c .keep .ok) (c .keep .ensures .0) (c .keep .ensures .1),
       record {
-        left = m .message .ensures .1 ∙ ap (λ (x : Connection). settled x (a .out .now) (stepOn m x) .out) (restored-as m);
+        left = m .message .ensures .0 .1 ∙ ap (λ (x : Connection). settled x (a .out .now) (stepOn m x) .out) (restored-as m);
         handed = secret ∙ ap (λ (x : Connection). masterAfter (over m x) master) (restored-as m);
       },
     )

@@ -6,7 +6,7 @@ use mir.Syntax.{w32}
 use mir.Facts.{toZ-pos}
 use lib.IntN.{pos}
 use Rattle.server.specs.declared.Connection.{Connection}
-use Rattle.server.specs.Saved.{phaseByte}
+use Rattle.saved.specs.Saved.{phaseByte}
 use Rattle.host.proofs.connection.tn_phase.Statement.{statement}
 use Rattle.host.proofs.connection.tn_phase.Tie as tie
 

@@ -4,7 +4,7 @@ use borrow.Author.Needs.{needs}
 use native.Mathlib.Omega.{arith}
 use mathlib.Core.Path.{refl, _∙_}
 use borrow.Author.Tests.{le-leb, lt-leb}
-use Rattle.server.specs.Connection.{Settings, badSetting}
+use Rattle.server.specs.Connection.{Settings, suites, badSetting}
 use Rattle.host.proofs.Keeping.{kept-same, start-count, starts}
 use Rattle.host.proofs.connection.tn_start.Statement.{statement}
 use Rattle.host.proofs.connection.tn_start.Tie as tie
@@ -19,7 +19,7 @@ keep-requires : tie.Need-keep-requires
 keep-requires c κs =
     let n = c .before .before .before in
     let a = n .before .before .before .before .before .args in
-    let settings : Settings = record { random = a .random .now; hint = a .hint .now; standIn = a .stand-in .now; named = n .named .result } in
+    let settings : Settings = record { random = a .random .now; hint = a .hint .now; standIn = a .stand-in .now; named = n .named .result; suites = suites } in
     start-count settings (c .before .before .start .ensures)
 
 returns-2 : tie.Need-returns-2
