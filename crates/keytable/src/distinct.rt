@@ -1,4 +1,4 @@
-// "No identity twice": each line's identity is compared with those of the lines before it. The
+// No identity twice: each line's identity is compared with those of the lines before it. The
 // starts of the lines and a fingerprint of each identity are kept, so that the bytes of two
 // identities are compared only where their fingerprints are equal.
 ghost use mathlib.Core.Path.{_≡_};
