@@ -10,7 +10,6 @@ ghost use lib.ListN.{length};
 ghost use Rattle.lists.specs.Lists.{any, distinct, same};
 ghost use Rattle.keytable.specs.Table.{identityOf, lines};
 ghost use Rattle.keytable.specs.Inner.{identityAt, earlier, fingerprint, Kept};
-use crate::entries::find;
 use crate::entries::line_end;
 
 // A number that equal byte strings have alike.
@@ -32,7 +31,7 @@ fn identity_end(table: &[u8], at: usize) -> usize
     ensures { λ r. ⌜ r ≡ at + length (identityAt (now (table .entry)) at) ⌝ }
 {
     let end = line_end(table, at);
-    at + find(&table[at..end], 58)
+    bytes::scan::find(table, at, end, 58)
 }
 
 // Whether the line at `at` has the identity.
