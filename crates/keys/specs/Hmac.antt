@@ -10,11 +10,11 @@ use Rattle.refusal.specs.Lent.{Outcome, gives, refuses}
 use Rattle.refusal.specs.declared.Refusal.the-variants.{BadValue}
 use Rattle.sha256.specs.Hash.{digest, limit}
 
--- "append zeros to the end of K to create a B byte string", B being 64
+-- the key with zeros behind it, as long as a block of the hash, 64 bytes
 unfoldable pub zeroPadded : List ℕ → List ℕ
 zeroPadded key = key ++ replicate (64 - length key) 0
 
--- "Applications that use keys longer than B bytes will first hash the key using H and then use the resultant L byte string as the actual key"
+-- A key longer than a block is hashed first, and its digest is the key.
 unfoldable pub keyBlock : List ℕ → List ℕ
 keyBlock key = zeroPadded (cond (leb (length key) 64) key (digest key))
 

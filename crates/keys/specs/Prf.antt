@@ -13,17 +13,17 @@ use Rattle.keys.specs.declared.Label.{Label}
 use Rattle.keys.specs.declared.Label.the-variants.{MasterSecret, KeyExpansion, ClientFinished, ServerFinished}
 use Rattle.keys.specs.Hmac.{mac}
 
--- "A(0) = seed, A(i) = HMAC_hash(secret, A(i-1))"
+-- A(0) = seed, A(i) = HMAC_hash(secret, A(i-1))
 unfoldable pub A : List ℕ → List ℕ → ℕ → List ℕ
 A secret seed zero = seed
 A secret seed (suc i) = mac secret (A secret seed i)
 
--- "P_hash(secret, seed) = HMAC_hash(secret, A(1) + seed) + HMAC_hash(secret, A(2) + seed) + ...", as far as A(n)
+-- P_hash(secret, seed) = HMAC_hash(secret, A(1) + seed) + HMAC_hash(secret, A(2) + seed) + .., as far as A(n)
 unfoldable pub P : List ℕ → List ℕ → ℕ → List ℕ
 P secret seed zero = []
 P secret seed (suc n) = P secret seed n ++ mac secret (A secret seed (suc n) ++ seed)
 
--- "iterated as many times as necessary to produce the required quantity of data": each time gives 32 bytes, and what is too much is left out
+-- as many parts of 32 bytes as make n bytes; what is too much is left out
 unfoldable pub expanded : List ℕ → List ℕ → ℕ → List ℕ
 expanded secret seed n = take n (P secret seed ((n + 31) / 32))
 
@@ -38,7 +38,7 @@ text KeyExpansion = ascii "key expansion"
 text ClientFinished = ascii "client finished"
 text ServerFinished = ascii "server finished"
 
--- "PRF(secret, label, seed) = P_<hash>(secret, label + seed)", of n bytes.
+-- PRF(secret, label, seed) = P_<hash>(secret, label + seed), of n bytes.
 -- Document 01: secret and seed at most 65,536 bytes each, at most 256 bytes out; more is R5.
 unfoldable pub prf : List ℕ → Label → List ℕ → ℕ → Outcome
 prf secret label seed n =

@@ -15,7 +15,7 @@ use Rattle.keys.specs.declared.Side.{Side}
 use Rattle.keys.specs.declared.Side.the-variants.{Client, Server}
 use Rattle.keys.specs.Prf.{prf}
 
--- RFC 4279: "if the PSK is N octets long, concatenate a uint16 with the value N, N zero octets, a second uint16 with the value N, and the PSK itself"
+-- RFC 4279: for a PSK of N bytes, N as two bytes, N zero bytes, N as two bytes again, and the PSK
 unfoldable pub premasterBytes : List ℕ → List ℕ
 premasterBytes psk = be 2 (length psk) ++ (replicate (length psk) 0 ++ (be 2 (length psk) ++ psk))
 
@@ -50,7 +50,7 @@ keys secret server client suite =
     (prf secret KeyExpansion (server ++ client) (keyBlockLength suite))
     (refuses BadValue)
 
--- RFC 5246, 7.4.9: "for Finished messages sent by the client, the string "client finished", [..] by the server, the string "server finished""
+-- RFC 5246, 7.4.9: each side has a label of its own
 abbrev pub finishedLabel : Side → Label
 finishedLabel Client = ClientFinished
 finishedLabel Server = ServerFinished

@@ -7,4 +7,3 @@ pub mod Matching
 pub mod Pairs
 pub mod Tests
 pub mod Texts
-pub mod Walks

@@ -7,8 +7,9 @@ use native.Mathlib.Numerals.{add-one}
 use mathlib.Core.Bool.{Bool, true, false, _&&_, and-false}
 use mathlib.Core.List.{List, [], _∷_}
 use lib.ListN.{length, take, drop, getD, length-drop, drop-of-length-le}
-use lib.Seq.{drop-drop}
+use lib.Seq.{drop-drop, drop-at, take-add, length-take-le}
 use lib.Dec.{eqb}
+use Rattle.bytes.specs.Bytes.{slice, indexOf, indexAfter}
 use Rattle.lists.proofs.Parts.{part-to-end, rest}
 use Rattle.lists.specs.Lists.{part}
 use Rattle.keytable.specs.Table.{lineEnd, colon, before, lines, upto, past, identityOf, validIdentity, validKey, validLine, ended}
@@ -34,6 +35,29 @@ take-upto x s = upto-parts x s .1
 
 past-drop : (x : ℕ) (s : List ℕ) → past x s ≡ drop (suc (length (upto x s))) s
 past-drop x s = upto-parts x s .2
+
+-- ---- where `bytes::scan::find` finds a byte
+
+index-upto : (x : ℕ) (s : List ℕ) → indexOf x s ≡ length (upto x s)
+unfolding indexOf indexAfter
+index-upto x [] = refl
+index-upto x (b ∷ s) = go (eqb b x) refl (index-upto x s)
+  where
+    go : (t : Bool) → eqb b x ≡ t → indexOf x s ≡ length (upto x s) → indexAfter (eqb b x) (indexOf x s) ≡ length (upto x (b ∷ s))
+    go true e ih = rw e
+    go false e ih = rw e (ap suc ih)
+
+pub found-at : (x : ℕ) (s : List ℕ) (from to r : ℕ) → from ≤ to → to ≤ length s → r ≡ from + indexOf x (slice from to s)
+    → r ≡ from + length (upto x (part from (to - from) s))
+unfolding slice
+found-at x s from to r h k e =
+    let size : to ≡ from + (to - from) = omega arith in
+    let there : drop from (take to s) ≡ part from (to - from) s =
+    ap (λ (n : ℕ). drop from (take n s)) size ∙ ap (drop from) (take-add from (to - from) s)
+    ∙ drop-at (take from s) (take (to - from) (drop from s)) from (length-take-le from s (omega arith)) in
+    e ∙ ap (λ (n : ℕ). from + n) (index-upto x (drop from (take to s)) ∙ ap (λ (l : List ℕ). length (upto x l)) there)
+
+-- ---- lines
 
 pub lines-cons : (s : List ℕ) → 0 < length s → lines s ≡ upto lineEnd s ∷ lines (drop (suc (length (upto lineEnd s))) s)
 lines-cons [] h = absurd (omega arith)
@@ -82,9 +106,6 @@ no-lines s at h = ap lines (drop-of-length-le s h)
 module _ (l : List ℕ) (n : ℕ) (e : n ≡ length (upto colon l)) where
   identity-is : take n l ≡ identityOf l
   identity-is = rw e (take-upto colon l)
-
-  pub colon-within : n ≤ length l
-  colon-within = omega (arith, length-upto colon l)
 
   pub key-is : rest l (n + 1) ≡ past colon l
   key-is = part-to-end l (n + 1) ∙ sym (past-drop colon l ∙ ap (λ (i : ℕ). drop i l) (sym (add-one n ∙ ap suc e)))

@@ -109,7 +109,7 @@ listed-valid i k [] v m = absurd m
 listed-valid i k (l ∷ ls) v (inl m) = rw (m .0) (identity-complete (l .identity) (v .0 .identity))
 listed-valid i k (l ∷ ls) v (inr m) = listed-valid i k ls (v .1) m
 
--- "An empty, overlong or malformed identity from a client is one that isn't listed."
+-- an identity that no line may have is not listed: an empty one, one of over 128 bytes, or one with a wrong byte
 pub malformed-unlisted : (t : List ℕ) → wellFormed t ≡ true → (i : List ℕ) → validIdentity i ≡ false → keyOf t i ≡ none
 malformed-unlisted t h i bad = go (keyOf t i) refl
   where

@@ -1,4 +1,4 @@
--- The key table (document 01, "The key table"): "lines `identity:hex`, each ended by one byte 0A". The test that a table is well formed, and the
+-- The key table (document 01, "The key table"): lines `identity:hex`, each with a byte 0A at its end. The test that a table is well formed, and the
 -- key that stands in it for an identity.
 use Prim.Native.Nat.{ℕ, _+_, _-_, _*_, _%_}
 use mathlib.Core.Bool.{Bool, true, cond, not, _&&_}
@@ -52,7 +52,7 @@ digit b =
 abbrev pub hexDigit : ℕ → Bool
 hexDigit b = ltb (digit b) 16
 
--- "Key 1 to 64 bytes as pairs of hex digits, either case."
+-- A key has 1 to 64 bytes, two hex digits of either case for each.
 abbrev pub validKey : List ℕ → Bool
 validKey s = between 2 128 (length s) && eqb (length s % 2) 0 && each hexDigit s
 
@@ -74,11 +74,11 @@ abbrev pub past : ℕ → List ℕ → List ℕ
 past x [] = []
 past x (b ∷ s) = cond (eqb b x) s (past x s)
 
--- "no byte below 20 hex, no 7F, no colon"
+-- A byte of an identity: 20 hex or above, not 7F, and no colon.
 abbrev pub plain : ℕ → Bool
 plain b = leb 0x20 b && not (eqb b 0x7F) && not (eqb b colon)
 
--- "Identity 1 to 128 bytes, valid UTF-8 (RFC 3629)"
+-- An identity has 1 to 128 bytes, of valid UTF-8.
 abbrev pub validIdentity : List ℕ → Bool
 validIdentity s = between 1 128 (length s) && each plain s && validUtf8 s
 
@@ -97,7 +97,7 @@ ended [] = true
 ended (b ∷ []) = eqb b lineEnd
 ended (b ∷ c ∷ s) = ended (c ∷ s)
 
--- "At most 256 lines and 65,536 bytes; no identity twice .. No bytes at all is well formed." R2 is given where this fails.
+-- At most 65,536 bytes and 256 lines, each of identity and key, and no identity in two of them; a table of no bytes is one. Where this fails it is R2.
 unfoldable pub wellFormed : List ℕ → Bool
 wellFormed t =
     leb (length t) 65536 && ended t && leb (length (lines t)) 256 && each validLine (lines t) && distinct same (map identityOf (lines t))
@@ -136,7 +136,7 @@ abbrev pub keyOfText : Option (List ℕ) → Option (List ℕ)
 keyOfText none = none
 keyOfText (some s) = keyIn s
 
--- The key that the table, any bytes, has for an identity, any bytes: "the search ends at the first line that matches". None where no line
+-- The key that the table, any bytes, has for an identity, any bytes: that of the first line that matches. None where no line
 -- matches, or where what follows the colon is no key.
 unfoldable pub keyOf : List ℕ → List ℕ → Option (List ℕ)
 keyOf table identity = keyOfText (firstText identity (lines table))

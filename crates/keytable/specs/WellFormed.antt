@@ -10,13 +10,13 @@ use Rattle.lists.specs.Lists.{Each, Distinct}
 use Rattle.utf8.specs.Utf8.{validUtf8}
 use Rattle.keytable.specs.Table.{lineEnd, colon, decoded, ended}
 
--- "no byte below 20 hex, no 7F, no colon"
+-- A byte of an identity: 20 hex or above, not 7F, and no colon.
 pub record Plain (b : ℕ) : Type 0 where
   pub high : 0x20 ≤ b
   pub no-delete : ¬ (b ≡ 0x7F)
   pub no-colon : ¬ (b ≡ colon)
 
--- "Identity 1 to 128 bytes, valid UTF-8 (RFC 3629)"
+-- An identity has 1 to 128 bytes, of valid UTF-8.
 pub record Identity (s : List ℕ) : Type 0 where
   pub some : 1 ≤ length s
   pub few : length s ≤ 128
@@ -27,7 +27,7 @@ pub record Identity (s : List ℕ) : Type 0 where
 abbrev pub HexDigit : ℕ → Type 0
 HexDigit b = ((0x30 ≤ b) × (b ≤ 0x39)) ⊎ (((0x41 ≤ b) × (b ≤ 0x46)) ⊎ ((0x61 ≤ b) × (b ≤ 0x66)))
 
--- "Key 1 to 64 bytes as pairs of hex digits, either case."
+-- A key has 1 to 64 bytes, two hex digits of either case for each.
 pub record Key (s : List ℕ) : Type 0 where
   pub bytes : ℕ
   pub pairs : length s ≡ 2 * bytes
@@ -43,7 +43,7 @@ pub record ValidLine (l : Line) : Type 0 where
   pub identity : Identity (l .identity)
   pub key : Key (l .hex)
 
--- "lines `identity:hex`, each ended by one byte 0A"
+-- the bytes of a list of lines, each with its 0A
 abbrev pub text : List Line → List ℕ
 text [] = []
 text (l ∷ ls) = l .identity ++ (colon ∷ (l .hex ++ (lineEnd ∷ text ls)))
@@ -51,7 +51,7 @@ text (l ∷ ls) = l .identity ++ (colon ∷ (l .hex ++ (lineEnd ∷ text ls)))
 abbrev pub identityIn : Line → List ℕ
 identityIn l = l .identity
 
--- "At most 256 lines and 65,536 bytes; no identity twice; two identities may share a key. No bytes at all is well formed."
+-- At most 256 lines and 65,536 bytes, and no identity in two of them; keys may be alike, and there may be no line at all.
 pub record WellFormed (t : List ℕ) : Type 0 where
   pub lines : List Line
   pub is : t ≡ text lines
@@ -65,7 +65,7 @@ abbrev pub Listed : List ℕ → List ℕ → List Line → Type 0
 Listed identity key [] = ⊥
 Listed identity key (l ∷ ls) = ((identity ≡ l .identity) × (key ≡ decoded (l .hex))) ⊎ Listed identity key ls
 
--- Demand 3: "the second's being the first's without one identity's line and otherwise the same". The line is a whole one: it starts the table or
+-- Demand 3: the second table is the first "without one identity's line". The line is a whole one: it starts the table or
 -- follows a 0A, and has none but its last; and the identity is what stands before its colon.
 pub record LineRemoved (identity t t' : List ℕ) : Type 0 where
   pub front : List ℕ

@@ -5,7 +5,6 @@ ghost use Rattle.keytable.specs.Table.{lines, validIdentity, validLine, 
 use crate::classes::Class;
 use crate::classes::all;
 use crate::distinct::distinct;
-use crate::entries::find;
 use crate::entries::line_end;
 use crate::hex::valid_key;
 
@@ -29,7 +28,7 @@ fn valid_identity(s: &[u8]) -> bool
 fn valid_line(l: &[u8]) -> bool
     ensures { λ r. ⌜ r ≡ validLine (now (l .entry)) ⌝ }
 {
-    let at = find(l, 58);
+    let at = bytes::scan::find(l, 0, l.len(), 58);
     if !valid_identity(&l[..at]) {
         return false;
     }

@@ -1,4 +1,4 @@
-// "No identity twice": each line's identity is compared with those of the lines before it. The
+// No identity twice: each line's identity is compared with those of the lines before it. The
 // starts of the lines and a fingerprint of each identity are kept, so that the bytes of two
 // identities are compared only where their fingerprints are equal.
 ghost use mathlib.Core.Path.{_≡_};
@@ -10,7 +10,6 @@ ghost use lib.ListN.{length};
 ghost use Rattle.lists.specs.Lists.{any, distinct, same};
 ghost use Rattle.keytable.specs.Table.{identityOf, lines};
 ghost use Rattle.keytable.specs.Inner.{identityAt, earlier, fingerprint, Kept};
-use crate::entries::find;
 use crate::entries::line_end;
 
 // A number that equal byte strings have alike.
@@ -32,7 +31,7 @@ fn identity_end(table: &[u8], at: usize) -> usize
     ensures { λ r. ⌜ r ≡ at + length (identityAt (now (table .entry)) at) ⌝ }
 {
     let end = line_end(table, at);
-    at + find(&table[at..end], 58)
+    bytes::scan::find(table, at, end, 58)
 }
 
 // Whether the line at `at` has the identity.

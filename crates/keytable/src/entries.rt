@@ -16,26 +16,12 @@ enum Hit {
     Nothing,
 }
 
-// How many bytes stand before the first x, all where there is none.
-pub(crate) fn find(s: &[u8], x: u8) -> usize
-    ensures { λ r. ⌜ r ≡ length (upto x (now (s .entry))) ⌝ }
-{
-    let mut i = 0;
-    while i < s.len() {
-        if s[i] == x {
-            return i;
-        }
-        i += 1;
-    }
-    i
-}
-
 // Where the line ends that starts at `at`.
 pub(crate) fn line_end(table: &[u8], at: usize) -> usize
     requires { ⌜ at ≤ length (now table) ⌝ }
     ensures { λ r. ⌜ r ≡ at + length (upto lineEnd (drop at (now (table .entry)))) ⌝ }
 {
-    at + find(&table[at..], 10)
+    bytes::scan::find(table, at, table.len(), 10)
 }
 
 // The search ends at the first line that matches.

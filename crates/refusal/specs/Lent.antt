@@ -1,5 +1,5 @@
--- What a call that is lent memory answers and leaves there (document 01, "Numbers that come back"): "No refusal writes a byte of lent
--- memory"; "A successful answer of n bytes writes the first n bytes of the output; the rest stays"; R1 last.
+-- What a call that is lent memory answers and leaves there (document 01, "Numbers that come back"): a refusal leaves every byte as it was, an answer
+-- of n bytes stands at the front and the rest stays, and R1 is tested last.
 -- A definition of a message or a key has the type Outcome and holds its tests for R5 or an alert; `Answers` adds the test of the room.
 use mathlib.Core.Path.{_≡_}
 use Prim.Native.Nat.{ℕ}

@@ -4,7 +4,7 @@ use mathlib.Core.Bool.{Bool, true, false}
 use Rattle.refusal.specs.declared.Refusal.{Refusal}
 use Rattle.refusal.specs.declared.Refusal.the-variants.{ShortOutput, BadTable, BadSetting, ConnectionOver, BadValue, UnexpectedMessage, HandshakeFailure, IllegalParameter, DecodeError, DecryptError, ProtocolVersion, UnknownPskIdentity}
 
--- "R numbers go to the host, the others to the client as fatal alerts."
+-- An R number is for the host, and any other for the client, as a fatal alert.
 pub data Receiver : Type 0 where
   host client : Receiver
 

@@ -12,8 +12,8 @@ use Rattle.utf8.specs.declared.Row.{Row}
 abbrev pub leadingOnes : ℕ → ℕ
 leadingOnes b = leadingZeros 8 (255 - b)
 
--- Document 01: "the count of leading one bits in its first byte decides its length: 0 means one byte, 2, 3 or 4 mean that many, anything
--- else is bad". A bad byte begins a character of no bytes, and there is none such.
+-- Document 01: the one bits at the front of the first byte count the bytes of a character, none standing for one byte; 1 and more than 4 are bad. A bad
+-- byte begins a character of no bytes, and there is none such.
 abbrev pub sizeOf : ℕ → ℕ
 sizeOf ones = cond (eqb ones 0) 1 (cond (leb 2 ones && leb ones 4) ones 0)
 

@@ -56,7 +56,7 @@ fn allowed(least: u32, v: u32) -> bool
 
 // The first byte's part of a character of n bytes: its bits of the character number, and the least number
 // that takes so many bytes.
-pub struct Row {
+struct Row {
     bits: u32,
     least: u32,
 }
