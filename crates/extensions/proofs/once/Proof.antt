@@ -50,8 +50,9 @@ said c = c .counted-once .ensures
 
 returns-2 : tie.Need-returns-2 Inv-loop μ-loop
 returns-2 c =
-    let r = c .before .counted-once .result in
-    sym (repeat-part (all (c .before .before .before .before .before .before .before)) (c .before .before .before .loop .part) (sym (said (c .before)) ∙ not-true r (c .if2 .taken)))
+    let turn = c .before .before .before in
+    let bad = sym (said (c .before)) ∙ not-true (c .before .counted-once .result) (c .if2 .taken) in
+    sym (repeat-part (all (turn .before .before .before .before)) (turn .loop .part) bad)
 
 loop-again : tie.Need-loop-again Inv-loop μ-loop
 loop-again c =

@@ -30,7 +30,8 @@ returns-3 c =
     let tail = a .tail .now in
     let out = a .out .now in
     let one : first .last .1 .0 ≡ front head out = copied head out (first .last .1 .0) (first .ensures .1) in
-    let both = put-behind head tail out (first .last .1 .0) (second .last .1 .0) (first .result) one (omega arith) (copied tail _ (second .last .1 .0) (second .ensures .1)) in
+    let two = copied tail _ (second .last .1 .0) (second .ensures .1) in
+    let both = put-behind head tail out (first .last .1 .0) (second .last .1 .0) (first .result) one (omega arith) two in
     wrote (head ++ tail) out _ _ (simp length-append (omega arith)) both (simp length-append (omega arith))
 
 pub two-spec : {M : Type 1} → statement M
