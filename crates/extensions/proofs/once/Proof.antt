@@ -6,13 +6,12 @@ use Prim.Native.Nat.{ℕ, _-_, _≤_, _<_, zero-le}
 use native.Mathlib.Omega.{arith}
 use native.Mathlib.Decide.{ℕ-discrete}
 use mathlib.Core.Path.{_≡_, refl, sym, ap, _∙_}
-use mathlib.Core.Bool.{Bool, true, false}
+use mathlib.Core.Bool.{Bool, true}
 use mathlib.Core.List.{List}
-use mathlib.Core.Option.{Option, some}
-use lib.ListN.{getD}
+use mathlib.Core.Option.{Option}
 use Rattle.endian.specs.Number.{Bytes}
 use Rattle.extensions.specs.Extensions.{Ext, extensionsIn}
-use Rattle.extensions.specs.Parts.{partOnce, countIn, tallied}
+use Rattle.extensions.specs.Parts.{partOnce, tallied}
 use Rattle.extensions.proofs.Flags.{cut-once, once-parts, repeat-part}
 use Rattle.extensions.proofs.once.Statement.{statement}
 use Rattle.extensions.proofs.once.Tie as tie

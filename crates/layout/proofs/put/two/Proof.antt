@@ -4,7 +4,7 @@ use borrow.Author.Needs.{needs}
 use native.Mathlib.Omega.{arith}
 use mathlib.Core.Path.{_≡_}
 use mathlib.Core.List.{_++_}
-use lib.ListN.{length, length-append}
+use lib.ListN.{length-append}
 use Rattle.refusal.proofs.Laws.{short}
 use Rattle.layout.proofs.Puts.{front, copied, put-behind, wrote}
 use Rattle.layout.proofs.put.two.Statement.{statement}
