@@ -15,6 +15,7 @@ use borrow.Author.Tests.{le-leb, lt-leb, lt-ltb, ltb-true, eq-eqb, eqb-true}
 use Rattle.endian.specs.Number.{Bytes, be, number}
 use Rattle.endian.specs.Vector.{vector, writable, stated}
 use Rattle.endian.proofs.Numbers.{number-be-lt, number-lt, be-number-at, bytes-take, bytes-drop}
+use Rattle.extensions.specs.declared.Step.{Step}
 use Rattle.extensions.specs.declared.Step.the-variants.{Extension, End, Refused}
 use Rattle.layout.specs.Place.{endAt}
 use Rattle.extensions.specs.Extensions.{Ext, extensionBytes, blockBytes, first, firstEnd, adding, extensionsUpTo, extensionsIn, ticketShape, ticketsShaped, stepAt}
@@ -94,44 +95,51 @@ kind-small b at h inside =
     let two : length (take 2 (drop at b)) ≡ 2 = length-take-le 2 (drop at b) (simp length-drop (omega arith)) in
     rw two at (number-lt (take 2 (drop at b)) (bytes-take 2 (drop at b) (bytes-drop at b h)))
 
+-- a step by cases: what holds at the end, of a whole extension and of one that is cut off holds of what stands there
+by-step : (b : List ℕ) (at : ℕ) (Holds : Step → Type 0) → (length b ≤ at → Holds End)
+    → (at < length b → endAt 2 b (at + 2) ≤ length b → Holds (Extension (number (take 2 (drop at b))) (at + 4) (stated 2 (drop (at + 2) b))))
+    → (at < length b → length b < endAt 2 b (at + 2) → Holds Refused) → Holds (stepAt b at)
+by-step b at Holds end whole cut = elim (decLe (length b) at) [
+  | yes over ↦ rw (le-leb (length b) at over) (end over)
+  | no more ↦
+      let there : at < length b = omega arith in
+      elim (decLe (endAt 2 b (at + 2)) (length b)) [
+        | yes fits ↦ rw (lt-leb (length b) at there, le-leb (endAt 2 b (at + 2)) (length b) fits) (whole there fits)
+        | no past ↦
+            let long : length b < endAt 2 b (at + 2) = omega arith in
+            rw (lt-leb (length b) at there, lt-leb (endAt 2 b (at + 2)) (length b) long) (cut there long)
+      ]
+]
+
+-- two answers that are never the same
+clash : _≡_ {A = ℕ} 0 1 → ⊥
+clash z = omega arith
+
 -- the steps, from what they answer
 pub step-found : (b : List ℕ) (at t s n : ℕ) → stepAt b at ≡ Extension t s n → Found b at t s n
-step-found b at t s n e = go (decLe (length b) at) (decLe (endAt 2 b (at + 2)) (length b))
-  where
-    go : Dec (length b ≤ at) → Dec (endAt 2 b (at + 2) ≤ length b) → Found b at t s n
-    go (yes over) d = absurd (let z : _≡_ {A = ℕ} 0 1 = cc (rw (le-leb (length b) at over) at e) in omega arith)
-    go (no more) (no cut) =
-        absurd (let z : _≡_ {A = ℕ} 0 1 = cc (rw (lt-leb (length b) at (omega arith), lt-leb (endAt 2 b (at + 2)) (length b) (omega arith)) at e) in omega arith)
-    go (no more) (yes fits) =
-        let there = rw (lt-leb (length b) at (omega arith), le-leb (endAt 2 b (at + 2)) (length b) fits) at e in
-        let kind : number (take 2 (drop at b)) ≡ t = cc there in
-        let start : at + 4 ≡ s = cc there in
-        let size : stated 2 (drop (at + 2) b) ≡ n = cc there in
-        record {
-          ahead = omega arith;
-          inside = omega arith;
-          small = λ h. rw (← kind) (kind-small b at h (omega arith));
-          left = rw (← kind, ← start, ← size) (step-there b at (omega arith) fits);
-        }
+step-found b at t s n =
+    by-step b at (λ p. p ≡ Extension t s n → Found b at t s n) (λ over e. absurd (clash (cc e)))
+    (λ more fits e.
+    let kind : number (take 2 (drop at b)) ≡ t = cc e in
+    let start : at + 4 ≡ s = cc e in
+    let size : stated 2 (drop (at + 2) b) ≡ n = cc e in
+    record {
+      ahead = omega arith;
+      inside = omega arith;
+      small = λ h. rw (← kind) (kind-small b at h (omega arith));
+      left = rw (← kind, ← start, ← size) (step-there b at more fits);
+    })
+    (λ more long e. absurd (clash (cc e)))
 
 pub step-ended : (b : List ℕ) (at : ℕ) → stepAt b at ≡ End → extensionsIn (drop at b) ≡ some []
-step-ended b at e = go (decLe (length b) at) (decLe (endAt 2 b (at + 2)) (length b))
-  where
-    go : Dec (length b ≤ at) → Dec (endAt 2 b (at + 2) ≤ length b) → extensionsIn (drop at b) ≡ some []
-    go (yes over) d = at-end b at over
-    go (no more) (no cut) =
-        absurd (let z : _≡_ {A = ℕ} 0 1 = cc (rw (lt-leb (length b) at (omega arith), lt-leb (endAt 2 b (at + 2)) (length b) (omega arith)) at e) in omega arith)
-    go (no more) (yes fits) =
-        absurd (let z : _≡_ {A = ℕ} 0 1 = cc (rw (lt-leb (length b) at (omega arith), le-leb (endAt 2 b (at + 2)) (length b) fits) at e) in omega arith)
+step-ended b at =
+    by-step b at (λ p. p ≡ End → extensionsIn (drop at b) ≡ some []) (λ over e. at-end b at over) (λ more fits e. absurd (clash (cc e)))
+    (λ more long e. absurd (clash (cc e)))
 
 pub step-refused : (b : List ℕ) (at : ℕ) → stepAt b at ≡ Refused → extensionsIn (drop at b) ≡ none
-step-refused b at e = go (decLe (length b) at) (decLe (endAt 2 b (at + 2)) (length b))
-  where
-    go : Dec (length b ≤ at) → Dec (endAt 2 b (at + 2) ≤ length b) → extensionsIn (drop at b) ≡ none
-    go (yes over) d = absurd (let z : _≡_ {A = ℕ} 0 1 = cc (rw (le-leb (length b) at over) at e) in omega arith)
-    go (no more) (no cut) = step-cut b at (omega arith) (omega arith)
-    go (no more) (yes fits) =
-        absurd (let z : _≡_ {A = ℕ} 0 1 = cc (rw (lt-leb (length b) at (omega arith), le-leb (endAt 2 b (at + 2)) (length b) fits) at e) in omega arith)
+step-refused b at =
+    by-step b at (λ p. p ≡ Refused → extensionsIn (drop at b) ≡ none) (λ over e. absurd (clash (cc e))) (λ more fits e. absurd (clash (cc e)))
+    (λ more long e. step-cut b at more long)
 
 pub shaped-adding : (e : Ext) (o : Option (List Ext)) → ticketsShaped (adding e o) ≡ (ticketShape e && ticketsShaped o)
 shaped-adding e none = sym (and-false (ticketShape e))

@@ -9,7 +9,6 @@ use native.Mathlib.Decide.{ℕ-discrete}
 use mathlib.Core.Bool.{Bool, true, false, not, _&&_, cond, and-false, and-eq-true-iff}
 use mathlib.Core.List.{List, [], _∷_}
 use mathlib.Core.Option.{Option, none, some, Option·none-ne-some}
-use mathlib.Core.Logic.{_≢_}
 use lib.ListN.{length, getD, set, replicate, length-set, length-replicate}
 use lib.Seq.{getD-set-same, getD-set-other}
 use lib.Dec.{eqb, ltb}
@@ -22,7 +21,7 @@ use Rattle.extensions.proofs.Bits.{set-same, set-other}
 use Rattle.extensions.proofs.Blocks.{writableExt, allWritable, block-in}
 
 -- the bit of a type, and the words with that bit set
-abbrev pub bitOf : List ℕ → ℕ → ℕ
+abbrev bitOf : List ℕ → ℕ → ℕ
 bitOf words t = getD words (t / 64 % 128) 0 / 2 ^ (t % 64) % 2
 
 abbrev pub marked : List ℕ → ℕ → List ℕ
@@ -153,7 +152,7 @@ count-none p none = refl
 count-none p (some es) = ap some (omega (arith, untouched 8 p))
 
 -- one more is counted
-abbrev pub counting : List ℕ → ℕ → List ℕ
+abbrev counting : List ℕ → ℕ → List ℕ
 counting counts t = set counts (t / 8192) (getD counts (t / 8192) 0 + 1)
 
 pub count-next : (counts : List ℕ) (p : ℕ) (e : Ext) (o : Option (List Ext)) → e .kind / 8192 < length counts

@@ -104,9 +104,8 @@ fn put_front(
     let n = endian::bytes24(body_len);
     let v = endian::bytes16(version);
     let head = [kind, n[0], n[1], n[2], v[0], v[1]];
-    let next = put::at(&head, out, 0);
-    let behind = put::at(random, out, next);
-    put::vector8(session_id, out, behind)
+    let size = [session_id.len() as u8];
+    put::four(&head, random, &size, session_id, out, 0)
 }
 
 // The block at its place, if there is one.

@@ -1,6 +1,6 @@
 // Writing the parts of a hello front to back.
 ghost use mathlib.Core.Path.{_≡_};
-ghost use Prim.Native.Nat.{_+_, _≤_, _<_};
+ghost use Prim.Native.Nat.{_+_, _≤_};
 ghost use lib.ListN.{length};
 ghost use lib.Seq.{paste};
 ghost use Rattle.endian.specs.Vector.{vector};
@@ -14,17 +14,6 @@ pub(crate) fn at(part: &[u8], out: &mut [u8], place: usize) -> usize
 {
     let n = bytes::copy(part, &mut out[place..]);
     place + n
-}
-
-// A vector with a one-byte length at its place.
-pub(crate) fn vector8(contents: &[u8], out: &mut [u8], place: usize) -> usize
-    requires { ⌜ (length (now contents) < 256) × (place + length (vector 1 (now contents)) ≤ length (now out)) ⌝ }
-    ensures { λ r. ⌜ r ≡ place + length (vector 1 (now (contents .entry))) ⌝ }
-    ensures { λ r. ⌜ now (out .exit) ≡ paste (now (out .entry)) place (vector 1 (now (contents .entry))) (length (vector 1 (now (contents .entry)))) ⌝ }
-{
-    let size = [contents.len() as u8];
-    let next = at(&size, out, place);
-    at(contents, out, next)
 }
 
 // A vector with a two-byte length at its place.

@@ -24,29 +24,31 @@ returns-2 c =
     rw (lt-leb (length (a .block .now)) (a .at) (c .before .if1 .left), lt-leb (endAt 2 (a .block .now) (a .at + 2)) (length (a .block .now)) (omega arith))
 
 -- what the first number16 gave is the extension's type
-kind-is : (c : tie.After-number16) → number (take 2 (drop (c .before .before .before .before .before .before .args .at) (c .before .before .before .before .before .before .args .block .now))) ≡ c .number16 .result
+kind-is : (c : tie.After-number16) → let a = c .before .before .before .before .before .before .args in number (take 2 (drop (a .at) (a .block .now))) ≡ c .number16 .result
 kind-is c =
     let a = c .before .before .before .before .before .before .args in
     stated-window 2 (a .at) (a .block .now) (omega arith) ∙ rw (← add-one (a .at)) (sym (c .number16 .ensures))
 
 -- what the second gave is its length
-size-is : (c : tie.After-number162) → stated 2 (drop (c .before .before .before .before .before .before .before .before .before .args .at + 2) (c .before .before .before .before .before .before .before .before .before .args .block .now)) ≡ c .number162 .result
+size-is : (c : tie.After-number162) → let a = c .before .before .before .before .before .before .before .before .before .args in stated 2 (drop (a .at + 2) (a .block .now)) ≡ c .number162 .result
 size-is c =
     let a = c .before .before .before .before .before .before .before .before .before .args in
     stated-window 2 (a .at + 2) (a .block .now) (omega arith) ∙ rw (← add-one (a .at + 2), add-assoc) (sym (c .number162 .ensures))
 
 returns-3 : tie.Need-returns-3
 returns-3 c =
-    let a = c .before .before .before .before .before .before .before .before .before .before .args in
+    let tested = c .before .before .before .before .before .before .before .before in
+    let a = tested .before .before .args in
     let e = size-is (c .before) in
-    rw (lt-leb (length (a .block .now)) (a .at) (c .before .before .before .before .before .before .before .before .if1 .left), lt-leb (endAt 2 (a .block .now) (a .at + 2)) (length (a .block .now)) (omega arith))
+    rw (lt-leb (length (a .block .now)) (a .at) (tested .if1 .left), lt-leb (endAt 2 (a .block .now) (a .at + 2)) (length (a .block .now)) (omega arith))
 
 returns-4 : tie.Need-returns-4
 returns-4 c =
-    let a = c .before .before .before .before .before .before .before .before .before .before .args in
+    let tested = c .before .before .before .before .before .before .before .before in
+    let a = tested .before .before .args in
     let e = size-is (c .before) in
     rw (
-      lt-leb (length (a .block .now)) (a .at) (c .before .before .before .before .before .before .before .before .if1 .left),
+      lt-leb (length (a .block .now)) (a .at) (tested .if1 .left),
       le-leb (endAt 2 (a .block .now) (a .at + 2)) (length (a .block .now)) (omega arith),
       kind-is (c .before .before .before .before),
       e,

@@ -6,13 +6,12 @@ use Prim.Native.Nat.{ℕ, _-_, _≤_, _<_, zero-le}
 use native.Mathlib.Omega.{arith}
 use native.Mathlib.Decide.{ℕ-discrete}
 use mathlib.Core.Path.{_≡_, refl, sym, ap, _∙_}
-use mathlib.Core.Bool.{Bool, true, false}
+use mathlib.Core.Bool.{Bool, true}
 use mathlib.Core.List.{List}
-use mathlib.Core.Option.{Option, some}
-use lib.ListN.{getD}
+use mathlib.Core.Option.{Option}
 use Rattle.endian.specs.Number.{Bytes}
 use Rattle.extensions.specs.Extensions.{Ext, extensionsIn}
-use Rattle.extensions.specs.Parts.{partOnce, countIn, tallied}
+use Rattle.extensions.specs.Parts.{partOnce, tallied}
 use Rattle.extensions.proofs.Flags.{cut-once, once-parts, repeat-part}
 use Rattle.extensions.proofs.once.Statement.{statement}
 use Rattle.extensions.proofs.once.Tie as tie
@@ -50,8 +49,9 @@ said c = c .counted-once .ensures
 
 returns-2 : tie.Need-returns-2 Inv-loop μ-loop
 returns-2 c =
-    let r = c .before .counted-once .result in
-    sym (repeat-part (all (c .before .before .before .before .before .before .before)) (c .before .before .before .loop .part) (sym (said (c .before)) ∙ not-true r (c .if2 .taken)))
+    let turn = c .before .before .before in
+    let bad = sym (said (c .before)) ∙ not-true (c .before .counted-once .result) (c .if2 .taken) in
+    sym (repeat-part (all (turn .before .before .before .before)) (turn .loop .part) bad)
 
 loop-again : tie.Need-loop-again Inv-loop μ-loop
 loop-again c =

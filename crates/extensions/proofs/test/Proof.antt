@@ -9,7 +9,9 @@ returns : tie.Need-returns
 returns c = rw (← c .before .once .ensures, not-true (c .before .once .result) (c .if1 .taken))
 
 returns-2 : tie.Need-returns-2
-returns-2 c = rw (← c .before .before .before .once .ensures, not-false (c .before .before .before .once .result) (c .before .before .if1 .left), c .before .if2 .taken) (c .all-shaped .ensures)
+returns-2 c =
+    let once = c .before .before .before .once in
+    rw (← once .ensures, not-false (once .result) (c .before .before .if1 .left), c .before .if2 .taken) (c .all-shaped .ensures)
 
 returns-3 : tie.Need-returns-3
 returns-3 c = rw (← c .before .before .once .ensures, not-false (c .before .before .once .result) (c .before .if1 .left), c .if2 .left)

@@ -12,7 +12,8 @@ use Rattle.hellos.proofs.client_hello.behind_session.Tie as tie
 behind-suites-requires : tie.Need-behind-suites-requires
 behind-suites-requires c κs =
     let a = c .before .before .before .before .before .args in
-    let i = ruled-inside suitesLength 2 (a .message .now) (a .start + a .session-len) _ _ (sym (c .before .before .before .suites .ensures) ∙ c .before .suites-start .given .1) in
+    let found = sym (c .before .before .before .suites .ensures) ∙ c .before .suites-start .given .1 in
+    let i = ruled-inside suitesLength 2 (a .message .now) (a .start + a .session-len) _ _ found in
     (omega arith, i .1)
 
 returns : tie.Need-returns

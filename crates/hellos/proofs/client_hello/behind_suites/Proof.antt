@@ -12,29 +12,34 @@ use Rattle.hellos.proofs.client_hello.behind_suites.Statement.{statemen
 use Rattle.hellos.proofs.client_hello.behind_suites.Tie as tie
 
 -- where the compression methods stand
-inside : (c : tie.After-known-told)
-    → (c .before .start .given .0 .0 ≡ c .before .before .before .before .before .args .suites-start + c .before .before .before .before .before .args .suites-len + 1)
-    × (c .before .start .given .0 .0 + c .before .start .given .0 .1 .0 ≤ length (c .before .before .before .before .before .args .message .now))
+inside : (c : tie.After-known-told) →
+    let a = c .before .before .before .before .before .args in
+    let g = c .before .start .given .0 in
+    (g .0 ≡ a .suites-start + a .suites-len + 1) × (g .0 + g .1 .0 ≤ length (a .message .now))
 inside c =
-    ruled-inside methodsLength 1 (c .before .before .before .before .before .args .message .now) _ _ _ (sym (c .before .before .before .methods .ensures) ∙ c .before .start .given .1)
+    let m = c .before .before .before .before .before .args .message .now in
+    ruled-inside methodsLength 1 m _ _ _ (sym (c .before .before .before .methods .ensures) ∙ c .before .start .given .1)
 
 add-tail : tie.Need-add-tail
 add-tail c = record { fits = omega (arith, inside c) }
 
 returns : tie.Need-returns
 returns c =
+    let known = c .before .before .before .before .before .before .before in
+    let found = known .before in
     rw (
-      ← c .before .before .before .before .before .before .before .before .before .before .methods .ensures,
-      c .before .before .before .before .before .before .before .before .start .given .1,
+      ← found .before .before .methods .ensures,
+      found .start .given .1,
       ← c .before .before .before .before .before .before .tail .ensures,
       c .before .before .before .before .block .given .1,
-      stated-window 2 4 (c .before .before .before .before .before .before .before .before .before .before .before .before .args .message .now) (omega (arith, inside (c .before .before .before .before .before .before .before))),
+      stated-window 2 4 (known .before .before .before .before .before .args .message .now) (omega (arith, inside known)),
       ← c .number16 .ensures,
     )
 
 returns-2 : tie.Need-returns-2
 returns-2 c =
-    rw (← c .before .before .before .before .before .before .methods .ensures, c .before .before .before .before .start .given .1, ← c .before .before .tail .ensures, c .enum-told .given .1)
+    let found = c .before .before .before .before in
+    rw (← found .before .before .methods .ensures, found .start .given .1, ← c .before .before .tail .ensures, c .enum-told .given .1)
 
 returns-3 : tie.Need-returns-3
 returns-3 c = rw (← c .before .before .methods .ensures, c .enum-told2 .given .1)

@@ -9,7 +9,8 @@ use Rattle.hellos.proofs.client_hello.read_body.Tie as tie
 
 behind-session-requires : tie.Need-behind-session-requires
 behind-session-requires c κs =
-    ruled-inside (λ n. leb n 32) 1 (c .before .before .before .before .before .args .message .now) 38 _ _ (sym (c .before .before .before .session-id .ensures) ∙ c .before .start .given .1)
+    let m = c .before .before .before .before .before .args .message .now in
+    ruled-inside (λ n. leb n 32) 1 m 38 _ _ (sym (c .before .before .before .session-id .ensures) ∙ c .before .start .given .1)
 
 returns : tie.Need-returns
 returns c = rw (← c .before .before .before .before .session-id .ensures, c .before .before .start .given .1) (c .behind-session .ensures)

@@ -7,17 +7,21 @@ use Rattle.hellos.proofs.client_hello.suites.Statement.{statement}
 use Rattle.hellos.proofs.client_hello.suites.Tie as tie
 
 returns : tie.Need-returns
-returns c = rw (← c .before .before .before .before .part16 .ensures, c .before .before .start .given .1, lt-leb 2 (c .before .before .start .given .0 .1 .0) (c .if1 .taken))
+returns c =
+    let found = c .before .before in
+    rw (← found .before .before .part16 .ensures, found .start .given .1, lt-leb 2 (found .start .given .0 .1 .0) (c .if1 .taken))
 
 returns-2 : tie.Need-returns-2
 returns-2 c =
-    let n = c .before .before .before .start .given .0 .1 .0 in
-    rw (← c .before .before .before .before .before .part16 .ensures, c .before .before .before .start .given .1, le-leb 2 n (c .before .if1 .left), ne-eqb (n % 2) 0 (c .if2 .taken))
+    let found = c .before .before .before in
+    let n = found .start .given .0 .1 .0 in
+    rw (← found .before .before .part16 .ensures, found .start .given .1, le-leb 2 n (c .before .if1 .left), ne-eqb (n % 2) 0 (c .if2 .taken))
 
 returns-3 : tie.Need-returns-3
 returns-3 c =
-    let n = c .before .before .before .start .given .0 .1 .0 in
-    rw (← c .before .before .before .before .before .part16 .ensures, c .before .before .before .start .given .1, le-leb 2 n (c .before .if1 .left), eq-eqb (n % 2) 0 (c .if2 .left))
+    let found = c .before .before .before in
+    let n = found .start .given .0 .1 .0 in
+    rw (← found .before .before .part16 .ensures, found .start .given .1, le-leb 2 n (c .before .if1 .left), eq-eqb (n % 2) 0 (c .if2 .left))
 
 returns-4 : tie.Need-returns-4
 returns-4 c = rw (← c .before .before .part16 .ensures, c .enum-told .given .1)

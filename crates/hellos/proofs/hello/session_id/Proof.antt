@@ -6,10 +6,14 @@ use Rattle.hellos.proofs.hello.session_id.Statement.{statement}
 use Rattle.hellos.proofs.hello.session_id.Tie as tie
 
 returns : tie.Need-returns
-returns c = rw (← c .before .before .before .before .part8 .ensures, c .before .before .start .given .1, lt-leb (c .before .before .start .given .0 .1 .0) 32 (c .if1 .taken))
+returns c =
+    let found = c .before .before in
+    rw (← found .before .before .part8 .ensures, found .start .given .1, lt-leb (found .start .given .0 .1 .0) 32 (c .if1 .taken))
 
 returns-2 : tie.Need-returns-2
-returns-2 c = rw (← c .before .before .before .before .part8 .ensures, c .before .before .start .given .1, le-leb (c .before .before .start .given .0 .1 .0) 32 (c .if1 .left))
+returns-2 c =
+    let found = c .before .before in
+    rw (← found .before .before .part8 .ensures, found .start .given .1, le-leb (found .start .given .0 .1 .0) 32 (c .if1 .left))
 
 returns-3 : tie.Need-returns-3
 returns-3 c = rw (← c .before .before .part8 .ensures, c .enum-told .given .1)

@@ -13,11 +13,13 @@ use Rattle.layout.proofs.place.last16.Statement.{statement}
 use Rattle.layout.proofs.place.last16.Tie as tie
 
 -- what part16 found
-found : (c : tie.After-known-told)
-    → (endAt 2 (c .before .before .before .before .before .args .message .now) (c .before .before .before .before .before .args .at) ≤ length (c .before .before .before .before .before .args .message .now))
-    × (c .before .start .given .0 .0 ≡ c .before .before .before .before .before .args .at + 2)
-    × (c .before .start .given .0 .1 .0 ≡ stated 2 (drop (c .before .before .before .before .before .args .at) (c .before .before .before .before .before .args .message .now)))
-found c = part-there 2 (c .before .before .before .before .before .args .message .now) (c .before .before .before .before .before .args .at) _ _ (sym (c .before .before .before .part16 .ensures) ∙ c .before .start .given .1)
+found : (c : tie.After-known-told) →
+    let a = c .before .before .before .before .before .args in
+    let g = c .before .start .given .0 in
+    (endAt 2 (a .message .now) (a .at) ≤ length (a .message .now)) × (g .0 ≡ a .at + 2) × (g .1 .0 ≡ stated 2 (drop (a .at) (a .message .now)))
+found c =
+    let a = c .before .before .before .before .before .args in
+    part-there 2 (a .message .now) (a .at) _ _ (sym (c .before .before .before .part16 .ensures) ∙ c .before .start .given .1)
 
 add-if1 : tie.Need-add-if1
 add-if1 c = record { fits = omega (arith, found c) }

@@ -20,8 +20,9 @@ cast-len : tie.Need-cast-len
 cast-len c = omega (arith, c .shared-slice-known .given (c .before .before .args .at))
 
 -- the byte is the vector's length
-said : (c : tie.After-shared-slice-known)
-    → stated 1 (drop (c .before .before .args .at) (c .before .before .args .message .now)) ≡ getD (c .before .before .args .message .now) (c .before .before .args .at) 0
+said : (c : tie.After-shared-slice-known) →
+    let a = c .before .before .args in
+    stated 1 (drop (a .at) (a .message .now)) ≡ getD (a .message .now) (a .at) 0
 said c = let a = c .before .before .args in stated-window 1 (a .at) (a .message .now) (omega arith) ∙ (omega arith)
 
 returns-2 : tie.Need-returns-2

@@ -4,7 +4,7 @@ use borrow.Author.Needs.{needs}
 use native.Mathlib.Omega.{arith}
 use mathlib.Core.Path.{_≡_}
 use mathlib.Core.List.{_++_}
-use lib.ListN.{length, length-append}
+use lib.ListN.{length-append}
 use Rattle.refusal.proofs.Laws.{short}
 use Rattle.layout.proofs.Puts.{front, copied, put-behind, wrote}
 use Rattle.layout.proofs.put.two.Statement.{statement}
@@ -30,7 +30,8 @@ returns-3 c =
     let tail = a .tail .now in
     let out = a .out .now in
     let one : first .last .1 .0 ≡ front head out = copied head out (first .last .1 .0) (first .ensures .1) in
-    let both = put-behind head tail out (first .last .1 .0) (second .last .1 .0) (first .result) one (omega arith) (copied tail _ (second .last .1 .0) (second .ensures .1)) in
+    let two = copied tail _ (second .last .1 .0) (second .ensures .1) in
+    let both = put-behind head tail out (first .last .1 .0) (second .last .1 .0) (first .result) one (omega arith) two in
     wrote (head ++ tail) out _ _ (simp length-append (omega arith)) both (simp length-append (omega arith))
 
 pub two-spec : {M : Type 1} → statement M

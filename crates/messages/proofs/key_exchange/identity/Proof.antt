@@ -1,25 +1,29 @@
 -- `messages::key_exchange::identity`: the place that read_identity found lies inside the message, and its bytes are the identity.
 -- Assumes nothing.
 use borrow.Author.Needs.{needs}
-use Prim.Native.Nat.{_+_}
+use Prim.Native.Nat.{ℕ, _+_}
 use native.Mathlib.Nat.{add-sub-cancel-left}
 use native.Mathlib.Omega.{arith}
 use mathlib.Core.Path.{_≡_, sym, _∙_}
+use mathlib.Core.List.{List}
 use lib.ListN.{length}
+use Rattle.layout.specs.Types.{clientKeyExchangeType}
 use Rattle.layout.specs.declared.Part.the-variants.{At}
 use Rattle.messages.specs.KeyExchange.{vectorPlace}
 use Rattle.layout.proofs.Places.{last-inside}
 use Rattle.messages.proofs.key_exchange.identity.Statement.{statement}
 use Rattle.messages.proofs.key_exchange.identity.Tie as tie
 
+abbrev message : tie.After-known-told → List ℕ
+message c = c .before .before .before .before .before .args .message .now
+
 -- where the identity stands
-found : (c : tie.After-known-told)
-    → vectorPlace 16 (c .before .before .before .before .before .args .message .now) ≡ At (c .before .start .given .0 .0) (c .before .start .given .0 .1 .0)
+found : (c : tie.After-known-told) → vectorPlace clientKeyExchangeType (message c) ≡ At (c .before .start .given .0 .0) (c .before .start .given .0 .1 .0)
 found c = sym (c .before .before .before .read-identity .ensures) ∙ c .before .start .given .1
 
 -- it ends where the message does
-inside : (c : tie.After-known-told) → c .before .start .given .0 .0 + c .before .start .given .0 .1 .0 ≡ length (c .before .before .before .before .before .args .message .now)
-inside c = last-inside 16 (c .before .before .before .before .before .args .message .now) 4 _ _ (found c) .1
+inside : (c : tie.After-known-told) → c .before .start .given .0 .0 + c .before .start .given .0 .1 .0 ≡ length (message c)
+inside c = last-inside clientKeyExchangeType (message c) 4 _ _ (found c) .1
 
 add-result : tie.Need-add-result
 add-result c = record { fits = omega (arith, inside c) }

@@ -30,10 +30,12 @@ returns c =
 
 returns-2 : tie.Need-returns-2
 returns-2 c =
-    let a = c .before .before .before .before .before .before .before .before .before .before .args in
+    let at-size = c .before .before .before .before .before in
+    let at-body = at-size .before in
+    let a = at-body .before .before .before .before .args in
     let xs = a .contents .now in
-    let all : bytes (vectorMessage (a .kind)) xs ≡ head (a .kind) (c .before .before .before .before .before .before .bytes24 .result) (c .before .before .before .before .before .bytes16 .result) ++ xs =
-    head-is (a .kind) xs _ _ (c .before .before .before .before .before .before .bytes24 .ensures) (c .before .before .before .before .before .bytes16 .ensures) in
+    let all : bytes (vectorMessage (a .kind)) xs ≡ head (a .kind) (at-body .bytes24 .result) (at-size .bytes16 .result) ++ xs =
+    head-is (a .kind) xs _ _ (at-body .bytes24 .ensures) (at-size .bytes16 .ensures) in
     writes (vectorMessage (a .kind)) xs (a .out .now) _ _ (vector-valid (a .kind) xs (omega arith)) (rw all (c .before .before .two .ensures))
 
 pub write-spec : {M : Type 1} → statement M

@@ -1,10 +1,12 @@
 -- `messages::ticket::read`: the ticket that was found starts behind the lifetime hint, whose four bytes are therefore there.
 -- Assumes nothing.
 use borrow.Author.Needs.{needs}
-use Prim.Native.Nat.{_≤_}
+use Prim.Native.Nat.{ℕ, _≤_}
 use native.Mathlib.Omega.{arith}
 use mathlib.Core.Path.{_≡_, sym, _∙_}
+use mathlib.Core.List.{List}
 use lib.ListN.{length}
+use Rattle.layout.specs.Types.{newSessionTicketType}
 use Rattle.layout.specs.declared.Part.the-variants.{At}
 use Rattle.layout.specs.Header.{header}
 use Rattle.layout.specs.Place.{lastAt, afterHeader}
@@ -13,15 +15,17 @@ use Rattle.lists.proofs.Parts.{take-window}
 use Rattle.messages.proofs.ticket.read.Statement.{statement}
 use Rattle.messages.proofs.ticket.read.Tie as tie
 
+abbrev message : tie.After-known-told → List ℕ
+message c = c .before .before .before .before .before .args .message .now
+
 -- where the ticket stands
 found : (c : tie.After-known-told)
-    → afterHeader (header 4 (c .before .before .before .before .before .args .message .now)) (lastAt 2 (c .before .before .before .before .before .args .message .now) 8)
-    ≡ At (c .before .start .given .0 .0) (c .before .start .given .0 .1 .0)
+    → afterHeader (header newSessionTicketType (message c)) (lastAt 2 (message c) 8) ≡ At (c .before .start .given .0 .0) (c .before .start .given .0 .1 .0)
 found c = sym (c .before .before .before .last16-of .ensures) ∙ c .before .start .given .1
 
 -- it starts behind the lifetime hint
-inside : (c : tie.After-known-told) → 10 ≤ length (c .before .before .before .before .before .args .message .now)
-inside c = let i = last-inside 4 (c .before .before .before .before .before .args .message .now) 8 _ _ (found c) in omega arith
+inside : (c : tie.After-known-told) → 10 ≤ length (message c)
+inside c = let i = last-inside newSessionTicketType (message c) 8 _ _ (found c) in omega arith
 
 shared-slice-read-number32 : tie.Need-shared-slice-read-number32
 shared-slice-read-number32 c = omega (arith, inside (c .before))
@@ -37,7 +41,8 @@ shared-slice-read-number32-4 c = omega (arith, inside (c .before .before .before
 
 returns : tie.Need-returns
 returns c =
-    rw (found (c .before .before .before .before .before), take-window 4 4 (c .before .before .before .before .before .before .before .before .before .before .args .message .now) (omega (arith, inside (c .before .before .before .before .before))), ← c .number32 .ensures)
+    let known = c .before .before .before .before .before in
+    rw (found known, take-window 4 4 (message known) (omega (arith, inside known)), ← c .number32 .ensures)
 
 returns-2 : tie.Need-returns-2
 returns-2 c = rw (← c .before .before .last16-of .ensures, c .enum-told .given .1)

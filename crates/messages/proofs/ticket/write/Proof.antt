@@ -37,14 +37,18 @@ returns c =
 
 returns-2 : tie.Need-returns-2
 returns-2 c =
-    let a = c .before .before .before .before .before .before .before .before .before .before .before .args in
+    let at-size = c .before .before .before .before .before in
+    let at-hint = at-size .before in
+    let at-body = at-hint .before in
+    let s = at-body .before .before .before .before in
+    let a = s .args in
     let xs = a .ticket .now in
     let f = fields (a .lifetime-hint) xs in
-    let small : a .lifetime-hint < 4294967296 = c .before .before .before .before .before .before .before .before .before .before .before .fits .lifetime-hint .fits in
+    let small : a .lifetime-hint < 4294967296 = s .fits .lifetime-hint .fits in
     let ok : valid newSessionTicket f ≡ true =
     valid-within newSessionTicket f (rw (lt-ltb (a .lifetime-hint) 4294967296 small, lt-ltb (length xs) 65536 (omega arith))) (omega arith) in
-    let all : bytes newSessionTicket f ≡ head (c .before .before .before .before .before .before .before .bytes24 .result) (c .before .before .before .before .before .before .bytes32 .result) (c .before .before .before .before .before .bytes16 .result) ++ xs =
-    head-is (a .lifetime-hint) xs _ _ _ (c .before .before .before .before .before .before .before .bytes24 .ensures) (c .before .before .before .before .before .before .bytes32 .ensures) (c .before .before .before .before .before .bytes16 .ensures) in
+    let all : bytes newSessionTicket f ≡ head (at-body .bytes24 .result) (at-hint .bytes32 .result) (at-size .bytes16 .result) ++ xs =
+    head-is (a .lifetime-hint) xs _ _ _ (at-body .bytes24 .ensures) (at-hint .bytes32 .ensures) (at-size .bytes16 .ensures) in
     writes newSessionTicket f (a .out .now) _ _ ok (rw all (c .before .before .two .ensures))
 
 pub write-spec : {M : Type 1} → statement M
