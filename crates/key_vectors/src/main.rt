@@ -22,7 +22,8 @@ fn print_said(said: Written, out: &[u8]) {
     lines::text(b"\n");
 }
 
-fn print_name(kind: u8) {
+// The start of a line; answers how long it is.
+fn print_name(kind: u8) -> usize {
     match kind {
         1 => lines::text(b"hmac "),
         6 => lines::text(b"premaster "),
@@ -31,7 +32,6 @@ fn print_name(kind: u8) {
         9 | 10 => lines::text(b"finished "),
         _ => lines::text(b"prf "),
     }
-    ;
 }
 
 fn label(kind: u8) -> Label {
