@@ -12,7 +12,7 @@ use Rattle.server.specs.declared.Rule.{Rule}
 use Rattle.server.specs.declared.Phase.{Phase}
 use Rattle.server.specs.declared.Connection.{Connection}
 use Rattle.server.specs.Connection.{Settings, ruleOf, acceptable, started, ended}
-use Rattle.server.specs.Steps.{View, viewOf}
+use Rattle.server.specs.KeyExchange.{View, viewOf}
 use Rattle.demands.specs.Series.{Call, message, changeOfCipher, call, run}
 use Rattle.demands.specs.Terms.{IgnoredWarning, Aside, ShortHello, BadTableCall, HelloCame, KeyExchangeCame, ChangeCame, named, ShortFinished, AwaitsFinished}
 use Rattle.demands.specs.Demand3.{CameRight, CompletesExactly}

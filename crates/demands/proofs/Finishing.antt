@@ -1,12 +1,12 @@
 -- The last stage of a connection: it awaits the Finished. What every call makes of it, and that a Finished is accepted exactly where it is right.
 -- Assumes nothing.
-use mathlib.Core.Path.{_≡_, refl, _∙_}
+use mathlib.Core.Path.{_≡_, refl, sym, ap, _∙_}
 use mathlib.Core.Logic.{_⊎_, inl, inr}
 use Prim.Native.Nat.{ℕ, _+_, _≤_, _<_}
 use native.Mathlib.Omega.{arith}
 use native.Mathlib.Decide.{decLe}
-use mathlib.Core.Bool.{Bool, true, false, cond, and-eq-true-iff}
-use mathlib.Core.List.{List, _++_}
+use mathlib.Core.Bool.{Bool, true, false, and-eq-true-iff}
+use mathlib.Core.List.{List, _++_, append-nil}
 use mathlib.Core.Option.{Option, none, some}
 use lib.ListN.{length, length-append}
 use lib.Dec.{leb, eqb}
@@ -18,19 +18,26 @@ use Rattle.refusal.specs.declared.Refusal.the-variants.{DecryptError}
 use Rattle.sha256.specs.State.{fresh, absorb}
 use Rattle.sha256.proofs.Absorb.{absorb-append}
 use Rattle.keys.specs.declared.Side.the-variants.{Client}
-use Rattle.keytable.specs.Utf8.{validUtf8}
-use Rattle.messages.specs.Layout.{bytes, limit}
-use Rattle.messages.specs.Header.{header}
-use Rattle.messages.specs.Place.{lastAt, filledBy, afterHeader, contents}
-use Rattle.messages.specs.ClientHello.{clientHeader, clientFields}
+use Rattle.utf8.specs.Utf8.{validUtf8}
+use Rattle.layout.specs.Layout.{bytes}
+use Rattle.layout.specs.Types.{messageLimit}
+use Rattle.layout.specs.Header.{header}
+use Rattle.layout.specs.Place.{lastAt, filledBy, afterHeader, contents}
+use Rattle.hellos.specs.ClientHello.{clientHeader, clientFields}
 use Rattle.messages.specs.Fixed as Fixed
 use Rattle.messages.specs.Fixed.{readFixed}
 use Rattle.server.specs.declared.Phase.{Phase}
 use Rattle.server.specs.declared.Connection.{Connection}
 use Rattle.server.specs.Connection.{Settings, acceptable, started, ended}
-use Rattle.server.specs.Steps.{Step, refuse, accept, View, suites, flight, masterUnder, finishedOf, isValue, judged, finishedValue, messageStep}
-use Rattle.server.specs.Inner.{flightLength}
-use Rattle.server.proofs.Hellos.{length-flight}
+use Rattle.server.specs.Step.{Step, refuse, accept}
+use Rattle.server.specs.KeyExchange.{View}
+use Rattle.keys.specs.Secrets.{masterUnder}
+use Rattle.server.specs.Hello.{flight}
+use Rattle.server.specs.Finished.{isValue, judged, finishedValue, finishedFlight}
+use Rattle.keys.specs.Secrets.{finishedOf}
+use Rattle.server.specs.Message.{messageStep}
+use Rattle.server.specs.Flight.{Flight, flightBytes}
+use Rattle.server.proofs.Hellos.{flight-most}
 use Rattle.demands.specs.Series.{Call, message, changeOfCipher, alert, call}
 use Rattle.demands.specs.Terms.{LegalHello, LegalKeyExchange, LegalFinished, flightTo, valueUnder, Aside, ChangeCame, named, RightFinished, ShortFinished}
 use Rattle.demands.proofs.Values.{is-value, value-is, compared, servers-value}
@@ -38,7 +45,7 @@ use Rattle.demands.proofs.Settling.{refused-closes, accepted-next, shor
 use Rattle.demands.proofs.Stages.{helloed, keyed, changed, flight-is}
 
 -- a legal Finished that is right under the key that was found
-pub record Right (s : Settings) {hello : List ℕ} (legal : LegalHello hello) (exchange : List ℕ) (found : Option (List ℕ)) (m : List ℕ) : Type 0 where
+pub record Right (s : Settings) {hello : List ℕ} (legal : LegalHello (s .suites) hello) (exchange : List ℕ) (found : Option (List ℕ)) (m : List ℕ) : Type 0 where
   pub finished : LegalFinished m
   pub key : List ℕ
   pub listed : found ≡ some key
@@ -59,29 +66,24 @@ wrong-alerts m = go (readFixed 20 12 m)
     go none = unread-alerts 20 m
     go (some value) = refl
 
-flight-short : (s : Settings) → acceptable s ≡ true → (suite : ℕ) → length (flight (s .random) (s .hint) suite) ≤ 180
+flight-short : (s : Settings) → acceptable s ≡ true → (suite : ℕ) → length (flightBytes (flight (s .random) (s .hint) suite)) ≤ 180
 flight-short s ok suite =
     let first = and-eq-true-iff (eqb (length (s .random)) 32) (leb (length (s .hint)) 128) .0
     (and-eq-true-iff _ (validUtf8 (s .hint)) .0 (and-eq-true-iff _ (eqb (length (s .standIn)) 32) .0 ok .0) .0) in
-    let size = length-flight (s .random) (s .hint) suite (eqb-true _ _ (first .0)) in
-    let most : flightLength (length (s .hint)) ≤ 180 = few (eqb (length (s .hint)) 0) (leb-true _ _ (first .1)) in
-    omega (arith, size)
-  where
-    few : (none : Bool) → length (s .hint) ≤ 128 → cond none 46 (52 + length (s .hint)) ≤ 180
-    few true h = omega arith
-    few false h = omega arith
+    flight-most (s .random) (s .hint) suite (eqb-true _ _ (first .0)) (leb-true _ _ (first .1))
 
-module _ (s : Settings) (v : View) {hello : List ℕ} (legal : LegalHello hello) (exchange : List ℕ) where
+module _ (s : Settings) (v : View) {hello : List ℕ} (legal : LegalHello (s .suites) hello) (exchange : List ℕ) where
   abbrev messages : List ℕ
   messages = hello ++ (flightTo s legal ++ exchange)
 
   transcript-is : absorb (helloed s legal .transcript) exchange ≡ absorb fresh messages
   unfolding started
   transcript-is =
-      rw (flight-is s (legal .suite), absorb-append fresh hello (flightTo s legal ++ exchange), absorb-append (absorb fresh hello) (flightTo s legal) exchange)
+      ap (λ (f : Flight). absorb (absorb (absorb fresh hello) (flightBytes f)) exchange) (flight-is s (legal .suite))
+      ∙ sym (absorb-append fresh hello (flightTo s legal ++ exchange) ∙ absorb-append (absorb fresh hello) (flightTo s legal) exchange)
 
   value-compared : (key value : List ℕ)
-      → isValue value (finishedOf Client (keyed s legal exchange (some key) .master) (keyed s legal exchange (some key) .transcript))
+      → isValue value (finishedOf Client (keyed s legal exchange (some key) .secrets .master) (keyed s legal exchange (some key) .transcript))
       ≡ isValue value (valueUnder s legal exchange key)
   unfolding started
   value-compared key value =
@@ -99,27 +101,27 @@ module _ (s : Settings) (v : View) {hello : List ℕ} (legal : LegalHello hello)
       go true e = inl (key, refl, is-value value (valueUnder s legal exchange key) e)
       go false e = inr (rw (value-compared key value, e))
 
-  judged-right : acceptable s ≡ true → LegalKeyExchange exchange → (m key value : List ℕ) → length m ≤ limit
+  judged-right : acceptable s ≡ true → LegalKeyExchange exchange → (m key value : List ℕ) → length m ≤ messageLimit
       → valueUnder s legal exchange key ≡ gives value
       → (own : List ℕ) × (length own ≡ 12)
-      × (judged (changed s legal exchange (some key)) m value ≡ accept (bytes Fixed.finished own) (ended Phase.Complete))
+      × (judged (changed s legal exchange (some key)) m value ≡ accept (finishedFlight own) (ended Phase.Complete))
   unfolding started
   judged-right ok legal-exchange m key value fits right =
-      let last : length exchange ≤ limit =
+      let last : length exchange ≤ messageLimit =
       read-size (λ h. contents exchange (afterHeader h (lastAt 2 exchange 4))) (λ r. refl) 16 exchange (legal-exchange .identity) (legal-exchange .read) in
-      let first : length hello ≤ limit = read-size (λ h. clientFields hello (clientHeader hello h)) (λ r. refl) 1 hello (legal .fields) (legal .read) in
+      let first : length hello ≤ messageLimit = read-size (λ h. clientFields hello (clientHeader hello h)) (λ r. refl) 1 hello (legal .fields) (legal .read) in
       let middle : length (flightTo s legal) ≤ 180 = flight-short s ok (legal .suite) in
       let few : length messages + length m ≤ 65536 =
       rw (length-append hello (flightTo s legal ++ exchange), length-append (flightTo s legal) exchange) (omega arith) in
       let secret = masterUnder key (legal .fields .random) (s .random) in
       let own = servers-value secret (keyed s legal exchange (some key) .transcript) messages transcript-is value m few right in
-      let same : isValue value (finishedOf Client (keyed s legal exchange (some key) .master) (keyed s legal exchange (some key) .transcript)) ≡ true =
+      let same : isValue value (finishedOf Client (keyed s legal exchange (some key) .secrets .master) (keyed s legal exchange (some key) .transcript)) ≡ true =
       value-compared key value ∙ value-is value (valueUnder s legal exchange key) right in
       (own .0, own .1, rw (same, own .2))
 
   module _ (found : Option (List ℕ)) where
     abbrev finishedStep : List ℕ → Step
-    finishedStep m = messageStep suites v (changed s legal exchange found) m Phase.Finished
+    finishedStep m = messageStep v (changed s legal exchange found) m Phase.Finished
 
     finished-read : (m : List ℕ) → finishedStep m ≡ orRefuse (unread 20 m) (judged (changed s legal exchange found) m) (readFixed 20 12 m)
     finished-read m =
@@ -142,11 +144,15 @@ module _ (s : Settings) (v : View) {hello : List ℕ} (legal : LegalHello hello)
         of-read (some value) read = of-value value read (judged-other found m value)
 
     finished-right : acceptable s ≡ true → LegalKeyExchange exchange → (m : List ℕ) → Right s legal exchange found m
-        → (own : List ℕ) × (length own ≡ 12) × (finishedStep m ≡ accept (bytes Fixed.finished own) (ended Phase.Complete))
+        → (own : List ℕ) × (length own ≡ 12) × (finishedStep m ≡ accept (finishedFlight own) (ended Phase.Complete))
     finished-right ok legal-exchange m r =
-        let fits : length m ≤ limit = read-size (λ h. contents m (afterHeader h (filledBy 12 m))) (λ r. refl) 20 m (r .finished .value) (r .finished .read) in
+        let fits : length m ≤ messageLimit = read-size (λ h. contents m (afterHeader h (filledBy 12 m))) (λ r. refl) 20 m (r .finished .value) (r .finished .read) in
         let own = judged-right ok legal-exchange m (r .key) (r .finished .value) fits (r .right) in
         (own .0, own .1, finished-read m ∙ rw (r .finished .read, r .listed) (own .2))
+
+-- the server's Finished has 16 bytes
+finished-size : (value : List ℕ) → length value ≡ 12 → length (flightBytes (finishedFlight value)) ≡ 16
+finished-size value h = ap length (append-nil (bytes Fixed.finished value)) ∙ omega arith
 
 -- what the connection is when it awaits the Finished of a series
 abbrev pub awaiting : (s : Settings) (v : View) {calls : List Call} → ChangeCame s v calls → Connection
@@ -162,27 +168,27 @@ pub record FinishedComes (s : Settings) (v : View) {calls : List Call} (came : C
 
 module _ (s : Settings) (v : View) (ok : acceptable s ≡ true) {calls : List Call} (came : ChangeCame s v calls) where
   abbrev finishStep : List ℕ → Step
-  finishStep m = messageStep suites v (awaiting s v came) m Phase.Finished
+  finishStep m = messageStep v (awaiting s v came) m Phase.Finished
 
   finished-accepted : (m : List ℕ) → RightFinished s v came m
-      → (own : List ℕ) × (length (bytes Fixed.finished own) ≡ 16) × (finishStep m ≡ accept (bytes Fixed.finished own) (ended Phase.Complete))
+      → (own : List ℕ) × (length (flightBytes (finishedFlight own)) ≡ 16) × (finishStep m ≡ accept (finishedFlight own) (ended Phase.Complete))
   finished-accepted m right =
       let own = finished-right s v (came .came .came .legal) (came .came .exchange) (v .lookup (named s v came)) ok (came .came .legal) m
       (record { finished = right .legal; key = right .key; listed = right .listed; right = right .right }) in
-      (own .0, omega arith, own .2)
+      (own .0, finished-size (own .0) (own .1), own .2)
 
   pub finished-stays : (x : Call) → Aside (ShortFinished s v came) x → call v (awaiting s v came) x .next ≡ awaiting s v came
   finished-stays x (inl warning) = warning-stays v (awaiting s v came) refl x warning
   finished-stays x (inr short) =
       let own = finished-accepted (short .finished) (short .right) in
-      let less : length (short .out) < length (bytes Fixed.finished (own .0)) = rw (own .1) (short .short) in
-      rw (short .is) (short-stays (awaiting s v came) (short .out) _ (bytes Fixed.finished (own .0)) (ended Phase.Complete) (own .2) less)
+      let less : length (short .out) < length (flightBytes (finishedFlight (own .0))) = rw (own .1) (short .short) in
+      rw (short .is) (short-stays (awaiting s v came) (short .out) _ (finishedFlight (own .0)) (ended Phase.Complete) (own .2) less)
 
   pub finished-comes : (x : Call) → FinishedComes s v came x → call v (awaiting s v came) x .next ≡ ended Phase.Complete
   finished-comes x comes =
       let own = finished-accepted (comes .finished) (comes .right) in
-      let room : length (bytes Fixed.finished (own .0)) ≤ length (comes .out) = rw (own .1) (comes .room) in
-      rw (comes .is) (accepted-next (awaiting s v came) (comes .out) _ (bytes Fixed.finished (own .0)) (ended Phase.Complete) (own .2) room)
+      let room : length (flightBytes (finishedFlight (own .0))) ≤ length (comes .out) = rw (own .1) (comes .room) in
+      rw (comes .is) (accepted-next (awaiting s v came) (comes .out) _ (finishedFlight (own .0)) (ended Phase.Complete) (own .2) room)
 
   pub finished-fate : (x : Call) → Fate v (awaiting s v came) (Aside (ShortFinished s v came)) (FinishedComes s v came) x
   finished-fate (message m out) = go (finished-other s v (came .came .came .legal) (came .came .exchange) (v .lookup (named s v came)) m)

@@ -9,7 +9,7 @@ use Rattle.lists.proofs.Every.{every-append}
 use Rattle.server.specs.declared.Phase.{Phase}
 use Rattle.server.specs.declared.Connection.{Connection}
 use Rattle.server.specs.Connection.{Settings, ruleOf, acceptable, started, ended}
-use Rattle.server.specs.Steps.{View}
+use Rattle.server.specs.KeyExchange.{View}
 use Rattle.demands.specs.Series.{Call, message, changeOfCipher, call}
 use Rattle.demands.specs.Terms.{IgnoredWarning, Aside, ShortHello, BadTableCall, HelloCame, KeyExchangeCame, ChangeCame, ShortFinished, AwaitsFinished}
 use Rattle.demands.specs.Demand3.{CameRight}

@@ -20,7 +20,12 @@ use Rattle.server.specs.declared.Rule.{Rule}
 use Rattle.server.specs.declared.Phase.{Phase}
 use Rattle.server.specs.declared.Connection.{Connection}
 use Rattle.server.specs.Connection.{Settings, ruleOf, acceptable, started, ended}
-use Rattle.server.specs.Steps.{View, viewOf, Step, refuse, accept, suites, keyFound, messageStep, isOver, alertStep, Settled, outcome, settled, alertCall}
+use Rattle.server.specs.KeyExchange.{View, viewOf, keyFound}
+use Rattle.server.specs.Step.{Step, refuse, accept, Settled, outcome, settled}
+use Rattle.server.specs.Connection.{isOver}
+use Rattle.server.specs.Flight.{silence}
+use Rattle.server.specs.Message.{messageStep}
+use Rattle.server.specs.Alert.{alertStep, alertCall}
 use Rattle.demands.specs.Series.{Call, message, changeOfCipher, alert, call, Seen, seen, answers}
 use Rattle.demands.specs.Terms.{LegalKeyExchange, IgnoredWarning, Aside, BadTableCall, HelloCame, KeyExchangeCame, ChangeCame, named, ShortFinished}
 use Rattle.demands.specs.Demand3.{JudgedRight, Sameness}
@@ -44,8 +49,8 @@ alert-alike c c' going going' level description =
     seen-outcome c c' [] {step = alertStep c level description} {step' = alertStep c' level description} refl refl
     (rw (going, going') (go (not (eqb level 1 || eqb level 2)) (eqb level 2 || eqb description 0)))
   where
-    go : (a b : Bool) → outcome (cond a (refuse IllegalParameter) (cond b (accept [] (ended Phase.Closed)) (accept [] c)))
-        ≡ outcome (cond a (refuse IllegalParameter) (cond b (accept [] (ended Phase.Closed)) (accept [] c')))
+    go : (a b : Bool) → outcome (cond a (refuse IllegalParameter) (cond b (accept silence (ended Phase.Closed)) (accept silence c)))
+        ≡ outcome (cond a (refuse IllegalParameter) (cond b (accept silence (ended Phase.Closed)) (accept silence c')))
     go true b = refl
     go false true = refl
     go false false = refl
@@ -72,13 +77,13 @@ data Together (s : Settings) (v v' : View) (Set : List ℕ → Type 0) (calls : 
       → Set (named s v came) → c ≡ awaiting s v came → c' ≡ changed s (came .came .came .legal) (came .came .exchange) (v' .lookup (named s v came))
       → Together s v v' Set calls c c'
 
-module _ (s : Settings) (ok : acceptable s ≡ true) (hide : ruleOf (s .named) ≡ Rule.Hide) (Set : List ℕ → Type 0) (v v' : View) (good : v .good ≡ true)
-    (good' : v' .good ≡ true) (agree : AgreeOutside Set v v') where
+module _ (s : Settings) (ok : acceptable s ≡ true) (hide : ruleOf (s .named) ≡ Rule.Hide) (Set : List ℕ → Type 0) (v v' : View) (good : v .refusal ≡ none)
+    (good' : v' .refusal ≡ none) (agree : AgreeOutside Set v v') where
   -- ---- what came is the same for both
 
   never-bad : (x : Call) → Aside (BadTableCall v) x → Aside (BadTableCall v') x
   never-bad x (inl warning) = inl warning
-  never-bad x (inr bad) = absurd (true≢false (sym good ∙ bad .bad))
+  never-bad x (inr bad) = absurd (Option·none-ne-some (bad .refusal) (sym good ∙ bad .bad))
 
   abbrev exchange-too : {calls : List Call} → KeyExchangeCame s v calls → KeyExchangeCame s v' calls
   exchange-too k = record {
@@ -122,7 +127,7 @@ module _ (s : Settings) (ok : acceptable s ≡ true) (hide : ruleOf (s .named) �
   elsewhere-on : (calls : List Call) (x : Call) (c : Connection) → Elsewhere (c .phase) → Goes calls x c c
   elsewhere-on calls (message m out) c h = same-on calls (message m out) c (ap (settled c out) (go (c .phase) h))
     where
-      go : (p : Phase) → Elsewhere p → messageStep suites v c m p ≡ messageStep suites v' c m p
+      go : (p : Phase) → Elsewhere p → messageStep v c m p ≡ messageStep v' c m p
       go Phase.Hello h = refl
       go Phase.KeyExchange h = absurd h
       go Phase.Change h = refl
@@ -140,7 +145,7 @@ module _ (s : Settings) (ok : acceptable s ≡ true) (hide : ruleOf (s .named) �
     here = helloed s (came .legal)
 
     exchange-same : (m : List ℕ) → ((i : List ℕ) → readVector 16 m ≡ some i → v .lookup i ≡ v' .lookup i)
-        → messageStep suites v here m Phase.KeyExchange ≡ messageStep suites v' here m Phase.KeyExchange
+        → messageStep v here m Phase.KeyExchange ≡ messageStep v' here m Phase.KeyExchange
     exchange-same m alike = exchange-read s v (came .legal) m good ∙ go (readVector 16 m) alike ∙ sym (exchange-read s v' (came .legal) m good')
       where
         go : (o : Option (List ℕ)) → ((i : List ℕ) → o ≡ some i → v .lookup i ≡ v' .lookup i)
@@ -155,12 +160,12 @@ module _ (s : Settings) (ok : acceptable s ≡ true) (hide : ruleOf (s .named) �
       changing (calls ++ (message m out ∷ [])) now [] (sym (append-nil _)) tt set (next v good) (next v' good'),
     )
       where
-        accepted : (w : View) → w .good ≡ true
-            → messageStep suites w here m Phase.KeyExchange ≡ accept [] (keyed s (came .legal) m (w .lookup (legal .identity)))
+        accepted : (w : View) → w .refusal ≡ none
+            → messageStep w here m Phase.KeyExchange ≡ accept silence (keyed s (came .legal) m (w .lookup (legal .identity)))
         accepted w h = exchange-legal s w (came .legal) h legal ∙ rw hide
 
-        next : (w : View) → w .good ≡ true → call w here (message m out) .next ≡ keyed s (came .legal) m (w .lookup (legal .identity))
-        next w h = accepted-next here out _ [] _ (accepted w h) (omega arith)
+        next : (w : View) → w .refusal ≡ none → call w here (message m out) .next ≡ keyed s (came .legal) m (w .lookup (legal .identity))
+        next w h = accepted-next here out _ silence _ (accepted w h) (omega arith)
 
         now : KeyExchangeCame s v (calls ++ (message m out ∷ []))
         now = exchange-now s v first came between split aside (record { exchange = m; out = out; is = refl; good = good; legal = legal })
@@ -235,17 +240,17 @@ module _ (s : Settings) (ok : acceptable s ≡ true) (hide : ruleOf (s .named) �
       abbrev changedBy : View → Connection
       changedBy w = changed s (came .came .came .legal) (came .came .exchange) (w .lookup (named s v came))
 
-      refused-both : (m out : List ℕ) → NotJudged calls (message m out) → (messageStep suites v (changedBy v) m Phase.Finished ≡ refuse (wrong m))
-          × (messageStep suites v' (changedBy v') m Phase.Finished ≡ refuse (wrong m))
+      refused-both : (m out : List ℕ) → NotJudged calls (message m out) → (messageStep v (changedBy v) m Phase.Finished ≡ refuse (wrong m))
+          × (messageStep v' (changedBy v') m Phase.Finished ≡ refuse (wrong m))
       refused-both m out never = (go v came (never (named s v came) set .0), go v' (change-too came) (never (named s v came) set .1))
         where
           go : (w : View) (own : ChangeCame s w first) → ¬ JudgedRight s w (named s w own) calls (message m out)
-              → messageStep suites w (awaiting s w own) m Phase.Finished ≡ refuse (wrong m)
+              → messageStep w (awaiting s w own) m Phase.Finished ≡ refuse (wrong m)
           go w own never-right = of-value (finished-other s w (own .came .came .legal) (own .came .exchange) (w .lookup (named s w own)) m)
             where
               of-value : Right s (own .came .came .legal) (own .came .exchange) (w .lookup (named s w own)) m
-                  ⊎ (messageStep suites w (awaiting s w own) m Phase.Finished ≡ refuse (wrong m))
-                  → messageStep suites w (awaiting s w own) m Phase.Finished ≡ refuse (wrong m)
+                  ⊎ (messageStep w (awaiting s w own) m Phase.Finished ≡ refuse (wrong m))
+                  → messageStep w (awaiting s w own) m Phase.Finished ≡ refuse (wrong m)
               of-value (inl right) = absurd (never-right (judged-right w own m out right))
               of-value (inr refused) = refused
 
@@ -308,7 +313,7 @@ sameness-of-lookups s ok hide Set v v' good good' agree calls never =
 
 pub sameness : Sameness
 sameness s ok hide identity table without removed good good' calls never =
-    sameness-of-lookups s ok hide (λ i. i ≡ identity) (viewOf table) (viewOf without) good good' agree calls never-judged
+    sameness-of-lookups s ok hide (λ i. i ≡ identity) (viewOf table) (viewOf without) (rw good) (rw good') agree calls never-judged
   where
     agree : AgreeOutside (λ i. i ≡ identity) (viewOf table) (viewOf without)
     agree i = go (same i identity) refl

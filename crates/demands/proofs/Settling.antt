@@ -13,13 +13,16 @@ use Rattle.endian.specs.Vector.{stated}
 use Rattle.refusal.specs.Table.{toClient}
 use Rattle.refusal.specs.declared.Refusal.{Refusal}
 use Rattle.refusal.specs.declared.Refusal.the-variants.{UnexpectedMessage, DecodeError}
-use Rattle.messages.specs.declared.Verdict.{Verdict}
-use Rattle.messages.specs.Layout.{limit}
-use Rattle.messages.specs.Header.{header}
+use Rattle.layout.specs.declared.Verdict.{Verdict}
+use Rattle.layout.specs.Types.{messageLimit}
+use Rattle.layout.specs.Header.{header}
 use Rattle.server.specs.declared.Phase.{Phase}
 use Rattle.server.specs.declared.Connection.{Connection}
 use Rattle.server.specs.Connection.{ended}
-use Rattle.server.specs.Steps.{Step, refuse, accept, View, afterTests, isOver, settled}
+use Rattle.server.specs.Flight.{Flight, flightBytes}
+use Rattle.server.specs.Step.{Step, refuse, accept, afterTests, settled}
+use Rattle.server.specs.KeyExchange.{View}
+use Rattle.server.specs.Connection.{isOver}
 use Rattle.server.proofs.Refusals.{alerts-close}
 use Rattle.demands.specs.Series.{Call, message, changeOfCipher, alert, call}
 use Rattle.demands.specs.Terms.{IgnoredWarning}
@@ -30,13 +33,16 @@ pub refused-closes : (c : Connection) (out : List ℕ) (step : Step) (r : Refusa
     → settled c out step .next ≡ ended Phase.Closed
 refused-closes c out step r e alerts = rw e (alerts-close r c ∙ rw alerts)
 
-pub accepted-next : (c : Connection) (out : List ℕ) (step : Step) (answer : List ℕ) (next : Connection) → step ≡ accept answer next
-    → length answer ≤ length out → settled c out step .next ≡ next
-accepted-next c out step answer next e room = rw (e, le-leb (length answer) (length out) room)
+pub refused-stays : (c : Connection) (out : List ℕ) (step : Step) (r : Refusal) → step ≡ refuse r → toClient r ≡ false → settled c out step .next ≡ c
+refused-stays c out step r e host = rw e (alerts-close r c ∙ rw host)
 
-pub short-stays : (c : Connection) (out : List ℕ) (step : Step) (answer : List ℕ) (next : Connection) → step ≡ accept answer next
-    → length out < length answer → settled c out step .next ≡ c
-short-stays c out step answer next e short = rw (e, lt-leb (length answer) (length out) short)
+pub accepted-next : (c : Connection) (out : List ℕ) (step : Step) (answer : Flight) (next : Connection) → step ≡ accept answer next
+    → length (flightBytes answer) ≤ length out → settled c out step .next ≡ next
+accepted-next c out step answer next e room = rw (e, le-leb (length (flightBytes answer)) (length out) room)
+
+pub short-stays : (c : Connection) (out : List ℕ) (step : Step) (answer : Flight) (next : Connection) → step ≡ accept answer next
+    → length out < length (flightBytes answer) → settled c out step .next ≡ c
+short-stays c out step answer next e short = rw (e, lt-leb (length (flightBytes answer)) (length out) short)
 
 -- the step refuses with an alert
 abbrev pub Alerts : Step → Type 0
@@ -77,20 +83,20 @@ module _ (v : View) (c : Connection) (going : isOver (c .phase) ≡ false) where
 -- ---- the tests on a header, and the readers
 
 abbrev pub Tested : List ℕ → Verdict → Type 0
-Tested m Verdict.Accepted = length m ≤ limit
+Tested m Verdict.Accepted = length m ≤ messageLimit
 Tested m (Verdict.Refused r) = toClient r ≡ true
 
 pub header-tested : (kind : ℕ) (m : List ℕ) → Tested m (header kind m)
-header-tested kind m = go (ltb (length m) 4) (eqb (getD m 0 0) kind) (eqb (stated 3 (drop 1 m)) (length m - 4)) (leb (length m) limit) refl
+header-tested kind m = go (ltb (length m) 4) (eqb (getD m 0 0) kind) (eqb (stated 3 (drop 1 m)) (length m - 4)) (leb (length m) messageLimit) refl
   where
-    go : (a b d e : Bool) → leb (length m) limit ≡ e
+    go : (a b d e : Bool) → leb (length m) messageLimit ≡ e
         → Tested m (cond a (Verdict.Refused DecodeError)
         (cond b (cond d (cond e Verdict.Accepted (Verdict.Refused DecodeError)) (Verdict.Refused DecodeError)) (Verdict.Refused UnexpectedMessage)))
     go true b d e fits = refl
     go false false d e fits = refl
     go false true false e fits = refl
     go false true true false fits = refl
-    go false true true true fits = leb-true (length m) limit fits
+    go false true true true fits = leb-true (length m) messageLimit fits
 
 -- what a message is refused with that its reader refuses
 abbrev refusalOf : Verdict → Refusal
@@ -125,9 +131,9 @@ module _ {A : Type 0} where
     step-read step refuses (Verdict.Refused r) = rw (blind r)
 
     -- a message that its reader accepts is within the limit
-    pub read-size : (kind : ℕ) (m : List ℕ) (a : A) → read (header kind m) ≡ some a → length m ≤ limit
+    pub read-size : (kind : ℕ) (m : List ℕ) (a : A) → read (header kind m) ≡ some a → length m ≤ messageLimit
     read-size kind m a e = go (header kind m) (header-tested kind m) e
       where
-        go : (h : Verdict) → Tested m h → read h ≡ some a → length m ≤ limit
+        go : (h : Verdict) → Tested m h → read h ≡ some a → length m ≤ messageLimit
         go Verdict.Accepted t e = t
         go (Verdict.Refused r) t e = absurd (Option·none-ne-some a (sym (blind r) ∙ e))

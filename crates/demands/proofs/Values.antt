@@ -18,7 +18,9 @@ use Rattle.keys.specs.declared.Side.the-variants.{Client, Server}
 use Rattle.keys.specs.Secrets.{verifyData}
 use Rattle.keys.proofs.Lengths.{value-given, value-master}
 use Rattle.lists.proofs.Equal.{same-eq, same-refl}
-use Rattle.server.specs.Steps.{andThen, bytesOf, finishedOf, isValue}
+use Rattle.refusal.specs.Lent.{andThen, bytesOf}
+use Rattle.server.specs.Finished.{isValue}
+use Rattle.keys.specs.Secrets.{finishedOf}
 
 none-without-master : (o : Outcome) (value : List ℕ) → isValue value (andThen o (verifyData Client [])) ≡ false
 unfolding verifyData

@@ -11,8 +11,8 @@ use Rattle.refusal.specs.Lent.{answer}
 use Rattle.refusal.specs.declared.Written.the-variants.{Wrote}
 use Rattle.keys.specs.Secrets.{premaster, premasterBytes}
 use Rattle.keys.proofs.Lengths.{length-premaster, premaster-given}
-use Rattle.messages.proofs.ClientHellos.{at-least-45}
-use Rattle.keytable.specs.Utf8.{validUtf8}
+use Rattle.hellos.proofs.ClientHellos.{at-least-45}
+use Rattle.utf8.specs.Utf8.{validUtf8}
 use Rattle.keytable.specs.Table.{wellFormed, keyOf}
 use Rattle.demands.specs.Worked.{BytesWorkedThrough, GivesR2, unended, odd}
 
@@ -20,7 +20,7 @@ premaster-answer : (psk : List ℕ) → 1 ≤ length psk → length psk ≤ 64 �
 premaster-answer psk h k = rw (premaster-given psk h k) (ap Wrote (length-premaster psk))
 
 bad-gives-R2 : (t : List ℕ) → wellFormed t ≡ false → GivesR2 t
-bad-gives-R2 t bad ours c m fits = rw (fits, bad)
+bad-gives-R2 t bad c m fits = rw (fits, bad)
 
 pub worked : BytesWorkedThrough
 unfolding premaster premasterBytes leadingZeros validUtf8 wellFormed keyOf
@@ -44,11 +44,11 @@ worked =
       v10 = (refl, refl, bad-gives-R2 unended refl, bad-gives-R2 odd refl, refl);
       v11 = (refl, refl, refl, refl);
       v12 = (
-        (λ ours c m f e. rw e),
-        (λ ours c m f suite e null common. rw (e, null, common)),
+        (λ c m f e. rw e),
+        (λ c m f suite e null common. rw (e, null, common)),
         (λ c suite. refl),
         (λ v c. refl),
-        (λ v c. refl),
+        (λ v c ours. rw ours),
         refl,
       );
     }

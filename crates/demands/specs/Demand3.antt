@@ -11,7 +11,7 @@ use Rattle.keytable.specs.WellFormed.{LineRemoved}
 use Rattle.server.specs.declared.Rule.{Rule}
 use Rattle.server.specs.declared.Phase.{Phase}
 use Rattle.server.specs.Connection.{Settings, ruleOf, acceptable, startAnswer}
-use Rattle.server.specs.Steps.{View, viewOf}
+use Rattle.server.specs.KeyExchange.{View, viewOf}
 use Rattle.demands.specs.Series.{Call, message, run, answers}
 use Rattle.demands.specs.Terms.{AwaitsFinished, RightFinished, named}
 

@@ -4,7 +4,11 @@ use Prim.Native.Nat.{ℕ}
 use mathlib.Core.List.{List, [], _∷_}
 use Rattle.refusal.specs.declared.Written.{Written}
 use Rattle.server.specs.declared.Connection.{Connection}
-use Rattle.server.specs.Steps.{View, Settled, messageCall, changeCall, alertCall}
+use Rattle.server.specs.KeyExchange.{View}
+use Rattle.server.specs.Step.{Settled}
+use Rattle.server.specs.Message.{messageCall}
+use Rattle.server.specs.Change.{changeCall}
+use Rattle.server.specs.Alert.{alertCall}
 
 pub data Call : Type 0 where
   -- out: the bytes of the lent output before the call

@@ -5,32 +5,39 @@ use mathlib.Core.Logic.{_⊎_}
 use Prim.Native.Nat.{ℕ, _≤_, _<_}
 use mathlib.Core.Bool.{true, false}
 use mathlib.Core.List.{List, [], _∷_, _++_}
-use mathlib.Core.Option.{some}
+use mathlib.Core.Option.{none, some}
 use lib.ListN.{length}
+use Rattle.refusal.specs.declared.Refusal.{Refusal}
+use Rattle.refusal.specs.Table.{toClient}
 use Rattle.refusal.specs.Lent.{Outcome, gives}
 use Rattle.sha256.specs.Hash.{sha256}
 use Rattle.keys.specs.declared.Side.the-variants.{Client}
 use Rattle.keys.specs.Secrets.{verifyData}
-use Rattle.messages.specs.declared.Verdict.the-variants.{Accepted}
-use Rattle.messages.specs.Header.{header}
-use Rattle.messages.specs.ClientHello.{ClientHello, readClientHello}
+use Rattle.layout.specs.declared.Verdict.the-variants.{Accepted}
+use Rattle.layout.specs.Header.{header}
+use Rattle.hellos.specs.ClientHello.{ClientHello, readClientHello}
 use Rattle.messages.specs.KeyExchange.{readVector}
 use Rattle.messages.specs.Fixed.{readFixed}
 use Rattle.lists.specs.Lists.{Each}
 use Rattle.server.specs.Connection.{Settings}
-use Rattle.server.specs.Steps.{View, andThen, suites, chosen, offersNull, flight, masterUnder}
+use Rattle.server.specs.Flight.{Flight, flightBytes}
+use Rattle.server.specs.KeyExchange.{View}
+use Rattle.keys.specs.Secrets.{masterUnder}
+use Rattle.refusal.specs.Lent.{andThen}
+use Rattle.server.specs.Hello.{chosen, offersNull, flight}
 use Rattle.demands.specs.Series.{Call, message, changeOfCipher, alert}
 
 -- ---- "Legal: a ClientHello, ClientKeyExchange or Finished that meets the tests on its header and limit and, of its step, all that answer with an alert,
 -- except whether the identity is listed and the Finished value right. A change of cipher always is." The readers make the tests on header, limit and layout.
 
-pub record LegalHello (m : List ℕ) : Type 0 where
+-- of a server that chooses from these suites
+pub record LegalHello (ours m : List ℕ) : Type 0 where
   pub fields : ClientHello
   pub read : readClientHello m ≡ some fields
   pub version : 0x0303 ≤ fields .version
   pub null : offersNull (fields .methods) ≡ true
   pub suite : ℕ
-  pub common : chosen suites (fields .suites) ≡ some suite
+  pub common : chosen ours (fields .suites) ≡ some suite
 
 pub record LegalKeyExchange (m : List ℕ) : Type 0 where
   pub identity : List ℕ
@@ -42,13 +49,16 @@ pub record LegalFinished (m : List ℕ) : Type 0 where
 
 -- ---- what a connection's messages are, and what is right
 
--- the server's answer to a legal ClientHello
-abbrev pub flightTo : Settings → {hello : List ℕ} → LegalHello hello → List ℕ
-flightTo s legal = flight (s .random) (s .hint) (legal .suite)
+-- the server's answer to a legal ClientHello, as messages and as bytes
+abbrev pub answerTo : (s : Settings) → {hello : List ℕ} → LegalHello (s .suites) hello → Flight
+answerTo s legal = flight (s .random) (s .hint) (legal .suite)
+
+abbrev pub flightTo : (s : Settings) → {hello : List ℕ} → LegalHello (s .suites) hello → List ℕ
+flightTo s legal = flightBytes (answerTo s legal)
 
 -- "the value that "Secrets" gives from that key's master and the connection's messages before the Finished": the ClientHello, the server's answer and the
 -- ClientKeyExchange, headers included
-abbrev pub valueUnder : Settings → {hello : List ℕ} → LegalHello hello → (exchange key : List ℕ) → Outcome
+abbrev pub valueUnder : (s : Settings) → {hello : List ℕ} → LegalHello (s .suites) hello → (exchange key : List ℕ) → Outcome
 valueUnder s {hello} legal exchange key =
     andThen (masterUnder key (legal .fields .random) (s .random))
     (λ secret. andThen (sha256 (hello ++ (flightTo s legal ++ exchange))) (verifyData Client secret))
@@ -70,16 +80,18 @@ pub record ShortHello (s : Settings) (x : Call) : Type 0 where
   pub hello : List ℕ
   pub out : List ℕ
   pub is : x ≡ message hello out
-  pub legal : LegalHello hello
+  pub legal : LegalHello (s .suites) hello
   pub short : length out < length (flightTo s legal)
 
--- "R2, where its order has it: it meets each test that stands before R2, and the table isn't well formed." Those are the tests on the header.
+-- Where the table refuses, R2 today: the call meets each test that stands before that, the tests on the header.
 pub record BadTableCall (v : View) (x : Call) : Type 0 where
   pub exchange : List ℕ
   pub out : List ℕ
   pub is : x ≡ message exchange out
   pub fits : header 16 exchange ≡ Accepted
-  pub bad : v .good ≡ false
+  pub refusal : Refusal
+  pub bad : v .refusal ≡ some refusal
+  pub toHost : toClient refusal ≡ false
 
 -- ---- what came, call by call: each record says that its message came in its place and that nothing else did
 
@@ -89,7 +101,7 @@ pub record HelloCame (s : Settings) (calls : List Call) : Type 0 where
   pub out : List ℕ
   pub is : calls ≡ before ++ (message hello out ∷ [])
   pub aside : Each (Aside (ShortHello s)) before
-  pub legal : LegalHello hello
+  pub legal : LegalHello (s .suites) hello
   pub room : length (flightTo s legal) ≤ length out
 
 pub record KeyExchangeCame (s : Settings) (v : View) (calls : List Call) : Type 0 where
@@ -100,7 +112,7 @@ pub record KeyExchangeCame (s : Settings) (v : View) (calls : List Call) : Type 
   pub out : List ℕ
   pub is : calls ≡ first ++ (between ++ (message exchange out ∷ []))
   pub aside : Each (Aside (BadTableCall v)) between
-  pub good : v .good ≡ true
+  pub good : v .refusal ≡ none
   pub legal : LegalKeyExchange exchange
 
 pub record ChangeCame (s : Settings) (v : View) (calls : List Call) : Type 0 where

@@ -10,18 +10,23 @@ use Rattle.refusal.specs.Table.{numberOf}
 use Rattle.refusal.specs.declared.Refusal.the-variants.{BadTable, BadValue, ProtocolVersion}
 use Rattle.refusal.specs.declared.Written.the-variants.{Wrote, Refused}
 use Rattle.keys.specs.Secrets.{premaster}
-use Rattle.messages.specs.declared.Verdict.the-variants.{Accepted}
-use Rattle.messages.specs.Layout.{bytes, valid, written}
-use Rattle.messages.specs.Header.{header}
+use Rattle.layout.specs.declared.Verdict.the-variants.{Accepted}
+use Rattle.layout.specs.Layout.{bytes, valid, written}
+use Rattle.layout.specs.Header.{header}
 use Rattle.messages.specs.KeyExchange.{serverKeyExchange, clientKeyExchange, readVector}
 use Rattle.messages.specs.Fixed.{serverHelloDone}
 use Rattle.messages.specs.NewSessionTicket.{newSessionTicket}
-use Rattle.messages.specs.ClientHello.{ClientHello, clientHello}
-use Rattle.keytable.specs.Utf8.{validUtf8}
+use Rattle.hellos.specs.ClientHello.{ClientHello, clientHello}
+use Rattle.utf8.specs.Utf8.{validUtf8}
 use Rattle.keytable.specs.Table.{wellFormed, keyOf}
 use Rattle.server.specs.declared.Phase.{Phase}
 use Rattle.server.specs.declared.Connection.{Connection}
-use Rattle.server.specs.Steps.{View, viewOf, refuse, accept, suites, chosen, offersNull, flightFor, afterHello, helloFields, messageStep}
+use Rattle.server.specs.KeyExchange.{View, viewOf}
+use Rattle.server.specs.Step.{refuse, accept}
+use Rattle.server.specs.Connection.{suites}
+use Rattle.server.specs.Flight.{flightBytes}
+use Rattle.server.specs.Hello.{chosen, offersNull, flightFor, afterHello, helloFields}
+use Rattle.server.specs.Message.{messageStep}
 
 -- ---- the bytes that it names
 
@@ -71,7 +76,7 @@ smallestHello version = bytes clientHello (smallest version)
 -- R2 of the server: whatever the connection, a ClientKeyExchange that meets the tests on its header is refused so
 abbrev pub GivesR2 : List ℕ → Type 0
 GivesR2 t =
-    (ours : List ℕ) (c : Connection) (m : List ℕ) → header 16 m ≡ Accepted → messageStep ours (viewOf t) c m Phase.KeyExchange ≡ refuse BadTable
+    (c : Connection) (m : List ℕ) → header 16 m ≡ Accepted → messageStep (viewOf t) c m Phase.KeyExchange ≡ refuse BadTable
 
 -- ---- the table
 
@@ -117,12 +122,12 @@ pub record BytesWorkedThrough : Type 0 where
       × (validUtf8 (0xF4 ∷ 0x8F ∷ 0xBF ∷ 0xBF ∷ []) ≡ true)
   -- "version 0x0302 gives 70; 0x0304 is answered with 0x0303": of every ClientHello whose layout holds and which is refused for nothing else, on any
   -- connection, and of the smallest one. The version stands at bytes 4 and 5 of the answer.
-  pub v12 : ((ours : List ℕ) (c : Connection) (m : List ℕ) (f : ClientHello) → f .version ≡ 0x0302 → helloFields ours c m (some f) ≡ refuse ProtocolVersion)
-      × ((ours : List ℕ) (c : Connection) (m : List ℕ) (f : ClientHello) (suite : ℕ)
-      → f .version ≡ 0x0304 → offersNull (f .methods) ≡ true → chosen ours (f .suites) ≡ some suite
-      → helloFields ours c m (some f) ≡ accept (flightFor c suite) (afterHello c m f suite))
-      × ((c : Connection) (suite : ℕ) → take 2 (drop 4 (flightFor c suite)) ≡ 0x03 ∷ 0x03 ∷ [])
-      × ((v : View) (c : Connection) → messageStep suites v c (smallestHello 0x0302) Phase.Hello ≡ refuse ProtocolVersion)
-      × ((v : View) (c : Connection) → messageStep suites v c (smallestHello 0x0304) Phase.Hello
+  pub v12 : ((c : Connection) (m : List ℕ) (f : ClientHello) → f .version ≡ 0x0302 → helloFields c m (some f) ≡ refuse ProtocolVersion)
+      × ((c : Connection) (m : List ℕ) (f : ClientHello) (suite : ℕ)
+      → f .version ≡ 0x0304 → offersNull (f .methods) ≡ true → chosen (c .setup .suites) (f .suites) ≡ some suite
+      → helloFields c m (some f) ≡ accept (flightFor c suite) (afterHello c m f suite))
+      × ((c : Connection) (suite : ℕ) → take 2 (drop 4 (flightBytes (flightFor c suite))) ≡ 0x03 ∷ 0x03 ∷ [])
+      × ((v : View) (c : Connection) → messageStep v c (smallestHello 0x0302) Phase.Hello ≡ refuse ProtocolVersion)
+      × ((v : View) (c : Connection) → c .setup .suites ≡ suites → messageStep v c (smallestHello 0x0304) Phase.Hello
       ≡ accept (flightFor c 0x00AE) (afterHello c (smallestHello 0x0304) (smallest 0x0304) 0x00AE))
       × (numberOf ProtocolVersion ≡ 70)

@@ -21,7 +21,8 @@ use Rattle.server.specs.declared.Connection.{Connection}
 use Rattle.server.specs.declared.Answer.{Answer}
 use Rattle.server.specs.declared.Reply.{Reply}
 use Rattle.server.specs.Connection.{Settings, ended, acceptable, badSetting, started, startAnswer}
-use Rattle.server.specs.Steps.{Step, Settled, outcome, nextAfter, settled, withMaster}
+use Rattle.server.specs.Step.{Step, Settled, outcome, nextAfter, settled}
+use Rattle.server.specs.Message.{withMaster}
 use Rattle.server.specs.Saved.{saved, restored}
 use Rattle.server.proofs.Refusals.{alerts-close}
 use Rattle.host.specs.Codes.{coded}

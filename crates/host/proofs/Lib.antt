@@ -1,6 +1,5 @@
 pub mod Answers
 pub mod Apart
-pub mod Fifty
 pub mod Keeping
 pub mod Places
 pub mod Readings

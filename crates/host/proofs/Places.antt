@@ -12,25 +12,27 @@ use borrow.Author.Tests.{leb-true, eqb-true}
 use Rattle.endian.specs.Number.{Bytes, number}
 use Rattle.endian.specs.Vector.{stated}
 use Rattle.endian.proofs.Numbers.{bytes-drop}
-use Rattle.refusal.specs.declared.Refusal.the-variants.{DecodeError}
-use Rattle.messages.specs.declared.Verdict.{Verdict}
-use Rattle.messages.specs.declared.Part.{Part}
-use Rattle.messages.specs.declared.hello.Block.{Block}
-use Rattle.messages.specs.declared.hello.BlockFound.{BlockFound}
+use Rattle.layout.specs.declared.Verdict.{Verdict}
+use Rattle.layout.specs.declared.Part.{Part}
+use Rattle.hellos.specs.declared.Block.{Block}
+use Rattle.hellos.specs.declared.BlockFound.{BlockFound}
 use Rattle.messages.specs.declared.ticket.Ticket.{Ticket}
-use Rattle.messages.specs.declared.server_hello.Server.{Server}
-use Rattle.messages.specs.declared.client_hello.Client.{Client}
-use Rattle.messages.specs.declared.extensions.Step.{Step}
-use Rattle.messages.specs.Header.{header}
-use Rattle.messages.specs.Place.{endAt, partAt, ruled, lastAt, filledBy, afterHeader}
+use Rattle.hellos.specs.declared.server_hello.Server.{Server}
+use Rattle.hellos.specs.declared.client_hello.Client.{Client}
+use Rattle.extensions.specs.declared.Step.{Step}
+use Rattle.layout.specs.Header.{header}
+use Rattle.layout.specs.Place.{endAt, lastAt, filledBy, afterHeader}
 use Rattle.messages.specs.KeyExchange.{vectorPlace}
 use Rattle.messages.specs.Fixed.{fixedPlace}
 use Rattle.messages.specs.NewSessionTicket.{withHint, ticketPlace}
-use Rattle.messages.specs.Extensions.{blockRule, stepAt}
-use Rattle.messages.specs.Hello.{sessionAt, blockIn, blockAt}
-use Rattle.messages.specs.ServerHello.{serverBlock, serverSession, serverHeader, serverPlace}
-use Rattle.messages.specs.ClientHello.{suitesLength, methodsLength, clientBlock, clientMethods, clientSuites, clientSession, clientHeader, clientPlace}
-use Rattle.messages.proofs.Headers.{header-read}
+use Rattle.extensions.specs.Extensions.{blockRule, stepAt}
+use Rattle.hellos.specs.Hello.{blockIn, blockAt}
+use Rattle.hellos.specs.ServerHello.{serverPlace}
+use Rattle.hellos.specs.ClientHello.{suitesLength, methodsLength, clientPlace}
+use Rattle.layout.proofs.Headers.{header-read}
+use Rattle.layout.proofs.Places.{ruled-inside}
+use Rattle.hellos.proofs.ServerHellos as ServerHellos
+use Rattle.hellos.proofs.ClientHellos as ClientHellos
 use Rattle.host.specs.Inner.{Fits, PartFits, BlockFits}
 
 two-bytes : (bs : List ℕ) → Bytes bs → number (take 2 bs) < 65536
@@ -49,18 +51,9 @@ accepted-length kind m b e =
 -- ---- the parts of a message
 
 -- a part that is there only where a test holds
-tested : (t : Bool) (s n : ℕ) → (t ≡ true → Fits s n) → PartFits (cond t (Part.At s n) (Part.Refused DecodeError))
+tested : (t : Bool) (s n : ℕ) → (t ≡ true → Fits s n) → PartFits (cond t (Part.At s n) Part.Refused)
 tested true s n h = h refl
 tested false s n h = tt
-
-ruled-fits : (rule : ℕ → Bool) (p : Part) → PartFits p → PartFits (ruled rule p)
-ruled-fits rule (Part.At s n) h = tested (rule n) s n (λ _. h)
-ruled-fits rule (Part.Refused r) h = tt
-
-part-fits : (w : ℕ) (m : List ℕ) (at : ℕ) → length m ≤ 16384 → PartFits (partAt w m at)
-part-fits w m at size = tested (leb (endAt w m at) (length m)) (at + w) (stated w (drop at m)) (λ t.
-    let ends : endAt w m at ≤ length m = leb-true (endAt w m at) (length m) t in
-    record { start-fits = omega arith; len-fits = omega arith })
 
 last-fits : (m : List ℕ) (at : ℕ) → length m ≤ 16384 → PartFits (lastAt 2 m at)
 last-fits m at size = tested (eqb (endAt 2 m at) (length m)) (at + 2) (stated 2 (drop at m)) (λ t.
@@ -90,38 +83,38 @@ ticket-extension-fits d b =
 
 abbrev pub TicketFits : Ticket → Type 0
 TicketFits (Ticket.Read hint s n) = Fits s n
-TicketFits (Ticket.Refused r) = Unit
+TicketFits Ticket.Refused = Unit
 
 pub ticket-fits : (m : List ℕ) → Bytes m → TicketFits (ticketPlace m)
 ticket-fits m b = go (afterHeader (header 4 m) (lastAt 2 m 8)) (behind-header 4 m (lastAt 2 m 8) b (last-fits m 8))
   where
     go : (p : Part) → PartFits p → TicketFits (withHint m p)
     go (Part.At s n) h = h
-    go (Part.Refused r) h = tt
+    go Part.Refused h = tt
 
 -- ---- the hellos
 
 abbrev FoundFits : BlockFound → Type 0
 FoundFits (BlockFound.Found b) = BlockFits b
-FoundFits (BlockFound.Refused r) = Unit
+FoundFits BlockFound.Refused = Unit
 
 block-fits : (client : Bool) (m : List ℕ) (at : ℕ) → length m ≤ 16384 → FoundFits (blockAt client m at)
 block-fits client m at size = go (eqb at (length m))
   where
-    held : (t : Bool) (s n : ℕ) → Fits s n → FoundFits (cond t (BlockFound.Found (Block.At s n)) (BlockFound.Refused DecodeError))
+    held : (t : Bool) (s n : ℕ) → Fits s n → FoundFits (cond t (BlockFound.Found (Block.At s n)) BlockFound.Refused)
     held true s n h = h
     held false s n h = tt
 
     in-part : (p : Part) → PartFits p → FoundFits (blockIn client m p)
     in-part (Part.At s n) h = held (blockRule client (take n (drop s m))) s n h
-    in-part (Part.Refused r) h = tt
+    in-part Part.Refused h = tt
 
     go : (t : Bool) → FoundFits (cond t (BlockFound.Found Block.Absent) (blockIn client m (lastAt 2 m at)))
     go true = tt
     go false = in-part (lastAt 2 m at) (last-fits m at size)
 
-session-fits : (m : List ℕ) → length m ≤ 16384 → PartFits (sessionAt m)
-session-fits m size = ruled-fits (λ n. leb n 32) (partAt 1 m 38) (part-fits 1 m 38 size)
+found-fits : (client : Bool) (m : List ℕ) (at : ℕ) (b : Block) → length m ≤ 16384 → blockAt client m at ≡ BlockFound.Found b → BlockFits b
+found-fits client m at b size e = rw e at (block-fits client m at size)
 
 pub record ServerNumbers (version n suite : ℕ) (b : Block) : Type 0 where
   pub version-fits : version < 2 ^ 32
@@ -131,27 +124,18 @@ pub record ServerNumbers (version n suite : ℕ) (b : Block) : Type 0 where
 
 abbrev pub ServerFits : Server → Type 0
 ServerFits (Server.Read version n suite compression b) = ServerNumbers version n suite b
-ServerFits (Server.Refused r) = Unit
+ServerFits Server.Refused = Unit
 
 pub server-fits : (m : List ℕ) → Bytes m → ServerFits (serverPlace m)
-server-fits m b = of-header (header 2 m) refl
-  where
-    of-block : (n : ℕ) (o : BlockFound) → n < 2 ^ 32 → FoundFits o → ServerFits (serverBlock m n o)
-    of-block n (BlockFound.Found k) h block =
-        record { version-fits = number-fits m 4 b; session-fits = h; suite-fits = number-fits m (39 + n) b; block = block }
-    of-block n (BlockFound.Refused r) h block = tt
-
-    of-room : (t : Bool) (n : ℕ) → n < 2 ^ 32 → length m ≤ 16384 → ServerFits (cond t (serverBlock m n (blockAt false m (42 + n))) (Server.Refused DecodeError))
-    of-room true n h size = of-block n (blockAt false m (42 + n)) h (block-fits false m (42 + n) size)
-    of-room false n h size = tt
-
-    of-session : (p : Part) → PartFits p → length m ≤ 16384 → ServerFits (serverSession m p)
-    of-session (Part.At s n) h size = of-room (leb (42 + n) (length m)) n (h .len-fits) size
-    of-session (Part.Refused r) h size = tt
-
-    of-header : (v : Verdict) → header 2 m ≡ v → ServerFits (serverHeader m v)
-    of-header Verdict.Accepted e = let size = accepted-length 2 m b e in of-session (sessionAt m) (session-fits m size) size
-    of-header (Verdict.Refused r) e = tt
+server-fits m b = ServerHellos.by-header m ServerFits tt (λ a x n c p.
+    let size = accepted-length 2 m b a in
+    let room = p .room in
+    record {
+      version-fits = number-fits m 4 b;
+      session-fits = omega arith;
+      suite-fits = number-fits m (39 + n) b;
+      block = found-fits false m (42 + n) c size (p .block);
+    })
 
 pub record ClientNumbers (version n s k t j : ℕ) (b : Block) : Type 0 where
   pub version-fits : version < 2 ^ 32
@@ -162,35 +146,21 @@ pub record ClientNumbers (version n s k t j : ℕ) (b : Block) : Type 0 where
 
 abbrev pub ClientFits : Client → Type 0
 ClientFits (Client.Read version n s k t j b) = ClientNumbers version n s k t j b
-ClientFits (Client.Refused r) = Unit
+ClientFits Client.Refused = Unit
 
 pub client-fits : (m : List ℕ) → Bytes m → ClientFits (clientPlace m)
-client-fits m b = of-header (header 1 m) refl
-  where
-    of-block : (n s k t j : ℕ) (o : BlockFound) → n < 2 ^ 32 → Fits s k → Fits t j → FoundFits o → ClientFits (clientBlock m n s k t j o)
-    of-block n s k t j (BlockFound.Found q) h suites methods block =
-        record { version-fits = number-fits m 4 b; session-fits = h; suites = suites; methods = methods; block = block }
-    of-block n s k t j (BlockFound.Refused r) h suites methods block = tt
-
-    of-methods : (n s k : ℕ) (p : Part) → n < 2 ^ 32 → Fits s k → PartFits p → length m ≤ 16384 → ClientFits (clientMethods m n s k p)
-    of-methods n s k (Part.At t j) h suites methods size = of-block n s k t j (blockAt true m (t + j)) h suites methods (block-fits true m (t + j) size)
-    of-methods n s k (Part.Refused r) h suites methods size = tt
-
-    of-suites : (n : ℕ) (p : Part) → n < 2 ^ 32 → PartFits p → length m ≤ 16384 → ClientFits (clientSuites m n p)
-    of-suites n (Part.At s k) h suites size =
-        let methods = ruled-fits methodsLength (partAt 1 m (s + k)) (part-fits 1 m (s + k) size) in
-        of-methods n s k (ruled methodsLength (partAt 1 m (s + k))) h suites methods size
-    of-suites n (Part.Refused r) h suites size = tt
-
-    of-session : (p : Part) → PartFits p → length m ≤ 16384 → ClientFits (clientSession m p)
-    of-session (Part.At s n) h size =
-        let suites = ruled-fits suitesLength (partAt 2 m (s + n)) (part-fits 2 m (s + n) size) in
-        of-suites n (ruled suitesLength (partAt 2 m (s + n))) (h .len-fits) suites size
-    of-session (Part.Refused r) h size = tt
-
-    of-header : (v : Verdict) → header 1 m ≡ v → ClientFits (clientHeader m v)
-    of-header Verdict.Accepted e = let size = accepted-length 1 m b e in of-session (sessionAt m) (session-fits m size) size
-    of-header (Verdict.Refused r) e = tt
+client-fits m b = ClientHellos.by-header m ClientFits tt (λ a x n s k t j c p.
+    let size = accepted-length 1 m b a in
+    let session = ruled-inside (λ i. leb i 32) 1 m 38 x n (p .session) in
+    let suites = ruled-inside suitesLength 2 m (x + n) s k (p .suites) in
+    let methods = ruled-inside methodsLength 1 m (s + k) t j (p .methods) in
+    record {
+      version-fits = number-fits m 4 b;
+      session-fits = omega arith;
+      suites = record { start-fits = omega arith; len-fits = omega arith };
+      methods = record { start-fits = omega arith; len-fits = omega arith };
+      block = found-fits true m (t + j) c size (p .block);
+    })
 
 -- ---- a step through a block
 
@@ -201,7 +171,7 @@ pub record StepNumbers (kind s n : ℕ) : Type 0 where
 abbrev pub StepFits : Step → Type 0
 StepFits (Step.Extension kind s n) = StepNumbers kind s n
 StepFits Step.End = Unit
-StepFits (Step.Refused r) = Unit
+StepFits Step.Refused = Unit
 
 abbrev extensionAt : List ℕ → ℕ → Step
 extensionAt b at = Step.Extension (number (take 2 (drop at b))) (at + 4) (stated 2 (drop (at + 2) b))
@@ -209,12 +179,12 @@ extensionAt b at = Step.Extension (number (take 2 (drop at b))) (at + 4) (stated
 pub step-fits : (b : List ℕ) (at : ℕ) → Bytes b → length b ≤ 65535 → StepFits (stepAt b at)
 step-fits b at bytes size = at-end (leb (length b) at)
   where
-    whole : (t : Bool) → leb (endAt 2 b (at + 2)) (length b) ≡ t → StepFits (cond t (extensionAt b at) (Step.Refused DecodeError))
+    whole : (t : Bool) → leb (endAt 2 b (at + 2)) (length b) ≡ t → StepFits (cond t (extensionAt b at) Step.Refused)
     whole true h =
         let ends : endAt 2 b (at + 2) ≤ length b = leb-true (endAt 2 b (at + 2)) (length b) h in
         record { kind-fits = number-fits b at bytes; place = record { start-fits = omega arith; len-fits = omega arith } }
     whole false h = tt
 
-    at-end : (t : Bool) → StepFits (cond t Step.End (cond (leb (endAt 2 b (at + 2)) (length b)) (extensionAt b at) (Step.Refused DecodeError)))
+    at-end : (t : Bool) → StepFits (cond t Step.End (cond (leb (endAt 2 b (at + 2)) (length b)) (extensionAt b at) Step.Refused))
     at-end true = tt
     at-end false = whole (leb (endAt 2 b (at + 2)) (length b)) refl

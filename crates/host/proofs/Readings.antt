@@ -9,8 +9,9 @@ use lib.Signed.{mag}
 use mir.Syntax.{w32}
 use mir.Val.{toZ, ofZ}
 use Rattle.refusal.specs.declared.Refusal.{Refusal}
-use Rattle.messages.specs.declared.Part.{Part}
-use Rattle.messages.specs.declared.hello.Block.{Block}
+use Rattle.refusal.specs.declared.Refusal.the-variants.{DecodeError}
+use Rattle.layout.specs.declared.Part.{Part}
+use Rattle.hellos.specs.declared.Block.{Block}
 use Rattle.host.specs.Codes.{refusalCode, rejected, Reading, Reads}
 use Rattle.host.specs.Fields.{partRead, blockFields}
 use Rattle.host.proofs.Signed.{handed-on}
@@ -24,9 +25,9 @@ pub refusal-read : (r : Refusal) {fields : List ℕ} {result : ℤ} → mag resu
     → Reads (rejected r) fields (toZ w32 (ofZ w32 result)) fields
 refusal-read r {result = result} fits e = record { told = handed-on result fits ∙ e; left = refl }
 
-pub part-refused : {p : Part} {r : Refusal} {fields fields' : List ℕ} {result : ℤ} → p ≡ Part.Refused r → mag result < 2 ^ 31 → result ≡ refusalCode r
+pub part-refused : {p : Part} {fields fields' : List ℕ} {result : ℤ} → p ≡ Part.Refused → mag result < 2 ^ 31 → result ≡ refusalCode DecodeError
     → fields' ≡ fields → Reads (partRead p) fields (toZ w32 (ofZ w32 result)) fields'
-part-refused {r = r} e fits told left = rw (e, left) (refusal-read r fits told)
+part-refused e fits told left = rw (e, left) (refusal-read DecodeError fits told)
 
 -- the three fields of a block, one by one
 pub three-fields : (b : Block) (xs : List ℕ) → xs ≡ blockFields b → (getD xs 0 0 ∷ getD xs 1 0 ∷ getD xs 2 0 ∷ []) ≡ blockFields b

@@ -25,23 +25,32 @@ use Rattle.keys.specs.Hmac.{hmac, mac, keyed}
 use Rattle.keys.specs.Prf.{prf, expanded, text}
 use Rattle.keys.specs.Secrets.{premaster, premasterBytes, master, keys, verifyData, isRandom, keyBlockLength, finishedLabel}
 use Rattle.keys.proofs.Lengths.{length-premaster}
-use Rattle.messages.specs.declared.Verdict.{Verdict}
-use Rattle.messages.specs.Layout.{Layout, bytes, written, valid}
-use Rattle.messages.specs.Header.{header}
-use Rattle.messages.specs.Place.{lastAt, filledBy, contents}
-use Rattle.messages.specs.ClientHello.{ClientHello, clientBody, clientFields}
-use Rattle.messages.specs.ServerHello.{serverHello}
+use Rattle.layout.specs.declared.Verdict.{Verdict}
+use Rattle.layout.specs.Layout.{Layout, bytes, written, valid}
+use Rattle.layout.specs.Header.{header}
+use Rattle.layout.specs.Place.{lastAt, filledBy, contents}
+use Rattle.hellos.specs.ClientHello.{ClientHello, clientBody, clientFields}
+use Rattle.hellos.specs.ServerHello.{serverHello}
 use Rattle.messages.specs.Fixed.{serverHelloDone}
-use Rattle.messages.specs.Extensions.{Ext, extensionBytes, extensionWritten}
+use Rattle.extensions.specs.Extensions.{Ext, extensionBytes, extensionWritten}
 use Rattle.keytable.specs.Table.{keyOf, found}
 use Rattle.keytable.proofs.Lookups.{key-size}
 use Rattle.server.specs.declared.Rule.{Rule}
 use Rattle.server.specs.declared.Phase.{Phase}
 use Rattle.server.specs.declared.Connection.{Connection}
 use Rattle.server.specs.Connection.{ended, hintOf}
-use Rattle.server.specs.Steps.{Step, refuse, accept, View, andThen, suites, chosen, offersNull, hintMessage, flightFor, helloChosen, helloFields}
-use Rattle.server.specs.Steps.{unlisted, keyFound, keyIdentity, finishedOf, isValue, completed, finishedValue, afterTests, messageStep, changeStep}
-use Rattle.server.specs.Steps.{isOver, alertStep, outcome}
+use Rattle.server.specs.Step.{Step, refuse, accept}
+use Rattle.server.specs.KeyExchange.{View, andThen}
+use Rattle.server.specs.Connection.{suites}
+use Rattle.server.specs.Hello.{chosen, offersNull, hintMessage, flightFor, helloChosen, helloFields}
+use Rattle.server.specs.KeyExchange.{unlisted, keyFound, keyIdentity}
+use Rattle.server.specs.Finished.{finishedOf, isValue, completed, finishedValue}
+use Rattle.server.specs.Step.{afterTests}
+use Rattle.server.specs.Message.{messageStep}
+use Rattle.server.specs.Change.{changeStep}
+use Rattle.server.specs.Connection.{isOver}
+use Rattle.server.specs.Alert.{alertStep}
+use Rattle.server.specs.Step.{outcome}
 use Rattle.server.specs.Saved.{known, restored}
 use Rattle.server.proofs.Hellos.{hello}
 use Rattle.host.proofs.Answers.{size}

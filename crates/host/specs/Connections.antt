@@ -13,7 +13,10 @@ use Rattle.server.specs.declared.Named.{Named}
 use Rattle.server.specs.declared.Connection.{Connection}
 use Rattle.server.specs.declared.Answer.{Answer}
 use Rattle.server.specs.Connection.{badSetting, startAnswer}
-use Rattle.server.specs.Steps.{View, Settled, suites, messageStep, messageCall, handedOver}
+use Rattle.server.specs.KeyExchange.{View}
+use Rattle.server.specs.Step.{Settled}
+use Rattle.server.specs.Connection.{suites}
+use Rattle.server.specs.Message.{messageStep, messageCall, handedOver}
 use Rattle.server.specs.Saved.{saved, restored}
 use Rattle.host.specs.Codes.{coded}
 

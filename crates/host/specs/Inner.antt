@@ -6,8 +6,8 @@ use mathlib.Core.List.{List}
 use Rattle.refusal.specs.declared.Written.{Written}
 use Rattle.refusal.specs.declared.Written.the-variants.{Wrote, Refused}
 use Rattle.refusal.specs.Table.{toClient}
-use Rattle.messages.specs.declared.Part.{Part}
-use Rattle.messages.specs.declared.hello.Block.{Block}
+use Rattle.layout.specs.declared.Part.{Part}
+use Rattle.hellos.specs.declared.Block.{Block}
 use Rattle.server.specs.declared.Connection.{Connection}
 use Rattle.server.specs.Saved.{restored}
 use Rattle.host.specs.Connections.{keptAfter}
@@ -24,7 +24,7 @@ pub record Fits (start len : ℕ) : Type 0 where
 
 abbrev pub PartFits : Part → Type 0
 PartFits (Part.At start len) = Fits start len
-PartFits (Part.Refused r) = Unit
+PartFits Part.Refused = Unit
 
 abbrev pub BlockFits : Block → Type 0
 BlockFits Block.Absent = Unit

@@ -4,7 +4,10 @@
 ghost use mathlib.Core.Path.{_≡_};
 ghost use Prim.Native.Nat.{_<_, _^_};
 ghost use lib.IntN.{pos};
-ghost use Rattle.server.specs.Steps.{viewOf, messageCall, changeCall, alertCall};
+ghost use Rattle.server.specs.KeyExchange.{viewOf};
+ghost use Rattle.server.specs.Message.{messageCall};
+ghost use Rattle.server.specs.Change.{changeCall};
+ghost use Rattle.server.specs.Alert.{alertCall};
 ghost use Rattle.server.specs.Saved.{restored, phaseByte};
 ghost use Rattle.host.specs.Codes.{coded};
 ghost use Rattle.host.specs.Connections.{Keeps, Starts, Replies, startCall, namedOf};

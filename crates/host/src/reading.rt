@@ -3,24 +3,23 @@
 ghost use mathlib.Core.Path.{_≡_};
 ghost use Rattle.messages.specs.KeyExchange.{vectorPlace};
 ghost use Rattle.messages.specs.Fixed.{fixedPlace};
-ghost use Rattle.messages.specs.Place.{lastAt};
+ghost use Rattle.layout.specs.Place.{lastAt};
 ghost use Rattle.messages.specs.NewSessionTicket.{ticketPlace};
-ghost use Rattle.messages.specs.ClientHello.{clientPlace};
-ghost use Rattle.messages.specs.ServerHello.{serverPlace};
+ghost use Rattle.hellos.specs.ClientHello.{clientPlace};
+ghost use Rattle.hellos.specs.ServerHello.{serverPlace};
 ghost use Rattle.host.specs.Codes.{Reads};
 ghost use Rattle.host.specs.Fields.{partRead, blockFields, ticketRead, serverRead, clientRead, extensionRead};
 ghost use Rattle.host.specs.Inner.{PartFits, BlockFits};
 use crate::code;
-use messages::Part;
-use messages::client_hello;
-use messages::client_hello::Client;
-use messages::extensions;
-use messages::extensions::Step;
+use extensions::Step;
+use hellos::Block;
+use hellos::client_hello;
+use hellos::client_hello::Client;
+use hellos::server_hello;
+use hellos::server_hello::Server;
+use layout::Part;
 use messages::fixed;
-use messages::hello::Block;
 use messages::key_exchange;
-use messages::server_hello;
-use messages::server_hello::Server;
 use messages::ticket;
 use messages::ticket::Ticket;
 use refusal::Refusal;
@@ -66,7 +65,7 @@ pub extern "C" fn tn_read_client_hello(message: &[u8], fields: &mut [u32; 9]) ->
             ];
             0
         }
-        Client::Refused(r) => code::of_refusal(r),
+        Client::Refused => code::of_refusal(Refusal::DecodeError),
     }
 }
 
@@ -96,7 +95,7 @@ pub extern "C" fn tn_read_server_hello(message: &[u8], fields: &mut [u32; 7]) ->
             ];
             0
         }
-        Server::Refused(r) => code::of_refusal(r),
+        Server::Refused => code::of_refusal(Refusal::DecodeError),
     }
 }
 
@@ -110,7 +109,7 @@ fn put_part(part: Part, fields: &mut [u32; 2]) -> i32
             *fields = [start as u32, len as u32];
             0
         }
-        Part::Refused(why) => code::of_refusal(why),
+        Part::Refused => code::of_refusal(Refusal::DecodeError),
     }
 }
 
@@ -137,7 +136,7 @@ pub extern "C" fn tn_read_server_hello_done(message: &[u8]) -> i32
 {
     match fixed::read_done(message) {
         Part::At { start: _, len: _ } => 0,
-        Part::Refused(r) => code::of_refusal(r),
+        Part::Refused => code::of_refusal(Refusal::DecodeError),
     }
 }
 
@@ -163,7 +162,7 @@ pub extern "C" fn tn_read_new_session_ticket(message: &[u8], fields: &mut [u32; 
             *fields = [lifetime_hint, start as u32, len as u32];
             0
         }
-        Ticket::Refused(r) => code::of_refusal(r),
+        Ticket::Refused => code::of_refusal(Refusal::DecodeError),
     }
 }
 
@@ -181,7 +180,7 @@ pub extern "C" fn tn_next_extension(block: &[u8], at: usize, fields: &mut [u32; 
             1
         }
         Step::End => 0,
-        Step::Refused(r) => code::of_refusal(r),
+        Step::Refused => code::of_refusal(Refusal::DecodeError),
     }
 }
 

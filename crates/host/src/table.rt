@@ -4,7 +4,7 @@ ghost use mathlib.Core.Bool.{cond};
 ghost use lib.IntN.{pos};
 ghost use Rattle.refusal.specs.declared.Refusal.the-variants.{BadTable};
 ghost use Rattle.keytable.specs.Table.{wellFormed, keyOf, found};
-ghost use Rattle.keytable.specs.Utf8.{validUtf8};
+ghost use Rattle.utf8.specs.Utf8.{validUtf8};
 ghost use Rattle.host.specs.Codes.{Codes, refusalCode};
 use crate::code;
 use refusal::Refusal;
@@ -33,7 +33,7 @@ pub extern "C" fn tn_table_lookup(table: &[u8], identity: &[u8], out: &mut [u8])
 pub extern "C" fn tn_valid_utf8(bytes: &[u8]) -> i32
     ensures { λ r. ⌜ r ≡ cond (validUtf8 (now (bytes .entry))) (pos 1) (pos 0) ⌝ }
 {
-    if keytable::valid_utf8(bytes) {
+    if utf8::valid_utf8(bytes) {
         return 1;
     }
     0

@@ -1,19 +1,18 @@
 // The messages, each at the front of the lent output: R5 for what the layout forbids, then R1.
 ghost use mathlib.Core.List.{[]};
-ghost use Rattle.messages.specs.Layout.{written};
-ghost use Rattle.messages.specs.ClientHello.{clientHello, clientGiven};
-ghost use Rattle.messages.specs.ServerHello.{serverHello, serverGiven};
+ghost use Rattle.layout.specs.Layout.{written};
+ghost use Rattle.hellos.specs.ClientHello.{clientHello, clientGiven};
+ghost use Rattle.hellos.specs.ServerHello.{serverHello, serverGiven};
 ghost use Rattle.messages.specs.KeyExchange.{serverKeyExchange, clientKeyExchange};
 ghost use Rattle.messages.specs.Fixed.{serverHelloDone, finished};
 ghost use Rattle.messages.specs.NewSessionTicket.{newSessionTicket};
-ghost use Rattle.messages.specs.Extensions.{extensionWritten, ticketExtension};
+ghost use Rattle.extensions.specs.Extensions.{extensionWritten, ticketExtension};
 ghost use Rattle.host.specs.Codes.{Codes};
 use crate::code;
-use messages::client_hello;
-use messages::extensions;
+use hellos::client_hello;
+use hellos::server_hello;
 use messages::fixed;
 use messages::key_exchange;
-use messages::server_hello;
 use messages::ticket;
 
 // The block's bytes count only where it is present.

@@ -9,10 +9,7 @@ use lib.ListN.{length, take, drop, getD, set, replicate, length-append, length-m
 use lib.Seq.{take-length, take-suc, take-suc-set}
 use lib.Bits.{bitXor}
 use borrow.Author.Tests.{le-leb, lt-leb}
-use lib.Dec.{leb}
-use mathlib.Core.Bool.{and-false}
-use Rattle.refusal.specs.Lent.{Answers, gives, refuses}
-use Rattle.refusal.specs.declared.Refusal.the-variants.{BadValue}
+use Rattle.refusal.specs.Lent.{Answers}
 use Rattle.refusal.specs.declared.Written.{Written}
 use Rattle.refusal.proofs.Laws.{whole}
 use Rattle.sha256.specs.declared.Sha256.{Sha256}
@@ -20,8 +17,8 @@ use Rattle.sha256.specs.Hash.{digest, limit}
 use Rattle.sha256.specs.State.{absorb, fresh, finished}
 use Rattle.sha256.proofs.Absorb.{absorb-append}
 use Rattle.sha256.proofs.Finish.{length-digest, finished-within}
-use Rattle.sha256.proofs.Padding.{drop-replicate}
-use Rattle.keys.specs.Hmac.{zeroPadded, keyBlock, ipad, opad, xored, keyed, mac, hmac}
+use Rattle.lists.proofs.Parts.{drop-replicate}
+use Rattle.keys.specs.Hmac.{zeroPadded, keyBlock, ipad, opad, xored, keyed}
 
 -- a key that fits a block, copied over zeros
 pub short-key : (key block : List ℕ) → length key ≤ 64 → block ≡ take (length key) key ++ drop (length key) (replicate 64 0) → block ≡ keyBlock key
@@ -37,7 +34,8 @@ long-key key block h e = rw (e, drop-replicate 64 (length (digest key)) 0, lt-le
 pub next-xored : (block padded : List ℕ) (i pad : ℕ) → i < length block → i < length padded → take i padded ≡ xored (take i block) pad
     → take (i + 1) (set padded i (bitXor (getD block i 0) pad)) ≡ xored (take (i + 1) block) pad
 next-xored block padded i pad h k e =
-    rw (add-one i, take-suc-set padded i (bitXor (getD block i 0) pad) k, e, take-suc block i 0 h, map-append (λ (byte : ℕ). bitXor byte pad) (take i block) (getD block i 0 ∷ []))
+    rw (add-one i, take-suc-set padded i (bitXor (getD block i 0) pad) k, e, take-suc block i 0 h)
+    (sym (map-append (λ (byte : ℕ). bitXor byte pad) (take i block) (getD block i 0 ∷ [])))
 
 -- a finished hash wrote the digest of what it absorbed
 pub digest-of : (s : Sha256) (m : List ℕ) {out out' : List ℕ} {said : Written} → s ≡ absorb fresh m → length m ≤ limit → length out ≡ 32
@@ -66,17 +64,3 @@ two-digests block text inner value s outer l h es first eo second =
 -- the block and then a message in three parts
 pub four-parts : (block a b c : List ℕ) → absorb (absorb (absorb (absorb fresh block) a) b) c ≡ absorb fresh (block ++ (a ++ (b ++ c)))
 four-parts block a b c = simp absorb-append
-
--- ---- the tests
-
-pub hmac-within : (key text : List ℕ) → length text ≤ limit - 64 → length key ≤ limit → hmac key text ≡ gives (mac key text)
-unfolding hmac
-hmac-within key text h k = rw (le-leb (length text) (limit - 64) h, le-leb (length key) limit k)
-
-pub long-message-refused : (key text : List ℕ) → limit - 64 < length text → hmac key text ≡ refuses BadValue
-unfolding hmac
-long-message-refused key text h = rw (lt-leb (length text) (limit - 64) h)
-
-pub long-key-refused : (key text : List ℕ) → limit < length key → hmac key text ≡ refuses BadValue
-unfolding hmac
-long-key-refused key text h = rw (lt-leb (length key) limit h, and-false (leb (length text) (limit - 64)))

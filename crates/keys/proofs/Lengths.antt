@@ -1,23 +1,27 @@
 -- How long the secrets and the Finished values are, and for which arguments there are any.
 -- Assumes nothing.
-use mathlib.Core.Path.{_≡_, refl}
+use mathlib.Core.Path.{_≡_, refl, sym, ap}
 use Prim.Native.Nat.{ℕ, zero, suc, _+_, _*_, _≤_}
 use native.Mathlib.Omega.{arith}
 use mathlib.Core.Bool.{Bool, true, false, cond, _&&_}
 use mathlib.Core.List.{List, _++_}
 use lib.ListN.{length, length-append, length-replicate}
 use lib.Seq.{length-take-le}
-use lib.Dec.{eqb}
-use borrow.Author.Tests.{le-leb, eq-eqb, eqb-true}
-use Rattle.refusal.specs.Lent.{gives, refuses}
-use Rattle.refusal.specs.declared.Refusal.the-variants.{BadValue}
-use Rattle.refusal.proofs.Laws.{refuses-gives}
+use lib.Dec.{leb, eqb}
+use borrow.Author.Tests.{le-leb, leb-true, eq-eqb, eqb-true}
+use Rattle.refusal.specs.Lent.{Outcome, gives, refuses, bytesOf}
+use Rattle.refusal.specs.declared.Refusal.{Refusal}
+use Rattle.refusal.proofs.Laws.{refuses-gives, Sized, sized-tested, sized-then}
+use Rattle.sha256.specs.declared.Sha256.{Sha256}
+use Rattle.sha256.specs.Hash.{limit, concatenated}
+use Rattle.sha256.specs.State.{finished}
 use Rattle.sha256.proofs.Finish.{length-digest}
+use Rattle.keys.specs.declared.Label.{Label}
 use Rattle.keys.specs.declared.Label.the-variants.{MasterSecret}
 use Rattle.keys.specs.declared.Side.{Side}
 use Rattle.keys.specs.Hmac.{mac, keyed}
 use Rattle.keys.specs.Prf.{P, expanded, prf, text}
-use Rattle.keys.specs.Secrets.{premaster, premasterBytes, master, verifyData, finishedLabel}
+use Rattle.keys.specs.Secrets.{premaster, premasterBytes, master, masterUnder, verifyData, finishedLabel, finishedOf}
 use Rattle.keys.proofs.PrfSteps.{prf-within}
 
 -- ---- the PRF
@@ -35,6 +39,13 @@ length-expanded : (secret seed : List ℕ) (n : ℕ) → length (expanded secret
 unfolding expanded
 length-expanded secret seed n = length-take-le n _ (simp length-P (omega arith))
 
+-- what the PRF gives has the length that was asked for
+prf-sized : (secret : List ℕ) (label : Label) (seed : List ℕ) (n : ℕ) → Sized n (prf secret label seed n)
+unfolding prf
+prf-sized secret label seed n =
+    sized-tested (leb (length secret) 65536 && leb (length seed) 65536 && leb n 256) _ _
+    (λ bytes e. let same : expanded secret (text label ++ seed) n ≡ bytes = cc in rw (← same) (length-expanded secret (text label ++ seed) n))
+
 -- ---- the premaster secret
 
 pub length-premaster : (key : List ℕ) → length (premasterBytes key) ≡ 4 + 2 * length key
@@ -45,17 +56,34 @@ pub premaster-given : (key : List ℕ) → 1 ≤ length key → length key ≤ 6
 unfolding premaster
 premaster-given key h k = rw (le-leb 1 (length key) h, le-leb (length key) 64 k)
 
+pub premaster-most : (key bytes : List ℕ) → premaster key ≡ gives bytes → length bytes ≤ 132
+unfolding premaster
+premaster-most key bytes e = go (leb 1 (length key)) (leb (length key) 64) _ refl e
+  where
+    go : (t u : Bool) (r : Refusal) → leb (length key) 64 ≡ u → cond (t && u) (gives (premasterBytes key)) (refuses r) ≡ gives bytes
+        → length bytes ≤ 132
+    go true true r few f =
+        let same : premasterBytes key ≡ bytes = cc in
+        omega (arith, ap length same, length-premaster key, leb-true (length key) 64 few)
+    go true false r few f = absurd (refuses-gives f)
+    go false u r few f = absurd (refuses-gives f)
+
 -- ---- the master secret
 
 pub master-given : (secret client server : List ℕ) → length secret ≤ 65536 → length client ≡ 32 → length server ≡ 32
     → (bytes : List ℕ) × (length bytes ≡ 48) × (master secret client server ≡ gives bytes)
-unfolding master
 master-given secret client server h k l =
     let few : length (client ++ server) ≤ 65536 = simp length-append (omega arith) in (
       expanded secret (text MasterSecret ++ (client ++ server)) 48,
       length-expanded secret _ 48,
       rw (eq-eqb (length client) 32 k, eq-eqb (length server) 32 l) (prf-within secret MasterSecret (client ++ server) 48 h few (omega arith)),
     )
+
+-- under a key of a length that is allowed there is one
+pub master-under-given : (key client server : List ℕ) → 1 ≤ length key → length key ≤ 64 → length client ≡ 32 → length server ≡ 32
+    → (bytes : List ℕ) × (length bytes ≡ 48) × (masterUnder key client server ≡ gives bytes)
+master-under-given key client server some few c s =
+    rw (premaster-given key some few) (master-given (premasterBytes key) client server (rw (length-premaster key) (omega arith)) c s)
 
 -- ---- Finished values
 
@@ -65,15 +93,27 @@ unfolding verifyData
 value-given side secret hash h k = (
   expanded secret (text (finishedLabel side) ++ hash) 12,
   length-expanded secret _ 12,
-  rw (eq-eqb (length secret) 48 h, eq-eqb (length hash) 32 k) (prf-within secret (finishedLabel side) hash 12 (omega arith) (omega arith) (omega arith)),
+  rw (eq-eqb (length secret) 48 h, eq-eqb (length hash) 32 k)
+      (prf-within secret (finishedLabel side) hash 12 (omega arith) (omega arith) (omega arith)),
 )
+
+-- a hash that is not past its limit has 32 bytes
+pub hash-sized : (s : Sha256) → Sized 32 (finished s)
+unfolding finished concatenated
+hash-sized s bytes e = sized-tested (leb (s .count) limit) _ _ (λ b f. ap (λ (o : Outcome). length (bytesOf o)) (sym f)) bytes e
+
+pub finished-of-sized : (side : Side) (secret : List ℕ) (s : Sha256) → Sized 12 (finishedOf side secret s)
+unfolding verifyData
+finished-of-sized side secret s =
+    sized-then (finished s) (λ hash.
+    sized-tested (eqb (length secret) 48 && eqb (length hash) 32) _ _ (prf-sized secret (finishedLabel side) hash 12))
 
 -- where there is one, the master secret has its length
 pub value-master : (side : Side) (secret hash value : List ℕ) → verifyData side secret hash ≡ gives value → length secret ≡ 48
 unfolding verifyData
-value-master side secret hash value e = go (eqb (length secret) 48) refl e
+value-master side secret hash value e = go (eqb (length secret) 48) _ refl e
   where
-    go : (t : Bool) → eqb (length secret) 48 ≡ t
-        → cond (t && eqb (length hash) 32) (prf secret (finishedLabel side) hash 12) (refuses BadValue) ≡ gives value → length secret ≡ 48
-    go true long h = eqb-true _ _ long
-    go false other h = absurd (refuses-gives h)
+    go : (t : Bool) (r : Refusal) → eqb (length secret) 48 ≡ t
+        → cond (t && eqb (length hash) 32) (prf secret (finishedLabel side) hash 12) (refuses r) ≡ gives value → length secret ≡ 48
+    go true r long h = eqb-true _ _ long
+    go false r other h = absurd (refuses-gives h)

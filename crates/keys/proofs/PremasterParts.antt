@@ -1,18 +1,12 @@
 -- The premaster secret, part behind part.
 -- Assumes nothing.
-use mathlib.Core.Path.{_≡_, refl, ap, _∙_}
-use Prim.Native.Nat.{ℕ, zero, suc, _+_, _*_, _≤_}
-use native.Mathlib.Nat.{le-of-suc-le-suc}
+use mathlib.Core.Path.{_≡_, ap, _∙_}
+use Prim.Native.Nat.{ℕ, _+_, _*_}
 use native.Mathlib.Omega.{arith}
-use mathlib.Core.List.{List, _∷_, _++_, append-assoc}
+use mathlib.Core.List.{List, _++_, append-assoc}
 use lib.ListN.{length, take, replicate, length-replicate}
 use Rattle.endian.specs.Number.{be}
 use Rattle.keys.specs.Secrets.{premasterBytes}
-
-pub take-replicate : (n k a : ℕ) → k ≤ n → take k (replicate n a) ≡ replicate k a
-take-replicate n zero a h = refl
-take-replicate zero (suc k) a h = absurd (omega arith)
-take-replicate (suc n) (suc k) a h = ap (λ (l : List ℕ). a ∷ l) (take-replicate n k a (le-of-suc-le-suc h))
 
 -- what four copies, each behind the last, leave at the front
 pub premaster-parts : (psk size zeros a b c d : List ℕ) → size ≡ be 2 (length psk) → zeros ≡ replicate (length psk) 0
@@ -31,4 +25,5 @@ premaster-parts psk size zeros a b c d es ez ea eb ec ed =
     let four : 2 + n + 2 ≡ 4 + n = omega arith in
     let third : take (4 + n) c ≡ take (2 + n) b ++ size = rw (two, four) at ec in
     let all : 4 + 2 * n ≡ 4 + n + n = omega arith in
-    rw (all, ed, third, second, first, ez, es) (append-assoc (be 2 n ++ replicate n 0) (be 2 n) psk ∙ append-assoc (be 2 n) (replicate n 0) (be 2 n ++ psk))
+    rw (all, ed, third, second, first, ez, es)
+    (append-assoc (be 2 n ++ replicate n 0) (be 2 n) psk ∙ append-assoc (be 2 n) (replicate n 0) (be 2 n ++ psk))

@@ -7,11 +7,8 @@ use native.Mathlib.Omega.{arith}
 use mathlib.Core.List.{List, _++_}
 use lib.ListN.{length, take, length-append}
 use lib.Seq.{take-take}
-use mathlib.Core.Bool.{_&&_, and-false}
-use lib.Dec.{leb}
-use borrow.Author.Tests.{le-leb, lt-leb}
-use Rattle.refusal.specs.Lent.{gives, refuses}
-use Rattle.refusal.specs.declared.Refusal.the-variants.{BadValue}
+use borrow.Author.Tests.{le-leb}
+use Rattle.refusal.specs.Lent.{gives}
 use Rattle.sha256.specs.Hash.{limit}
 use Rattle.keys.specs.declared.Label.{Label}
 use Rattle.keys.specs.declared.Label.the-variants.{MasterSecret, KeyExpansion, ClientFinished, ServerFinished}
@@ -48,21 +45,9 @@ enough secret seed buffer i n h k e =
     let parts : (n + 31) / 32 ≡ i = omega arith in
     rw (parts, ← e, take-take n (32 * i) buffer h)
 
--- ---- the tests
+-- ---- within the limits
 
 pub prf-within : (secret : List ℕ) (label : Label) (seed : List ℕ) (n : ℕ) → length secret ≤ 65536 → length seed ≤ 65536 → n ≤ 256
     → prf secret label seed n ≡ gives (expanded secret (text label ++ seed) n)
 unfolding prf
 prf-within secret label seed n h k l = rw (le-leb (length secret) 65536 h, le-leb (length seed) 65536 k, le-leb n 256 l)
-
-pub long-secret-refused : (secret : List ℕ) (label : Label) (seed : List ℕ) (n : ℕ) → 65536 < length secret → prf secret label seed n ≡ refuses BadValue
-unfolding prf
-long-secret-refused secret label seed n h = rw (lt-leb (length secret) 65536 h)
-
-pub long-seed-refused : (secret : List ℕ) (label : Label) (seed : List ℕ) (n : ℕ) → 65536 < length seed → prf secret label seed n ≡ refuses BadValue
-unfolding prf
-long-seed-refused secret label seed n h = rw (lt-leb (length seed) 65536 h, and-false (leb (length secret) 65536))
-
-pub long-output-refused : (secret : List ℕ) (label : Label) (seed : List ℕ) (n : ℕ) → 256 < n → prf secret label seed n ≡ refuses BadValue
-unfolding prf
-long-output-refused secret label seed n h = rw (lt-leb n 256 h, and-false (leb (length secret) 65536 && leb (length seed) 65536))

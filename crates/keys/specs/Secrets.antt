@@ -5,8 +5,10 @@ use mathlib.Core.List.{List, _++_}
 use lib.ListN.{length, replicate}
 use lib.Dec.{leb, eqb}
 use Rattle.endian.specs.Number.{be}
-use Rattle.refusal.specs.Lent.{Outcome, gives, refuses}
+use Rattle.refusal.specs.Lent.{Outcome, gives, refuses, andThen}
 use Rattle.refusal.specs.declared.Refusal.the-variants.{BadValue}
+use Rattle.sha256.specs.declared.Sha256.{Sha256}
+use Rattle.sha256.specs.State.{finished}
 use Rattle.keys.specs.declared.Label.{Label}
 use Rattle.keys.specs.declared.Label.the-variants.{MasterSecret, KeyExpansion, ClientFinished, ServerFinished}
 use Rattle.keys.specs.declared.Side.{Side}
@@ -24,10 +26,17 @@ premaster psk = cond (leb 1 (length psk) && leb (length psk) 64) (gives (premast
 abbrev pub isRandom : List ℕ → Bool
 isRandom random = eqb (length random) 32
 
+-- n bytes of the PRF whose seed is two randoms, one after the other; a random of other than 32 bytes is R5
+abbrev pub prfOfRandoms : List ℕ → Label → List ℕ → List ℕ → ℕ → Outcome
+prfOfRandoms secret label first second n = cond (isRandom first && isRandom second) (prf secret label (first ++ second) n) (refuses BadValue)
+
 -- RFC 5246, 8.1: PRF(pre_master_secret, "master secret", ClientHello.random + ServerHello.random)[0..47]
-unfoldable pub master : List ℕ → List ℕ → List ℕ → Outcome
-master secret client server =
-    cond (isRandom client && isRandom server) (prf secret MasterSecret (client ++ server) 48) (refuses BadValue)
+abbrev pub master : List ℕ → List ℕ → List ℕ → Outcome
+master secret client server = prfOfRandoms secret MasterSecret client server 48
+
+-- the master secret under a key
+abbrev pub masterUnder : (key client server : List ℕ) → Outcome
+masterUnder key client server = andThen (premaster key) (λ secret. master secret client server)
 
 -- RFC 5487 and RFC 4279, the keys that RFC 5246, 6.3 cuts from the key block, with no IVs: 0x00AE takes two MAC keys of 32 bytes and two keys of 16,
 -- 0x008C two of 20 and two of 16, and 0x00B0 two of 32. Other suites are none of ours.
@@ -50,3 +59,8 @@ finishedLabel Server = ServerFinished
 unfoldable pub verifyData : Side → List ℕ → List ℕ → Outcome
 verifyData side secret hash =
     cond (eqb (length secret) 48 && eqb (length hash) 32) (prf secret (finishedLabel side) hash 12) (refuses BadValue)
+
+-- the Finished value of a side over a transcript, whose seed is SHA-256 of all its messages; none past the hash's limit, which no series of calls
+-- reaches
+abbrev pub finishedOf : Side → List ℕ → Sha256 → Outcome
+finishedOf side secret transcript = andThen (finished transcript) (verifyData side secret)

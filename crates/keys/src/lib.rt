@@ -7,6 +7,7 @@ mod p_sha256;
 
 use refusal::Refusal;
 use refusal::Written;
+use sha256::Sha256;
 ghost use Rattle.refusal.specs.Lent.{Answers};
 use buffer::append;
 use p_sha256::expand;
@@ -91,14 +92,19 @@ pub fn premaster(psk: &[u8], out: &mut [u8]) -> Written
 pub fn master(premaster: &[u8], client: &[u8], server: &[u8], out: &mut [u8]) -> Written
     ensures { λ r. ⌜ Answers (Secrets.master (now (premaster .entry)) (now (client .entry)) (now (server .entry))) (now (out .entry)) r (now (out .exit)) ⌝ }
 {
-    if client.len() != 32 {
-        return Written::Refused(Refusal::BadValue);
+    prf_of_randoms(premaster, Label::MasterSecret, client, server, 48, out)
+}
+
+// The master secret under a key, 48 bytes at the front of the lent output: R5 where the key is not of 1 to
+// 64 bytes or a random not of 32, then R1.
+pub fn master_under(key: &[u8], client: &[u8], server: &[u8], out: &mut [u8]) -> Written
+    ensures { λ r. ⌜ Answers (Secrets.masterUnder (now (key .entry)) (now (client .entry)) (now (server .entry))) (now (out .entry)) r (now (out .exit)) ⌝ }
+{
+    let mut secret = [0u8; 132];
+    match premaster(key, &mut secret) {
+        Written::Wrote(n) => master(&secret[..n], client, server, out),
+        Written::Refused(r) => Written::Refused(r),
     }
-    if server.len() != 32 {
-        return Written::Refused(Refusal::BadValue);
-    }
-    let seed = joined(client, server);
-    prf(premaster, Label::MasterSecret, &seed[..64], 48, out)
 }
 
 // The bytes that the suite takes of its key block, or 0 for a suite that is none of ours.
@@ -125,18 +131,11 @@ pub fn key_block(master: &[u8], server: &[u8], client: &[u8], suite: u16, out: &
     if master.len() != 48 {
         return Written::Refused(Refusal::BadValue);
     }
-    if server.len() != 32 {
-        return Written::Refused(Refusal::BadValue);
-    }
-    if client.len() != 32 {
-        return Written::Refused(Refusal::BadValue);
-    }
     let n = key_block_length(suite);
     if n < 1 {
         return Written::Refused(Refusal::BadValue);
     }
-    let seed = joined(server, client);
-    prf(master, Label::KeyExpansion, &seed[..64], n, out)
+    prf_of_randoms(master, Label::KeyExpansion, server, client, n, out)
 }
 
 // The verify data of a Finished message, 12 bytes at the front of the lent output: R5 where the master
@@ -152,6 +151,17 @@ pub fn finished(side: Side, master: &[u8], hash: &[u8], out: &mut [u8]) -> Writt
     }
     let label = finished_label(side);
     prf(master, label, hash, 12, out)
+}
+
+// The same over all messages of a transcript: R5 too past the hash's limit.
+pub fn finished_of(side: Side, master: &[u8], transcript: Sha256, out: &mut [u8]) -> Written
+    ensures { λ r. ⌜ Answers (Secrets.finishedOf side (now (master .entry)) transcript) (now (out .entry)) r (now (out .exit)) ⌝ }
+{
+    let mut hash = [0u8; 32];
+    match transcript::hash_of(transcript, &mut hash) {
+        Written::Wrote(_) => finished(side, master, &hash, out),
+        Written::Refused(r) => Written::Refused(r),
+    }
 }
 
 fn finished_label(side: Side) -> Label
@@ -175,6 +185,27 @@ fn premaster_bytes(psk: &[u8]) -> [u8; 256]
     let second = append(first, 2, &zeros[..n]);
     let third = append(second, 2 + n, &size);
     append(third, 4 + n, psk)
+}
+
+// n bytes of the PRF whose seed is two randoms: R5 where one is not of 32 bytes, then what `prf` tests.
+fn prf_of_randoms(
+    secret: &[u8],
+    label: Label,
+    first: &[u8],
+    second: &[u8],
+    n: usize,
+    out: &mut [u8],
+) -> Written
+    ensures { λ r. ⌜ Answers (Secrets.prfOfRandoms (now (secret .entry)) label (now (first .entry)) (now (second .entry)) n) (now (out .entry)) r (now (out .exit)) ⌝ }
+{
+    if first.len() != 32 {
+        return Written::Refused(Refusal::BadValue);
+    }
+    if second.len() != 32 {
+        return Written::Refused(Refusal::BadValue);
+    }
+    let seed = joined(first, second);
+    prf(secret, label, &seed[..64], n, out)
 }
 
 // Two randoms one after the other, at the front of a buffer.

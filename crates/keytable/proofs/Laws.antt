@@ -3,20 +3,22 @@
 use mathlib.Core.Path.{_≡_, refl, sym, ap, _∙_}
 use Prim.Native.Nat.{ℕ}
 use native.Mathlib.Omega.{arith}
-use mathlib.Core.Bool.{Bool, true, false, cond, _&&_}
+use mathlib.Core.Bool.{Bool, true, false, cond}
 use mathlib.Core.List.{List, [], _∷_, _++_, map, append-assoc, map-append}
 use mathlib.Core.Option.{Option, none, some}
-use lib.ListN.{length}
-use lib.Dec.{leb, eqb}
-use Rattle.lists.specs.Lists.{each, Each, Distinct}
-use Rattle.keytable.specs.Table.{lineEnd, colon, upto, past, before, lines, identityOf, decoded, keyText, orElse, firstText, keyOfText, keyOf, validIdentity, validKey, validLine, ended, apart, wellFormed}
+use lib.Dec.{eqb}
+use Rattle.lists.specs.Lists.{each, Each}
+use Rattle.keytable.specs.Table.{lineEnd, colon, upto, past, before, lines, identityOf, validIdentity, validKey, validLine, ended, wellFormed}
+use Rattle.keytable.specs.Table.{decoded, keyText, orElse, firstText, keyOfText, keyOf}
 use Rattle.keytable.specs.WellFormed.{HexDigit, Line, ValidLine, text, WellFormed, LineRemoved}
-use Rattle.lists.proofs.Tests.{and-left, and-right, both}
+use Rattle.lists.proofs.Tests.{and-left, and-right}
 use Rattle.keytable.proofs.Tests.{key-sound}
-use Rattle.lists.proofs.Every.{every-map}
-use Rattle.keytable.proofs.Texts.{digit-no-colon, upto-append, past-append, parted, lineOf, valid-parted, identity-no-colon, hex-no-colon, line-no-end, lines-end, text-cons, ended-text}
+use Rattle.lists.proofs.Every.{every-map, each-append, every-middle}
+use Rattle.lists.proofs.Distinct.{distinct-middle}
+use Rattle.keytable.proofs.Texts.{Without, upto-append, past-append, lines-end, parted, lineOf, valid-parted, text-cons, ended-text}
+use Rattle.keytable.proofs.Texts.{digit-no-colon, identity-no-colon, hex-no-colon, line-no-end}
 use Rattle.keytable.proofs.Lines.{lines-cons}
-use Rattle.keytable.proofs.Agreement.{apart-sound, line-sound}
+use Rattle.keytable.proofs.Agreement.{identities-sound, line-sound, tested}
 use Rattle.keytable.proofs.Lookups.{own-text, other-text, key-is}
 
 -- ---- lists of lines
@@ -40,25 +42,6 @@ lines-append (c ∷ d ∷ a) b h = go (eqb c lineEnd) (lines (d ∷ a)) refl (li
     go true ls e ih = ap (λ (r : List (List ℕ)). [] ∷ r) ih
     go false [] e ih = let z : _≡_ {A = ℕ} 0 1 = cc (lines-cons (d ∷ a) (omega arith)) in absurd (omega arith)
     go false (l ∷ ls) e ih = rw ih (rw e)
-
-each-append : (p : List ℕ → Bool) (xs ys : List (List ℕ)) → each p (xs ++ ys) ≡ true → (each p xs ≡ true) × (each p ys ≡ true)
-each-append p [] ys h = (refl, h)
-each-append p (x ∷ xs) ys h =
-    let rest = each-append p xs ys (and-right (p x) (each p (xs ++ ys)) h) in
-    (both (and-left (p x) (each p (xs ++ ys)) h) (rest .0), rest .1)
-
-every-middle : {A : Type 0} (P : A → Type 0) (xs : List A) (y : A) (ys : List A) → Each P (xs ++ (y ∷ ys)) → P y
-every-middle P [] y ys h = h .0
-every-middle P (x ∷ xs) y ys h = every-middle P xs y ys (h .1)
-
--- one that stands in the middle is no other
-distinct-middle : (xs : List (List ℕ)) (y : List ℕ) (ys : List (List ℕ)) → Distinct (xs ++ (y ∷ ys))
-    → Each (λ x. ¬ (y ≡ x)) xs × Each (λ x. ¬ (y ≡ x)) ys
-distinct-middle [] y ys d = (tt, d .0)
-distinct-middle (x ∷ xs) y ys d =
-    let rest = distinct-middle xs y ys (d .1) in
-    let other = every-middle (λ z. ¬ (x ≡ z)) xs y ys (d .0) in
-    (((λ e. other (sym e)), rest .0), rest .1)
 
 -- valid lines with other identities have nothing for this one
 none-in : (i : List ℕ) (ls : List (List ℕ)) → each validLine ls ≡ true → Each (λ x. ¬ (i ≡ x)) (map identityOf ls) → firstText i ls ≡ none
@@ -84,13 +67,8 @@ module _ (identity t t' : List ℕ) (r : LineRemoved identity t t') (h : wellFor
   lines-second : lines t' ≡ lines (r .front) ++ lines (r .back)
   lines-second = ap lines (r .second) ∙ lines-append (r .front) (r .back) (r .starts)
 
-  -- the two parts of the test that matter here
   all-valid : each validLine (lines (r .front) ++ (removed ∷ lines (r .back))) ≡ true
-  unfolding wellFormed
-  all-valid =
-      ap (each validLine) (sym lines-first)
-      ∙ and-right (leb (length t) 65536 && ended t && leb (length (lines t)) 256) (each validLine (lines t))
-      (and-left (leb (length t) 65536 && ended t && leb (length (lines t)) 256 && each validLine (lines t)) (apart [] (map identityOf (lines t))) h)
+  all-valid = ap (each validLine) (sym lines-first) ∙ tested t h .3
 
   identity-is : identityOf removed ≡ identity
   identity-is = upto-append colon identity (r .hex) (r .one-colon)
@@ -99,16 +77,14 @@ module _ (identity t t' : List ℕ) (r : LineRemoved identity t t') (h : wellFor
   hex-is = past-append colon identity (r .hex) (r .one-colon)
 
   others : Each (λ x. ¬ (identity ≡ x)) (map identityOf (lines (r .front))) × Each (λ x. ¬ (identity ≡ x)) (map identityOf (lines (r .back)))
-  unfolding wellFormed
-  others = distinct-middle (map identityOf (lines (r .front))) identity (map identityOf (lines (r .back))) (rw (← identities) (apart-sound (map identityOf (lines t)) apart-first))
+  others =
+      distinct-middle (map identityOf (lines (r .front))) identity (map identityOf (lines (r .back)))
+      (rw (← identities) (identities-sound (map identityOf (lines t)) (tested t h .4)))
     where
       identities : map identityOf (lines t) ≡ map identityOf (lines (r .front)) ++ (identity ∷ map identityOf (lines (r .back)))
       identities =
           ap (map identityOf) lines-first ∙ map-append identityOf (lines (r .front)) (removed ∷ lines (r .back))
           ∙ ap (λ (i : List ℕ). map identityOf (lines (r .front)) ++ (i ∷ map identityOf (lines (r .back)))) identity-is
-
-      apart-first : apart [] (map identityOf (lines t)) ≡ true
-      apart-first = and-right (leb (length t) 65536 && ended t && leb (length (lines t)) 256 && each validLine (lines t)) (apart [] (map identityOf (lines t))) h
 
   front-valid : each validLine (lines (r .front)) ≡ true
   front-valid = each-append validLine (lines (r .front)) (removed ∷ lines (r .back)) all-valid .0
@@ -146,11 +122,16 @@ module _ (identity t t' : List ℕ) (r : LineRemoved identity t t') (h : wellFor
   unfolding keyOf
   removed-else other differ =
       ap (λ (ls : List (List ℕ)). keyOfText (firstText other ls)) lines-first
-      ∙ ap keyOfText (first-append other (lines (r .front)) (removed ∷ lines (r .back)) ∙ middle ∙ sym (first-append other (lines (r .front)) (lines (r .back))))
+      ∙ ap keyOfText
+      (first-append other (lines (r .front)) (removed ∷ lines (r .back)) ∙ middle ∙ sym (first-append other (lines (r .front)) (lines (r .back))))
       ∙ ap (λ (ls : List (List ℕ)). keyOfText (firstText other ls)) (sym lines-second)
     where
-      middle : orElse (firstText other (lines (r .front))) (firstText other (removed ∷ lines (r .back))) ≡ orElse (firstText other (lines (r .front))) (firstText other (lines (r .back)))
-      middle = rw (other-text other identity (r .hex) differ (r .one-colon) (every-map HexDigit _ digit-no-colon (r .hex) (key-sound (r .hex) key-valid .digits)))
+      hex-colonless : Without colon (r .hex)
+      hex-colonless = every-map HexDigit _ digit-no-colon (r .hex) (key-sound (r .hex) key-valid .digits)
+
+      middle : orElse (firstText other (lines (r .front))) (firstText other (removed ∷ lines (r .back)))
+          ≡ orElse (firstText other (lines (r .front))) (firstText other (lines (r .back)))
+      middle = rw (other-text other identity (r .hex) differ (r .one-colon) hex-colonless)
 
 -- ---- every line can be removed
 

@@ -1,6 +1,5 @@
 pub mod Agreement
 pub mod Apart
-pub mod Characters
 pub mod Laws
 pub mod Lines
 pub mod Lookups

@@ -10,32 +10,30 @@ use lib.ListN.{length, take, drop, getD, length-drop, drop-of-length-le}
 use lib.Seq.{drop-drop}
 use lib.Dec.{eqb}
 use Rattle.lists.proofs.Parts.{part-to-end, rest}
-use Rattle.lists.specs.Lists.{each, part}
+use Rattle.lists.specs.Lists.{part}
 use Rattle.keytable.specs.Table.{lineEnd, colon, before, lines, upto, past, identityOf, validIdentity, validKey, validLine, ended}
 
-pub length-upto : (x : ℕ) (s : List ℕ) → length (upto x s) ≤ length s
-length-upto x [] = omega arith
-length-upto x (b ∷ s) = go (eqb b x) refl (length-upto x s)
+-- what stands before the first x, and after it, as parts of the list
+upto-parts : (x : ℕ) (s : List ℕ)
+    → (length (upto x s) ≤ length s) × (take (length (upto x s)) s ≡ upto x s) × (past x s ≡ drop (suc (length (upto x s))) s)
+upto-parts x [] = (omega arith, refl, refl)
+upto-parts x (b ∷ s) = go (eqb b x) refl (upto-parts x s)
   where
-    go : (t : Bool) → eqb b x ≡ t → length (upto x s) ≤ length s → length (upto x (b ∷ s)) ≤ suc (length s)
-    go true e ih = rw e (omega arith)
-    go false e ih = rw e (omega arith)
+    go : (t : Bool) → eqb b x ≡ t
+        → (length (upto x s) ≤ length s) × (take (length (upto x s)) s ≡ upto x s) × (past x s ≡ drop (suc (length (upto x s))) s)
+        → (length (upto x (b ∷ s)) ≤ suc (length s)) × (take (length (upto x (b ∷ s))) (b ∷ s) ≡ upto x (b ∷ s))
+        × (past x (b ∷ s) ≡ drop (suc (length (upto x (b ∷ s)))) (b ∷ s))
+    go true e ih = rw e (omega arith, refl, refl)
+    go false e (few, front, back) = rw e (omega arith, ap (λ (l : List ℕ). b ∷ l) front, back)
+
+pub length-upto : (x : ℕ) (s : List ℕ) → length (upto x s) ≤ length s
+length-upto x s = upto-parts x s .0
 
 pub take-upto : (x : ℕ) (s : List ℕ) → take (length (upto x s)) s ≡ upto x s
-take-upto x [] = refl
-take-upto x (b ∷ s) = go (eqb b x) refl (take-upto x s)
-  where
-    go : (t : Bool) → eqb b x ≡ t → take (length (upto x s)) s ≡ upto x s → take (length (upto x (b ∷ s))) (b ∷ s) ≡ upto x (b ∷ s)
-    go true e ih = rw e
-    go false e ih = rw e (ap (λ (l : List ℕ). b ∷ l) ih)
+take-upto x s = upto-parts x s .1
 
 past-drop : (x : ℕ) (s : List ℕ) → past x s ≡ drop (suc (length (upto x s))) s
-past-drop x [] = refl
-past-drop x (b ∷ s) = go (eqb b x) refl (past-drop x s)
-  where
-    go : (t : Bool) → eqb b x ≡ t → past x s ≡ drop (suc (length (upto x s))) s → past x (b ∷ s) ≡ drop (suc (length (upto x (b ∷ s)))) (b ∷ s)
-    go true e ih = rw e
-    go false e ih = rw e ih
+past-drop x s = upto-parts x s .2
 
 pub lines-cons : (s : List ℕ) → 0 < length s → lines s ≡ upto lineEnd s ∷ lines (drop (suc (length (upto lineEnd s))) s)
 lines-cons [] h = absurd (omega arith)
@@ -74,14 +72,6 @@ module _ (s : List ℕ) (at end : ℕ) (h : at ≤ length s) (e : end ≡ at + l
   module _ (inside : at < length s) where
     pub count-on : (n : ℕ) → length (lines s) ≡ n + length (lines (drop at s)) → length (lines s) ≡ n + 1 + length (lines (drop (end + 1) s))
     count-on n now = let one : length (lines (drop at s)) ≡ suc (length (lines (drop (end + 1) s))) = ap length (line-here inside) in omega arith
-
-    pub valid-on : validLine (part at (end - at) s) ≡ true → each validLine (lines s) ≡ each validLine (lines (drop at s))
-        → each validLine (lines s) ≡ each validLine (lines (drop (end + 1) s))
-    valid-on good now = now ∙ ap (each validLine) (line-here inside) ∙ rw good
-
-    pub valid-ends : validLine (part at (end - at) s) ≡ false → each validLine (lines s) ≡ each validLine (lines (drop at s))
-        → false ≡ each validLine (lines s)
-    valid-ends bad now = sym (now ∙ ap (each validLine) (line-here inside) ∙ rw bad)
 
 -- no lines are left at the end
 pub no-lines : (s : List ℕ) (at : ℕ) → length s ≤ at → lines (drop at s) ≡ []

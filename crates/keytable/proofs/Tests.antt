@@ -9,7 +9,7 @@ use mathlib.Core.List.{List}
 use lib.ListN.{length}
 use lib.Dec.{leb, eqb}
 use borrow.Author.Tests.{leb-true, le-leb, lt-leb, eqb-true, eqb-false, eq-eqb, ne-eqb, lt-ltb, not-true}
-use Rattle.keytable.specs.Utf8.{validUtf8}
+use Rattle.utf8.specs.Utf8.{validUtf8}
 use Rattle.lists.specs.Lists.{each}
 use Rattle.keytable.specs.Table.{colon, between, hexDigit, validKey, plain, validIdentity}
 use Rattle.keytable.specs.WellFormed.{Plain, Identity, HexDigit, Key}

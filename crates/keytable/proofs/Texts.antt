@@ -61,7 +61,8 @@ joined-lines [] h = refl
 joined-lines (b ∷ []) h = rw h (ap (λ (x : ℕ). x ∷ []) (sym (eqb-true b lineEnd h)))
 joined-lines (b ∷ c ∷ s) h = go (eqb b lineEnd) refl (lines (c ∷ s)) refl (joined-lines (c ∷ s) h)
   where
-    go : (t : Bool) → eqb b lineEnd ≡ t → (ls : List (List ℕ)) → lines (c ∷ s) ≡ ls → joined (lines (c ∷ s)) ≡ c ∷ s → joined (lines (b ∷ c ∷ s)) ≡ b ∷ c ∷ s
+    go : (t : Bool) → eqb b lineEnd ≡ t → (ls : List (List ℕ)) → lines (c ∷ s) ≡ ls → joined (lines (c ∷ s)) ≡ c ∷ s
+        → joined (lines (b ∷ c ∷ s)) ≡ b ∷ c ∷ s
     go true e ls le ih = rw e (ap₂ (λ (x : ℕ) (r : List ℕ). x ∷ r) (sym (eqb-true b lineEnd e)) ih)
     go false e [] le ih = let z : _≡_ {A = ℕ} 0 1 = cc in absurd (omega arith)
     go false e (l ∷ ls) le ih = rw e (rw le (ap (λ (r : List ℕ). b ∷ r) (rw le at ih)))
@@ -125,7 +126,8 @@ module _ (l : Line) (v : ValidLine l) where
 pub lines-text : (ls : List Line) → Each ValidLine ls → lines (text ls) ≡ map lineOf ls
 lines-text [] h = refl
 lines-text (l ∷ ls) h =
-    ap lines (text-cons l ls) ∙ lines-end (lineOf l) (text ls) (line-no-end l (h .0)) ∙ ap (λ (r : List (List ℕ)). lineOf l ∷ r) (lines-text ls (h .1))
+    ap lines (text-cons l ls) ∙ lines-end (lineOf l) (text ls) (line-no-end l (h .0))
+    ∙ ap (λ (r : List (List ℕ)). lineOf l ∷ r) (lines-text ls (h .1))
 
 pub ended-text : (ls : List Line) → ended (text ls) ≡ true
 ended-text [] = refl

@@ -1,11 +1,14 @@
 -- What the contracts of this crate's private functions cite, and no public contract does.
 use mathlib.Core.Path.{_≡_}
 use Prim.Native.Nat.{ℕ, _+_, _-_, _*_, _%_, _≤_, _<_}
+use mathlib.Core.Bool.{Bool}
 use mathlib.Core.List.{List, [], _∷_, map}
 use mathlib.Core.Option.{Option, none, some}
 use lib.ListN.{length, take, drop, getD}
 use Rattle.lists.specs.Lists.{part}
-use Rattle.keytable.specs.Table.{lineEnd, colon, upto}
+use Rattle.keytable.specs.Table.{lineEnd, colon, upto, plain, hexDigit}
+use Rattle.keytable.specs.declared.classes.Class.{Class}
+use Rattle.keytable.specs.declared.classes.Class.the-variants.{Plain, HexDigit}
 use Rattle.keytable.specs.declared.entries.Hit.{Hit}
 use Rattle.keytable.specs.declared.entries.Hit.the-variants.{Text, Nothing}
 
@@ -17,6 +20,11 @@ hitText table Nothing = none
 abbrev pub Within : List ℕ → Hit → Type 0
 Within table (Text from to) = (from ≤ to) × (to ≤ length table)
 Within table Nothing = Unit
+
+-- the test for a class of bytes
+abbrev pub belongs : Class → ℕ → Bool
+belongs Plain = plain
+belongs HexDigit = hexDigit
 
 -- the identity of the line at `at`
 abbrev pub identityAt : List ℕ → ℕ → List ℕ

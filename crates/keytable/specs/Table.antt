@@ -1,15 +1,18 @@
 -- The key table (document 01, "The key table"): "lines `identity:hex`, each ended by one byte 0A". The test that a table is well formed, and the
 -- key that stands in it for an identity.
 use Prim.Native.Nat.{ℕ, _+_, _-_, _*_, _%_}
-use mathlib.Core.Bool.{Bool, true, false, cond, not, _&&_, _||_}
-use mathlib.Core.List.{List, [], _∷_, _++_, map}
+use mathlib.Core.Bool.{Bool, true, cond, not, _&&_}
+use mathlib.Core.List.{List, [], _∷_, map}
 use mathlib.Core.Option.{Option, none, some}
 use lib.ListN.{length}
 use lib.Dec.{leb, ltb, eqb}
-use Rattle.lists.specs.Lists.{each, same}
+use Rattle.lists.specs.Lists.{each, distinct, same}
 use Rattle.refusal.specs.Lent.{Outcome, gives, refuses}
-use Rattle.refusal.specs.declared.Refusal.the-variants.{UnknownPskIdentity}
-use Rattle.keytable.specs.Utf8.{validUtf8}
+use Rattle.refusal.specs.declared.Refusal.{Refusal}
+use Rattle.refusal.specs.declared.Refusal.the-variants.{BadTable, UnknownPskIdentity}
+use Rattle.keytable.specs.declared.Judged.{Judged}
+use Rattle.keytable.specs.declared.Judged.the-variants.{Good, Refused}
+use Rattle.utf8.specs.Utf8.{validUtf8}
 
 abbrev pub lineEnd : ℕ
 lineEnd = 0x0A
@@ -94,20 +97,19 @@ ended [] = true
 ended (b ∷ []) = eqb b lineEnd
 ended (b ∷ c ∷ s) = ended (c ∷ s)
 
--- x is one of those: "Lookup compares bytes", and so does the test for an identity that stands twice
-abbrev pub among : List ℕ → List (List ℕ) → Bool
-among x [] = false
-among x (y ∷ ys) = same x y || among x ys
-
--- "no identity twice": none stands among those before it
-abbrev pub apart : List (List ℕ) → List (List ℕ) → Bool
-apart earlier [] = true
-apart earlier (x ∷ xs) = not (among x earlier) && apart (earlier ++ (x ∷ [])) xs
-
 -- "At most 256 lines and 65,536 bytes; no identity twice .. No bytes at all is well formed." R2 is given where this fails.
 unfoldable pub wellFormed : List ℕ → Bool
 wellFormed t =
-    leb (length t) 65536 && ended t && leb (length (lines t)) 256 && each validLine (lines t) && apart [] (map identityOf (lines t))
+    leb (length t) 65536 && ended t && leb (length (lines t)) 256 && each validLine (lines t) && distinct same (map identityOf (lines t))
+
+-- What a table comes to by itself, before anything is looked up in it.
+abbrev pub tableRefusal : List ℕ → Option Refusal
+tableRefusal t = cond (wellFormed t) none (some BadTable)
+
+-- the same as the code's type has it
+abbrev pub judged : Option Refusal → Judged
+judged none = Good
+judged (some r) = Refused r
 
 -- ---- lookup
 

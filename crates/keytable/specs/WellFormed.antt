@@ -7,7 +7,7 @@ use mathlib.Core.Bool.{true}
 use mathlib.Core.List.{List, [], _∷_, _++_, map}
 use lib.ListN.{length}
 use Rattle.lists.specs.Lists.{Each, Distinct}
-use Rattle.keytable.specs.Utf8.{validUtf8}
+use Rattle.utf8.specs.Utf8.{validUtf8}
 use Rattle.keytable.specs.Table.{lineEnd, colon, decoded, ended}
 
 -- "no byte below 20 hex, no 7F, no colon"

@@ -2,15 +2,16 @@
 // starts of the lines and a fingerprint of each identity are kept, so that the bytes of two
 // identities are compared only where their fingerprints are equal.
 ghost use mathlib.Core.Path.{_≡_};
-ghost use mathlib.Core.List.{[], map};
+ghost use mathlib.Core.Bool.{_&&_};
+ghost use mathlib.Core.List.{map};
+ghost use lib.Dec.{leb};
 ghost use Prim.Native.Nat.{_≤_, _+_};
 ghost use lib.ListN.{length};
-ghost use Rattle.lists.specs.Lists.{same};
-ghost use Rattle.keytable.specs.Table.{identityOf, lines, among, apart};
+ghost use Rattle.lists.specs.Lists.{any, distinct, same};
+ghost use Rattle.keytable.specs.Table.{identityOf, lines};
 ghost use Rattle.keytable.specs.Inner.{identityAt, earlier, fingerprint, Kept};
 use crate::entries::find;
 use crate::entries::line_end;
-use crate::utf8::wide;
 
 // A number that equal byte strings have alike.
 fn fingerprint(s: &[u8]) -> u32
@@ -19,7 +20,7 @@ fn fingerprint(s: &[u8]) -> u32
     let mut p = 0u32;
     let mut i = 0;
     while i < s.len() {
-        p = p % 8388608 * 257 + wide(s[i]);
+        p = p % 8388608 * 257 + s[i] as u32;
         i += 1;
     }
     p
@@ -56,7 +57,7 @@ fn repeated(
     requires { ⌜ n ≤ length (now starts) ⌝ }
     requires { ⌜ p ≡ fingerprint 0 (now identity) ⌝ }
     requires { ⌜ Kept (now table) (now starts) (now fingerprints) n ⌝ }
-    ensures { λ r. ⌜ r ≡ among (now (identity .entry)) (earlier (now (table .entry)) (now (starts .entry)) n) ⌝ }
+    ensures { λ r. ⌜ r ≡ any (same (now (identity .entry))) (earlier (now (table .entry)) (now (starts .entry)) n) ⌝ }
 {
     let mut k = 0;
     while k < n {
@@ -70,17 +71,19 @@ fn repeated(
     false
 }
 
-// Whether no identity stands twice in a table of at most 256 lines.
+// Whether the table has at most 256 lines and no identity stands twice in it.
 pub(crate) fn distinct(table: &[u8]) -> bool
     requires { ⌜ length (now table) ≤ 65536 ⌝ }
-    requires { ⌜ length (lines (now table)) ≤ 256 ⌝ }
-    ensures { λ r. ⌜ r ≡ apart [] (map identityOf (lines (now (table .entry)))) ⌝ }
+    ensures { λ r. ⌜ r ≡ (leb (length (lines (now (table .entry)))) 256 && distinct same (map identityOf (lines (now (table .entry))))) ⌝ }
 {
     let mut starts = [0u32; 256];
     let mut fingerprints = [0u32; 256];
     let mut n = 0;
     let mut at = 0;
     while at < table.len() {
+        if n == 256 {
+            return false;
+        }
         let end = identity_end(table, at);
         let p = fingerprint(&table[at..end]);
         if repeated(table, &starts, &fingerprints, n, &table[at..end], p) {

@@ -7,6 +7,8 @@ ghost use lib.ListN.{length, drop};
 ghost use Rattle.lists.specs.Lists.{each};
 ghost use Rattle.keytable.specs.Table.{between, digit, hexDigit, validKey, decoded, keyIn, found};
 ghost use Rattle.refusal.specs.Lent.{Answers};
+use crate::classes::Class;
+use crate::classes::all;
 use refusal::Refusal;
 use refusal::Written;
 
@@ -23,7 +25,7 @@ fn between(low: u8, high: u8, b: u8) -> bool
 }
 
 // The number of a hex digit, 16 for any other byte.
-fn digit(b: u8) -> u8
+pub(crate) fn digit(b: u8) -> u8
     ensures { λ r. ⌜ r ≡ digit b ⌝ }
 {
     if between(48, 57, b) {
@@ -36,20 +38,6 @@ fn digit(b: u8) -> u8
         return b - 97 + 10;
     }
     16
-}
-
-// Whether all bytes are hex digits.
-fn all_digits(s: &[u8]) -> bool
-    ensures { λ r. ⌜ r ≡ each hexDigit (now (s .entry)) ⌝ }
-{
-    let mut i = 0;
-    while i < s.len() {
-        if digit(s[i]) >= 16 {
-            return false;
-        }
-        i += 1;
-    }
-    true
 }
 
 // Whether s is 1 to 64 pairs of hex digits.
@@ -65,7 +53,7 @@ pub(crate) fn valid_key(s: &[u8]) -> bool
     if s.len() % 2 != 0 {
         return false;
     }
-    all_digits(s)
+    all(Class::HexDigit, s)
 }
 
 // The bytes that pairs of hex digits stand for, at the front of out.

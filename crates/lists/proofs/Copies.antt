@@ -18,7 +18,8 @@ pub copied-in : (whole src last : List ℕ) (at end : ℕ) → at + length src �
     → putMid at (end - at) whole last ≡ take at whole ++ (src ++ drop end whole)
 copied-in whole src last at end e h copied =
     let size : length (midOf at (end - at) whole) ≡ end - at = mid-len at end whole h in
-    rw (copied, post-is at end whole (omega arith), drop-of-length-le (midOf at (end - at) whole) {i = length src} (omega arith), take-length src, append-nil src)
+    let full = drop-of-length-le (midOf at (end - at) whole) {i = length src} (omega arith) in
+    rw (copied, post-is at end whole (omega arith), full, take-length src, append-nil src)
 
 -- a copy behind a known front makes the front longer by what was copied
 pub copied-behind : (whole src last : List ℕ) (at : ℕ) → at + length src ≤ length whole

@@ -1,6 +1,6 @@
 -- Equal byte strings, and the loop that compares two.
 -- Assumes nothing.
-use mathlib.Core.Path.{_≡_, refl, sym, ap₂, _∙_}
+use mathlib.Core.Path.{_≡_, refl, sym, ap, ap₂, _∙_}
 use Prim.Native.Nat.{ℕ, _+_, _≤_, _<_}
 use native.Mathlib.Omega.{arith}
 use mathlib.Core.Bool.{Bool, true, false, _&&_, true≢false, and-false, and-true}
@@ -30,6 +30,13 @@ same-not a b other = go (same a b) refl
     go true e = absurd (other (same-eq a b e))
     go false e = e
 
+pub same-either : (a b : List ℕ) → same a b ≡ same b a
+same-either a b = go (same b a) refl
+  where
+    go : (t : Bool) → same b a ≡ t → same a b ≡ t
+    go true e = ap (λ (l : List ℕ). same l b) (sym (same-eq b a e)) ∙ same-refl b
+    go false e = same-not a b (λ f. true≢false (sym (same-refl a) ∙ ap (λ (l : List ℕ). same l a) f ∙ e))
+
 -- ---- the loop
 
 -- the two are equal where no element so far differed and those that are left are equal
@@ -43,7 +50,8 @@ module _ (a b : List ℕ) (different i : ℕ) (now : Left a b different i) where
 
     pub unlike : (getD a i 0 ≡ getD b i 0 → ⊥) → Left a b (different + 1) (i + 1)
     unlike other =
-        now ∙ rw (left-cons a i la, left-cons b i lb) (rw (ne-eqb _ _ other, and-false (eqb different 0), ne-eqb (different + 1) 0 (λ e. omega arith)))
+        now ∙ rw (left-cons a i la, left-cons b i lb)
+        (rw (ne-eqb _ _ other, and-false (eqb different 0), ne-eqb (different + 1) 0 (λ e. omega arith)))
 
   pub counted : length a ≤ i → length b ≤ i → eqb different 0 ≡ same a b
   counted la lb = sym (now ∙ rw (drop-of-length-le a la, drop-of-length-le b lb, and-true (eqb different 0)))

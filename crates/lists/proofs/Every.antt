@@ -14,6 +14,17 @@ each-at p [] i h all = absurd (omega arith)
 each-at p (b ∷ s) zero h all = and-left (p b) (each p s) all
 each-at p (b ∷ s) (suc i) h all = each-at p s i (omega arith) (and-right (p b) (each p s) all)
 
+module _ {A : Type 0} where
+  pub each-append : (p : A → Bool) (xs ys : List A) → each p (xs ++ ys) ≡ true → (each p xs ≡ true) × (each p ys ≡ true)
+  each-append p [] ys h = (refl, h)
+  each-append p (x ∷ xs) ys h =
+      let rest = each-append p xs ys (and-right (p x) (each p (xs ++ ys)) h) in
+      (both (and-left (p x) (each p (xs ++ ys)) h) (rest .0), rest .1)
+
+  pub every-middle : (P : A → Type 0) (xs : List A) (y : A) (ys : List A) → Each P (xs ++ (y ∷ ys)) → P y
+  every-middle P [] y ys h = h .0
+  every-middle P (x ∷ xs) y ys h = every-middle P xs y ys (h .1)
+
 -- what a test finds of every element
 module _ {A : Type 0} (p : A → Bool) (P : A → Type 0) where
   pub each-sound : ((x : A) → p x ≡ true → P x) → (s : List A) → each p s ≡ true → Each P s

@@ -3,9 +3,9 @@
 use mathlib.Core.Path.{_≡_, refl, sym, ap, _∙_}
 use Prim.Native.Nat.{ℕ, zero, suc, _+_, _-_, _≤_, _<_}
 use native.Mathlib.Omega.{arith}
-use native.Mathlib.Nat.{add-zero, le-of-eq}
+use native.Mathlib.Nat.{add-zero, le-of-eq, le-of-suc-le-suc}
 use mathlib.Core.List.{List, [], _∷_, _++_}
-use lib.ListN.{length, drop, getD, length-drop}
+use lib.ListN.{length, take, drop, getD, replicate, length-drop}
 use lib.Seq.{getD-drop, drop-cons, drop-drop, take-all, take-at, drop-at, length-take-le}
 use Rattle.lists.specs.Lists.{part}
 
@@ -26,6 +26,17 @@ length-part s at n inside = length-take-le n (drop at s) (simp length-drop (omeg
 pub part-there : (s a behind : List ℕ) (at n : ℕ) → drop at s ≡ a ++ behind → length a ≡ n → (part at n s ≡ a) × (drop (at + n) s ≡ behind)
 part-there s a behind at n e size =
     (rw e (take-at a behind n size), sym (drop-drop n at s) ∙ rw e (drop-at a behind n size))
+
+-- parts of a list of one number over and over
+pub take-replicate : (n k a : ℕ) → k ≤ n → take k (replicate n a) ≡ replicate k a
+take-replicate n zero a h = refl
+take-replicate zero (suc k) a h = absurd (omega arith)
+take-replicate (suc n) (suc k) a h = ap (λ (l : List ℕ). a ∷ l) (take-replicate n k a (le-of-suc-le-suc h))
+
+pub drop-replicate : (n k a : ℕ) → drop k (replicate n a) ≡ replicate (n - k) a
+drop-replicate n zero a = let same : n - 0 ≡ n = omega arith in rw same
+drop-replicate zero (suc k) a = let same : 0 - suc k ≡ 0 = omega arith in rw same
+drop-replicate (suc n) (suc k) a = let same : suc n - suc k ≡ n - k = omega arith in rw same (drop-replicate n k a)
 
 -- the w elements from index at on, one by one
 abbrev pub window : ℕ → ℕ → List ℕ → List ℕ

@@ -4,11 +4,11 @@
 // tests/message_vectors.py makes the input, and prints the same lines from a parser of its own.
 //
 // A call is 1 and a message, or a byte that names a writer, the output's room, and what it takes.
-use messages::Part;
-use messages::client_hello::Client;
-use messages::extensions::Step;
-use messages::hello::Block;
-use messages::server_hello::Server;
+use extensions::Step;
+use hellos::Block;
+use hellos::client_hello::Client;
+use hellos::server_hello::Server;
+use layout::Part;
 use messages::ticket::Ticket;
 use refusal::Refusal;
 use refusal::Written;
@@ -41,7 +41,7 @@ fn print_extensions(block: &[u8]) {
     let mut at: usize = 0;
     let mut left: usize = block.len();
     while 0 < left {
-        let Step::Extension { kind, start, len } = messages::extensions::next(block, at) else {
+        let Step::Extension { kind, start, len } = extensions::next(block, at) else {
             return;
         };
         print_number(kind);
@@ -76,7 +76,7 @@ fn print_block(present: bool, block: &[u8]) {
 
 fn show_client(message: &[u8], out: &mut [u8]) {
     lines::text(b" ClientHello");
-    match messages::client_hello::read(message) {
+    match hellos::client_hello::read(message) {
         Client::Read {
             version,
             session_len,
@@ -95,7 +95,7 @@ fn show_client(message: &[u8], out: &mut [u8]) {
             let present = is_present(block);
             let extensions = contents(block, message);
             print_block(present, extensions);
-            let said = messages::client_hello::write(
+            let said = hellos::client_hello::write(
                 version,
                 lines::part(message, 6, 32),
                 lines::part(message, 39, session_len),
@@ -107,13 +107,13 @@ fn show_client(message: &[u8], out: &mut [u8]) {
             );
             print_again(said, out, message);
         }
-        Client::Refused(r) => print_refusal(r),
+        Client::Refused => print_refusal(Refusal::DecodeError),
     }
 }
 
 fn show_server(message: &[u8], out: &mut [u8]) {
     lines::text(b" ServerHello");
-    match messages::server_hello::read(message) {
+    match hellos::server_hello::read(message) {
         Server::Read {
             version,
             session_len,
@@ -128,7 +128,7 @@ fn show_server(message: &[u8], out: &mut [u8]) {
             let present = is_present(block);
             let extensions = contents(block, message);
             print_block(present, extensions);
-            let said = messages::server_hello::write(
+            let said = hellos::server_hello::write(
                 version,
                 lines::part(message, 6, 32),
                 lines::part(message, 39, session_len),
@@ -140,7 +140,7 @@ fn show_server(message: &[u8], out: &mut [u8]) {
             );
             print_again(said, out, message);
         }
-        Server::Refused(r) => print_refusal(r),
+        Server::Refused => print_refusal(Refusal::DecodeError),
     }
 }
 
@@ -159,7 +159,7 @@ fn show_ticket(message: &[u8], out: &mut [u8]) {
             let said = messages::ticket::write(lifetime_hint, ticket, out);
             print_again(said, out, message);
         }
-        Ticket::Refused(r) => print_refusal(r),
+        Ticket::Refused => print_refusal(Refusal::DecodeError),
     }
 }
 
@@ -183,7 +183,7 @@ fn show_part(kind: u8, read: Part, message: &[u8], out: &mut [u8]) {
             let said = write(kind, lines::part(message, start, len), out);
             print_again(said, out, message);
         }
-        Part::Refused(r) => print_refusal(r),
+        Part::Refused => print_refusal(Refusal::DecodeError),
     }
 }
 
@@ -245,7 +245,7 @@ fn try_client(block: &[u8], out: &mut [u8]) -> Written {
     let session_id = lines::number16();
     let suites = lines::number16();
     let methods = lines::number16();
-    messages::client_hello::write(
+    hellos::client_hello::write(
         version,
         lines::part(&bytes, 0, random),
         lines::part(&bytes, 0, session_id),
@@ -261,7 +261,7 @@ fn try_client(block: &[u8], out: &mut [u8]) -> Written {
 fn try_server(block: &[u8], out: &mut [u8]) -> Written {
     let suite = lines::number24();
     let present = lines::byte() == 1;
-    messages::server_hello::write(771, &[7u8; 32], &[], suite, 0, present, block, out)
+    hellos::server_hello::write(771, &[7u8; 32], &[], suite, 0, present, block, out)
 }
 
 // What a writer answers, for one field, or a block and what else a hello takes: 2 and 3 stand for the

@@ -11,15 +11,14 @@ use lib.ListN.{length, drop, length-drop}
 use lib.Seq.{take-all}
 use borrow.Author.Tests.{eq-eqb, ne-eqb, eqb-true}
 use Rattle.endian.specs.Number.{Bytes}
-use Rattle.refusal.specs.declared.Refusal.the-variants.{DecodeError}
-use Rattle.messages.specs.declared.Part.the-variants.{At}
-use Rattle.messages.specs.Layout.{bytes, valid, Inverse}
-use Rattle.messages.specs.Header.{header}
-use Rattle.messages.specs.Place.{filledBy}
+use Rattle.layout.specs.declared.Part.the-variants.{At}
+use Rattle.layout.specs.Layout.{bytes, valid, Inverse}
+use Rattle.layout.specs.Header.{header}
+use Rattle.layout.specs.Place.{filledBy}
 use Rattle.messages.specs.Fixed.{fixedMessage, fixedPlace, readFixed}
-use Rattle.messages.proofs.Layouts.{valid-within, valid-parts}
-use Rattle.messages.proofs.Places.{at-refused, after-header, contents-at}
-use Rattle.messages.proofs.Headers.{header-message, header-read}
+use Rattle.layout.proofs.Layouts.{valid-within, valid-parts}
+use Rattle.layout.proofs.Places.{at-refused, after-header, contents-at}
+use Rattle.layout.proofs.Headers.{header-message, header-read}
 
 -- a body that was found has its place
 pub filled-there : (k : ℕ) (m : List ℕ) (s n : ℕ) → filledBy k m ≡ At s n → (length m ≡ 4 + k) × (s ≡ 4) × (n ≡ k)
@@ -27,7 +26,7 @@ filled-there k m s n e = elim (ℕ-discrete (length m) (4 + k)) [
   | yes fills ↦
       let there : filledBy k m ≡ At 4 k = rw (eq-eqb (length m) (4 + k) fills) in
       (fills, cc, cc)
-  | no off ↦ absurd (at-refused (filledBy k m) s n DecodeError e (rw (ne-eqb (length m) (4 + k) off)))
+  | no off ↦ absurd (at-refused (filledBy k m) s n e (rw (ne-eqb (length m) (4 + k) off)))
 ]
 
 -- every body of the length is one

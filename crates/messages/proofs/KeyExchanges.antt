@@ -12,13 +12,13 @@ use borrow.Author.Tests.{eq-eqb, lt-ltb, ltb-true}
 use Rattle.endian.specs.Number.{Bytes}
 use Rattle.endian.specs.Vector.{vector, stated}
 use Rattle.endian.proofs.Numbers.{number-be-lt}
-use Rattle.messages.specs.Layout.{bytes, valid, Inverse}
-use Rattle.messages.specs.Header.{header}
-use Rattle.messages.specs.Place.{endAt, lastAt}
+use Rattle.layout.specs.Layout.{bytes, valid, Inverse}
+use Rattle.layout.specs.Header.{header}
+use Rattle.layout.specs.Place.{endAt, lastAt}
 use Rattle.messages.specs.KeyExchange.{vectorMessage, vectorPlace, readVector}
-use Rattle.messages.proofs.Layouts.{valid-within, valid-parts}
-use Rattle.messages.proofs.Places.{last-there, after-header, vector-last, contents-at}
-use Rattle.messages.proofs.Headers.{header-message, header-read}
+use Rattle.layout.proofs.Layouts.{valid-within, valid-parts}
+use Rattle.layout.proofs.Places.{last-there, after-header, vector-last, contents-at}
+use Rattle.layout.proofs.Headers.{header-message, header-read}
 
 -- contents that leave room for the header and for their length
 pub vector-valid : (kind : ℕ) (xs : List ℕ) → length xs ≤ 16378 → valid (vectorMessage kind) xs ≡ true

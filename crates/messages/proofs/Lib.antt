@@ -1,14 +1,3 @@
-pub mod Blocks
-pub mod ClientHellos
 pub mod FixedMessages
-pub mod Flags
-pub mod Headers
-pub mod Hellos
 pub mod KeyExchanges
-pub mod Layouts
 pub mod NewSessionTickets
-pub mod Places
-pub mod Puts
-pub mod Refusals
-pub mod ServerHellos
-pub mod Windows

@@ -13,21 +13,21 @@ use borrow.Author.Tests.{eq-eqb, ltb-true, lt-ltb}
 use Rattle.endian.specs.Number.{Bytes, be, number}
 use Rattle.endian.specs.Vector.{vector, writable, stated}
 use Rattle.endian.proofs.Numbers.{number-be-lt, number-lt, be-number-at, bytes-take, bytes-drop}
-use Rattle.messages.specs.declared.Part.{Part}
-use Rattle.messages.specs.declared.Part.the-variants.{At, Refused}
-use Rattle.messages.specs.Layout.{bytes, valid, Inverse}
-use Rattle.messages.specs.Header.{header}
-use Rattle.messages.specs.Place.{endAt, lastAt, afterHeader}
+use Rattle.layout.specs.declared.Part.{Part}
+use Rattle.layout.specs.declared.Part.the-variants.{At, Refused}
+use Rattle.layout.specs.Layout.{bytes, valid, Inverse}
+use Rattle.layout.specs.Header.{header}
+use Rattle.layout.specs.Place.{endAt, lastAt, afterHeader}
 use Rattle.messages.specs.NewSessionTicket.{NewSessionTicket, newSessionTicket, withHint, ticketFields, readTicket}
-use Rattle.messages.proofs.Layouts.{valid-within, valid-parts}
-use Rattle.messages.proofs.Places.{last-there, after-header, vector-last}
-use Rattle.messages.proofs.Headers.{header-message, header-read}
+use Rattle.layout.proofs.Layouts.{valid-within, valid-parts}
+use Rattle.layout.proofs.Places.{last-there, after-header, vector-last}
+use Rattle.layout.proofs.Headers.{header-message, header-read}
 
 -- what the fields say of the place
 hint-at : (m : List ℕ) (p : Part) (f : NewSessionTicket) → ticketFields m (withHint m p) ≡ some f
     → (s : ℕ) × (n : ℕ) × (p ≡ At s n) × (f ≡ record { lifetimeHint = number (take 4 (drop 4 m)); ticket = take n (drop s m) })
 hint-at m (At s n) f e = (s, n, refl, cc)
-hint-at m (Refused r) f e = absurd (Option·none-ne-some f e)
+hint-at m Refused f e = absurd (Option·none-ne-some f e)
 
 pub ticket-inverse : Inverse newSessionTicket readTicket
 ticket-inverse = record { reads-written = there; writes-read = back }

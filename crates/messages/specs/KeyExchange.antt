@@ -3,10 +3,11 @@ use Prim.Native.Nat.{ℕ}
 use mathlib.Core.List.{List, []}
 use mathlib.Core.Option.{Option, none, some}
 use Rattle.endian.specs.Vector.{vector, writable}
-use Rattle.messages.specs.declared.Part.{Part}
-use Rattle.messages.specs.Layout.{Layout}
-use Rattle.messages.specs.Header.{header}
-use Rattle.messages.specs.Place.{lastAt, afterHeader, contents}
+use Rattle.layout.specs.declared.Part.{Part}
+use Rattle.layout.specs.Types.{serverKeyExchangeType, clientKeyExchangeType}
+use Rattle.layout.specs.Layout.{Layout}
+use Rattle.layout.specs.Header.{header}
+use Rattle.layout.specs.Place.{lastAt, afterHeader, contents}
 
 -- the message of this type whose one field is the vector's contents
 abbrev pub vectorMessage : ℕ → Layout (List ℕ)
@@ -14,11 +15,11 @@ vectorMessage kind = record { kind = kind; rules = writable 2; body = vector 2 }
 
 -- the field is the hint
 abbrev pub serverKeyExchange : Layout (List ℕ)
-serverKeyExchange = vectorMessage 12
+serverKeyExchange = vectorMessage serverKeyExchangeType
 
 -- the field is the identity
 abbrev pub clientKeyExchange : Layout (List ℕ)
-clientKeyExchange = vectorMessage 16
+clientKeyExchange = vectorMessage clientKeyExchangeType
 
 abbrev pub vectorPlace : ℕ → List ℕ → Part
 vectorPlace kind m = afterHeader (header kind m) (lastAt 2 m 4)
@@ -33,4 +34,4 @@ orEmpty none = []
 orEmpty (some xs) = xs
 
 abbrev pub identityIn : List ℕ → List ℕ
-identityIn m = orEmpty (readVector 16 m)
+identityIn m = orEmpty (readVector clientKeyExchangeType m)

@@ -1,11 +1,3 @@
-pub mod ClientHello
-pub mod Extensions
 pub mod Fixed
-pub mod Header
-pub mod Hello
 pub mod KeyExchange
-pub mod Layout
 pub mod NewSessionTicket
-pub mod Parts
-pub mod Place
-pub mod ServerHello

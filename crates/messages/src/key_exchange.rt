@@ -2,12 +2,14 @@
 // server's hint or the client's identity.
 ghost use mathlib.Core.Path.{_≡_};
 ghost use Rattle.refusal.specs.Lent.{Answers};
-ghost use Rattle.messages.specs.Layout.{written};
-ghost use Rattle.messages.specs.Place.{lastAt};
+ghost use Rattle.layout.specs.Types.{serverKeyExchangeType, clientKeyExchangeType};
+ghost use Rattle.layout.specs.Layout.{written};
+ghost use Rattle.layout.specs.Place.{lastAt};
 ghost use Rattle.messages.specs.KeyExchange.{vectorMessage, serverKeyExchange, clientKeyExchange, vectorPlace, identityIn};
-use crate::Part;
-use crate::place;
-use crate::put;
+use layout::Part;
+use layout::place;
+use layout::put;
+use layout::types;
 use refusal::Refusal;
 use refusal::Written;
 
@@ -26,24 +28,24 @@ fn write(kind: u8, contents: &[u8], out: &mut [u8]) -> Written
 
 // Where the hint of a ServerKeyExchange stands.
 pub fn read_hint(message: &[u8]) -> Part
-    ensures { λ r. ⌜ r ≡ vectorPlace 12 (now (message .entry)) ⌝ }
+    ensures { λ r. ⌜ r ≡ vectorPlace serverKeyExchangeType (now (message .entry)) ⌝ }
 {
-    place::last16_of(12, message, 4)
+    place::last16_of(types::SERVER_KEY_EXCHANGE, message, 4)
 }
 
 // A ServerKeyExchange.
 pub fn write_hint(hint: &[u8], out: &mut [u8]) -> Written
     ensures { λ r. ⌜ Answers (written serverKeyExchange (now (hint .entry))) (now (out .entry)) r (now (out .exit)) ⌝ }
 {
-    write(12, hint, out)
+    write(types::SERVER_KEY_EXCHANGE, hint, out)
 }
 
 // Where the identity of a ClientKeyExchange stands; a refusal tells a message that is none from one
 // with an empty identity.
 pub fn read_identity(message: &[u8]) -> Part
-    ensures { λ r. ⌜ r ≡ vectorPlace 16 (now (message .entry)) ⌝ }
+    ensures { λ r. ⌜ r ≡ vectorPlace clientKeyExchangeType (now (message .entry)) ⌝ }
 {
-    place::last16_of(16, message, 4)
+    place::last16_of(types::CLIENT_KEY_EXCHANGE, message, 4)
 }
 
 // The same of a message whose header is tested already: the tests on the body alone.
@@ -59,7 +61,7 @@ pub fn identity(message: &[u8]) -> &[u8]
 {
     match read_identity(message) {
         Part::At { start, len } => &message[start..start + len],
-        Part::Refused(_) => &message[0..0],
+        Part::Refused => &message[0..0],
     }
 }
 
@@ -67,5 +69,5 @@ pub fn identity(message: &[u8]) -> &[u8]
 pub fn write_identity(identity: &[u8], out: &mut [u8]) -> Written
     ensures { λ r. ⌜ Answers (written clientKeyExchange (now (identity .entry))) (now (out .entry)) r (now (out .exit)) ⌝ }
 {
-    write(16, identity, out)
+    write(types::CLIENT_KEY_EXCHANGE, identity, out)
 }

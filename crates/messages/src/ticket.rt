@@ -1,11 +1,12 @@
 // NewSessionTicket: a lifetime hint and a ticket.
 ghost use mathlib.Core.Path.{_≡_};
 ghost use Rattle.refusal.specs.Lent.{Answers};
-ghost use Rattle.messages.specs.Layout.{written};
+ghost use Rattle.layout.specs.Layout.{written};
 ghost use Rattle.messages.specs.NewSessionTicket.{newSessionTicket, ticketPlace};
-use crate::Part;
-use crate::place;
-use crate::put;
+use layout::Part;
+use layout::place;
+use layout::put;
+use layout::types;
 use refusal::Refusal;
 use refusal::Written;
 
@@ -16,13 +17,13 @@ pub enum Ticket {
         start: usize,
         len: usize,
     },
-    Refused(Refusal),
+    Refused,
 }
 
 pub fn read(message: &[u8]) -> Ticket
     ensures { λ r. ⌜ r ≡ ticketPlace (now (message .entry)) ⌝ }
 {
-    match place::last16_of(4, message, 8) {
+    match place::last16_of(types::NEW_SESSION_TICKET, message, 8) {
         Part::At { start, len } => {
             let lifetime_hint = endian::number32(message[4], message[5], message[6], message[7]);
             Ticket::Read {
@@ -31,7 +32,7 @@ pub fn read(message: &[u8]) -> Ticket
                 len,
             }
         }
-        Part::Refused(r) => Ticket::Refused(r),
+        Part::Refused => Ticket::Refused,
     }
 }
 
@@ -46,7 +47,7 @@ pub fn write(lifetime_hint: u32, ticket: &[u8], out: &mut [u8]) -> Written
     let hint = endian::bytes32(lifetime_hint);
     let size = endian::bytes16(n);
     let head = [
-        4,
+        types::NEW_SESSION_TICKET,
         body[0],
         body[1],
         body[2],

@@ -4,6 +4,7 @@ use mathlib.Core.Path.{_≡_, refl, sym, ap, _∙_}
 use Prim.Native.Nat.{ℕ, _≤_, _<_}
 use native.Mathlib.Omega.{arith}
 use native.Mathlib.Decide.{decLe}
+use mathlib.Core.Bool.{Bool, true, false, cond}
 use mathlib.Core.Logic.{_↔_}
 use mathlib.Core.List.{List, _++_, append-nil}
 use lib.ListN.{length, take, drop, drop-of-length-le}
@@ -13,7 +14,7 @@ use Rattle.refusal.specs.declared.Refusal.{Refusal}
 use Rattle.refusal.specs.declared.Refusal.the-variants.{ShortOutput}
 use Rattle.refusal.specs.declared.Written.{Written}
 use Rattle.refusal.specs.declared.Written.the-variants.{Wrote, Refused}
-use Rattle.refusal.specs.Lent.{Outcome, gives, refuses, within, answer, after, Answers}
+use Rattle.refusal.specs.Lent.{Outcome, gives, refuses, andThen, within, answer, after, Answers}
 
 -- ---- refusals are no answers
 
@@ -37,7 +38,8 @@ refused r out = record { told = refl; left = refl }
 -- ---- for a caller
 
 -- an answer that has room stands at the front, and the rest is as it was
-pub front : {bytes out out' : List ℕ} {said : Written} → Answers (gives bytes) out said out' → length bytes ≤ length out → out' ≡ bytes ++ drop (length bytes) out
+pub front : {bytes out out' : List ℕ} {said : Written} → Answers (gives bytes) out said out' → length bytes ≤ length out
+    → out' ≡ bytes ++ drop (length bytes) out
 front a h = a .left ∙ simp (le-leb _ _ h)
 
 -- an answer as long as the memory is all of it
@@ -45,7 +47,8 @@ pub whole : {bytes out out' : List ℕ} {said : Written} → Answers (gives byte
 whole {bytes} {out} a e = front a (omega arith) ∙ rw (drop-of-length-le out {i = length bytes} (omega arith), append-nil bytes)
 
 -- it can be read there
-pub first : {bytes out out' : List ℕ} {said : Written} → Answers (gives bytes) out said out' → length bytes ≤ length out → take (length bytes) out' ≡ bytes
+pub first : {bytes out out' : List ℕ} {said : Written} → Answers (gives bytes) out said out' → length bytes ≤ length out
+    → take (length bytes) out' ≡ bytes
 first {bytes} a h = rw (front a h) (take-append-seam bytes _)
 
 -- bytes were written: all that there were
@@ -75,8 +78,8 @@ wrote-gives (gives bytes) {out} {n = n} a e =
 wrote-gives (refuses r) a e = absurd (refused-wrote (sym (a .told) ∙ e))
 
 -- a refusal, where there was room for whatever there was to be written
-pub refused-refuses : (o : Outcome) {out out' : List ℕ} {said : Written} {r : Refusal} → ((bytes : List ℕ) → o ≡ gives bytes → length bytes ≤ length out)
-    → Answers o out said out' → said ≡ Refused r → o ≡ refuses r
+pub refused-refuses : (o : Outcome) {out out' : List ℕ} {said : Written} {r : Refusal}
+    → ((bytes : List ℕ) → o ≡ gives bytes → length bytes ≤ length out) → Answers o out said out' → said ≡ Refused r → o ≡ refuses r
 refused-refuses (gives bytes) room a e = absurd (omega (arith, room bytes refl, refused-short a e))
 refused-refuses (refuses q) room a e = cc (a .told)
 
@@ -84,6 +87,30 @@ refused-refuses (refuses q) room a e = cc (a .told)
 pub whole-gives : {o : Outcome} {bytes out out' : List ℕ} {said : Written} → o ≡ gives bytes → length bytes ≡ length out → Answers o out said out'
     → o ≡ gives out'
 whole-gives e l a = e ∙ ap gives (sym (whole (rw e at a) l))
+
+-- ---- answers of one length
+
+-- what there is to be written, if anything, has n bytes
+abbrev pub Sized : ℕ → Outcome → Type 0
+Sized n o = (bytes : List ℕ) → o ≡ gives bytes → length bytes ≡ n
+
+pub sized-tested : {n : ℕ} (t : Bool) (o : Outcome) (r : Refusal) → Sized n o → Sized n (cond t o (refuses r))
+sized-tested true o r sized bytes e = sized bytes e
+sized-tested false o r sized bytes e = absurd (refuses-gives e)
+
+pub sized-then : {n : ℕ} (o : Outcome) {next : List ℕ → Outcome} → ((b : List ℕ) → Sized n (next b)) → Sized n (andThen o next)
+sized-then (gives b) sized bytes e = sized b bytes e
+sized-then (refuses r) sized bytes e = absurd (refuses-gives e)
+
+-- memory of that length: it is the answer, or nothing was to be written
+module _ {n : ℕ} (o : Outcome) (sized : Sized n o) {out left : List ℕ} {said : Written} (room : length out ≡ n) (a : Answers o out said left) where
+  pub sized-gives : {m : ℕ} → said ≡ Wrote m → o ≡ gives left
+  sized-gives e = let given = wrote-gives o a e .1 in whole-gives given (sized _ given ∙ sym room) a
+
+  pub sized-refuses : {r : Refusal} → said ≡ Refused r → o ≡ refuses r
+  sized-refuses e = refused-refuses o (λ b f. omega (arith, sized b f)) a e
+
+-- ---- what lent memory keeps
 
 -- a refusal leaves the memory as it was
 pub refusal-keeps : (o : Outcome) (out : List ℕ) (r : Refusal) → answer o ≡ Refused r → after o out ≡ out

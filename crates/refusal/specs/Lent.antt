@@ -4,7 +4,7 @@
 use mathlib.Core.Path.{_≡_}
 use Prim.Native.Nat.{ℕ}
 use mathlib.Core.Bool.{cond}
-use mathlib.Core.List.{List, _++_}
+use mathlib.Core.List.{List, [], _++_}
 use lib.ListN.{length, drop}
 use lib.Dec.{leb}
 use Rattle.refusal.specs.declared.Refusal.{Refusal}
@@ -16,6 +16,16 @@ use Rattle.refusal.specs.declared.Written.the-variants.{Wrote, Refused}
 pub data Outcome : Type 0 where
   gives : List ℕ → Outcome
   refuses : Refusal → Outcome
+
+-- a value made from another one, which may be refused
+abbrev pub andThen : Outcome → (List ℕ → Outcome) → Outcome
+andThen (gives b) next = next b
+andThen (refuses r) next = refuses r
+
+-- the bytes of a value, none where it is refused
+abbrev pub bytesOf : Outcome → List ℕ
+bytesOf (gives b) = b
+bytesOf (refuses r) = []
 
 -- R1: the room is shorter than the answer; tested where nothing else refuses
 abbrev pub within : ℕ → Outcome → Outcome

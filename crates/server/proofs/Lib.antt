@@ -1,6 +1,6 @@
+pub mod Awaiting
+pub mod Decisions
+pub mod Flights
 pub mod Hellos
 pub mod Refusals
-pub mod Replies
-pub mod Saving
-pub mod Secrets
-pub mod Steps
+pub mod Values

@@ -1,36 +1,88 @@
 -- What the contracts of private functions cite: results as the code's own types have them, and parts of a step. Nothing that a public contract says stands here.
-use Prim.Native.Nat.{ℕ, _+_}
+use Prim.Native.Nat.{ℕ, _+_, _≤_}
 use mathlib.Core.Path.{_≡_}
-use mathlib.Core.Bool.{Bool, true, false, cond, _&&_}
+use mathlib.Core.Bool.{Bool, false, cond, _&&_}
 use mathlib.Core.List.{List, [], _∷_, _++_}
 use mathlib.Core.Option.{Option, none, some}
-use lib.ListN.{length, take, drop, replicate}
+use lib.ListN.{length, take, drop}
 use lib.Dec.{eqb}
-use Rattle.refusal.specs.Lent.{Outcome, gives, refuses}
-use Rattle.refusal.specs.declared.Written.{Written}
-use Rattle.refusal.specs.declared.Written.the-variants.{Wrote, Refused}
 use Rattle.sha256.specs.State.{absorb}
+use Rattle.keys.specs.Secrets.{finishedOf}
 use Rattle.keys.specs.declared.Side.the-variants.{Client, Server}
+use Rattle.layout.specs.declared.Verdict.{Verdict}
+use Rattle.layout.specs.Layout.{bytes}
+use Rattle.messages.specs.Fixed.{serverHelloDone}
 use Rattle.server.specs.declared.Phase.{Phase}
 use Rattle.server.specs.declared.Connection.{Connection}
 use Rattle.server.specs.declared.Answer.{Answer}
-use Rattle.server.specs.declared.Reply.{Reply}
+use Rattle.server.specs.declared.step.Outgoing.{Outgoing}
+use Rattle.server.specs.declared.step.Decision.{Decision}
+use Rattle.server.specs.declared.calls.Awaited.{Awaited}
 use Rattle.server.specs.declared.hello.Choice.{Choice}
-use Rattle.server.specs.declared.finished.Value.{Value}
-use Rattle.server.specs.Steps.{Step, settled, answered, isValue, finishedOf, completed}
+use Rattle.server.specs.Flight.{Flight, joined}
+use Rattle.server.specs.Step.{Step, refuse, accept, settled, answered}
+use Rattle.server.specs.Hello.{hintMessage}
+use Rattle.server.specs.Finished.{isValue, completed}
 
--- what a step's function gives back, and what it leaves in the lent output
+-- ---- messages at the front of an array, and their lengths
+
+abbrev pub total : List ℕ → ℕ
+total [] = 0
+total (n ∷ ns) = n + total ns
+
+-- the messages of these lengths, one behind the other, where 0 stands for none
+abbrev pub cut : List ℕ → List ℕ → List (List ℕ)
+cut [] bytes = []
+cut (n ∷ ns) bytes = cond (eqb n 0) (cut ns bytes) (take n bytes ∷ cut ns (drop n bytes))
+
+-- the flight that they are
+abbrev pub flightOf : Outgoing → Flight
+flightOf o =
+    record {
+      plain = cut (take (o .plain) (o .lengths)) (o .bytes);
+      protected = cut (drop (o .plain) (o .lengths)) (drop (total (take (o .plain) (o .lengths))) (o .bytes));
+    }
+
+-- messages that stand within their array
+pub record Sends (o : Outgoing) (flight : Flight) : Type 0 where
+  pub means : flightOf o ≡ flight
+  pub fits : total (o .lengths) ≤ 180
+
+-- ---- a step's decision
+
+abbrev pub decidedBy : Verdict → Decision → Step
+decidedBy Verdict.Accepted d = accept (flightOf (d .outgoing)) (d .next)
+decidedBy (Verdict.Refused r) d = refuse r
+
+abbrev pub decided : Decision → Step
+decided d = decidedBy (d .verdict) d
+
+pub record Decides (d : Decision) (step : Step) : Type 0 where
+  pub means : decided d ≡ step
+  pub fits : total (d .outgoing .lengths) ≤ 180
+
+-- what a call gives back for a step, and what it leaves in the lent output
 pub record Does (c : Connection) (out : List ℕ) (step : Step) (given : Answer) (left : List ℕ) : Type 0 where
   pub answers : given ≡ answered (settled c out step)
   pub leaves : left ≡ settled c out step .out
+
+-- ---- parts of the steps
+
+abbrev pub asAwaited : Option ℕ → Awaited
+asAwaited none = Awaited.Nothing
+asAwaited (some kind) = Awaited.Message kind
 
 abbrev pub asChoice : Option ℕ → Choice
 asChoice none = Choice.Nothing
 asChoice (some suite) = Choice.Suite suite
 
--- "46 bytes, or 52 + h for an h-byte hint"
-abbrev pub flightLength : ℕ → ℕ
-flightLength hint = cond (eqb hint 0) 46 (52 + hint)
+-- a ServerKeyExchange of so many bytes, or none without a hint
+abbrev pub hintMessageLength : ℕ → ℕ
+hintMessageLength hint = cond (eqb hint 0) 0 (6 + hint)
+
+-- what stands behind the ServerHello
+abbrev pub restOf : List ℕ → List ℕ
+restOf hint = joined (hintMessage hint ++ (bytes serverHelloDone [] ∷ []))
 
 -- bytes at the front of an output
 abbrev pub front : List ℕ → List ℕ → List ℕ
@@ -41,37 +93,15 @@ abbrev pub afterHelloWith : Connection → List ℕ → ℕ → List ℕ → Con
 afterHelloWith c m suite flight =
     record {
       phase = Phase.KeyExchange;
-      rule = c .rule;
-      «hint_length» = c .«hint_length»;
-      suite = suite;
-      listed = false;
-      hint = c .hint;
-      «stand_in» = c .«stand_in»;
-      «server_random» = c .«server_random»;
-      «client_random» = take 32 (drop 6 m);
-      master = c .master;
+      setup = c .setup;
+      client = record { random = take 32 (drop 6 m); suite = suite; listed = false };
+      secrets = c .secrets;
       transcript = absorb (absorb (c .transcript) m) flight;
     }
 
--- zeros where no value is made
-abbrev pub asValue : Outcome → Value
-asValue (gives bytes) = record { made = true; bytes = bytes }
-asValue (refuses r) = record { made = false; bytes = replicate 12 0 }
-
 -- the client's value is right, and its identity is listed
 abbrev pub rightValue : Connection → List ℕ → Bool
-rightValue c value = c .listed && isValue value (finishedOf Client (c .master) (c .transcript))
+rightValue c value = c .client .listed && isValue value (finishedOf Client (c .secrets .master) (c .transcript))
 
 abbrev pub completion : Connection → List ℕ → Step
-completion c m = completed (finishedOf Server (c .master) (absorb (c .transcript) m))
-
--- a message's reply from what its step gave back
-abbrev pub withoutMaster : Answer → Reply
-withoutMaster a = record { said = a .said; handed = false; master = replicate 48 0; next = a .next }
-
-abbrev pub handedBy : Written → Answer → Reply
-handedBy (Wrote n) a = record { said = a .said; handed = true; master = a .next .master; next = a .next }
-handedBy (Refused r) a = withoutMaster a
-
-abbrev pub withMasterOf : Answer → Reply
-withMasterOf a = handedBy (a .said) a
+completion c m = completed (finishedOf Server (c .secrets .master) (absorb (c .transcript) m))

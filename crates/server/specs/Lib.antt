@@ -1,4 +1,10 @@
+pub mod Alert
+pub mod Change
 pub mod Connection
+pub mod Finished
+pub mod Flight
+pub mod Hello
 pub mod Inner
-pub mod Saved
-pub mod Steps
+pub mod KeyExchange
+pub mod Message
+pub mod Step

@@ -1,29 +1,31 @@
 // Step 1: a ClientHello, and the flight that answers it.
 ghost use mathlib.Core.Path.{_≡_};
-ghost use mathlib.Core.List.{List, [], _++_};
+ghost use mathlib.Core.List.{List};
 ghost use Prim.Native.Nat.{ℕ, _+_, _≤_};
 ghost use lib.ListN.{length, take};
-ghost use Rattle.refusal.specs.Lent.{Answers, gives};
-ghost use Rattle.messages.specs.ClientHello.{clientBody, clientFields};
+ghost use Rattle.hellos.specs.ClientHello.{clientBody, clientFields};
 ghost use Rattle.messages.specs.Fixed.{serverHelloDone};
-ghost use Rattle.messages.specs.Header.{header};
-ghost use Rattle.messages.specs.Layout.{bytes};
-ghost use Rattle.server.specs.Steps as Steps;
-ghost use Rattle.server.specs.Steps.{suites, hintMessage, flight, afterTests, helloFields, accept, flightFor};
+ghost use Rattle.server.specs.Connection.{hintOf};
+ghost use Rattle.server.specs.Flight.{flightBytes, joined};
+ghost use Rattle.server.specs.Step.{accept};
+ghost use Rattle.server.specs.Hello as Hello;
+ghost use Rattle.server.specs.Hello.{hintMessage, flight, flightFor, helloFields};
 ghost use Rattle.server.specs.Inner as Inner;
-ghost use Rattle.server.specs.Inner.{Does, asChoice};
-use crate::Answer;
+ghost use Rattle.server.specs.Inner.{Decides, Sends, asChoice};
 use crate::Connection;
+use crate::Negotiated;
 use crate::Phase;
+use crate::Setup;
 use crate::bytes32;
-use crate::refuse;
-use messages::Verdict;
-use messages::client_hello::Client;
+use crate::step;
+use crate::step::Decision;
+use crate::step::Outgoing;
+use layout::Verdict;
+use hellos::client_hello::Client;
 use refusal::Refusal;
-use refusal::Written;
 
-// Our suites, in the order in which we choose.
-const SUITES: [u16; 3] = [0x00ae, 0x008c, 0x00b0];
+// TLS 1.2.
+const VERSION: usize = 0x0303;
 
 // The suite of a connection, if there is one.
 pub enum Choice {
@@ -33,7 +35,7 @@ pub enum Choice {
 
 // Whether the client's list, two bytes a suite, has this one.
 fn offers(offered: &[u8], suite: u16) -> bool
-    ensures { λ r. ⌜ r ≡ Steps.offers (now (offered .entry)) suite ⌝ }
+    ensures { λ r. ⌜ r ≡ Hello.offers (now (offered .entry)) suite ⌝ }
 {
     let wanted = suite as usize;
     let mut at: usize = 0;
@@ -48,7 +50,7 @@ fn offers(offered: &[u8], suite: u16) -> bool
 
 // The first of ours that the client lists.
 fn choose(ours: &[u16], offered: &[u8]) -> Choice
-    ensures { λ r. ⌜ r ≡ asChoice (Steps.chosen (now (ours .entry)) (now (offered .entry))) ⌝ }
+    ensures { λ r. ⌜ r ≡ asChoice (Hello.chosen (now (ours .entry)) (now (offered .entry))) ⌝ }
 {
     let mut i: usize = 0;
     while i < ours.len() {
@@ -63,7 +65,7 @@ fn choose(ours: &[u16], offered: &[u8]) -> Choice
 
 // Whether the null compression method is among these.
 fn offers_null(methods: &[u8]) -> bool
-    ensures { λ r. ⌜ r ≡ Steps.offersNull (now (methods .entry)) ⌝ }
+    ensures { λ r. ⌜ r ≡ Hello.offersNull (now (methods .entry)) ⌝ }
 {
     let mut i: usize = 0;
     while i < methods.len() {
@@ -73,82 +75,6 @@ fn offers_null(methods: &[u8]) -> bool
         i = i + 1;
     }
     false
-}
-
-// How long the flight is.
-fn flight_length(hint: usize) -> usize
-    requires { ⌜ hint ≤ 128 ⌝ }
-    ensures { λ r. ⌜ r ≡ Inner.flightLength hint ⌝ }
-{
-    if hint == 0 {
-        return 46;
-    }
-    52 + hint
-}
-
-// ServerKeyExchange where there is a hint, and ServerHelloDone, in an output that has room for them.
-fn put_rest(hint: &[u8], out: &mut [u8])
-    requires { ⌜ (length (now hint) ≤ 128) × (length (hintMessage (now hint)) + 4 ≤ length (now out)) ⌝ }
-    ensures { λ _. ⌜ now (out .exit) ≡ Inner.front (hintMessage (now (hint .entry)) ++ bytes serverHelloDone []) (now (out .entry)) ⌝ }
-{
-    if hint.len() == 0 {
-        messages::fixed::write_done(out);
-        return;
-    }
-    messages::key_exchange::write_hint(hint, out);
-    let at = 6 + hint.len();
-    messages::fixed::write_done(&mut out[at..]);
-}
-
-// ServerHello, and the rest behind it, in an output that has room for them.
-fn put_flight(random: &[u8], hint: &[u8], suite: u16, out: &mut [u8])
-    requires { ⌜ (length (now random) ≡ 32) × (length (now hint) ≤ 128) × (length (hintMessage (now hint)) + 46 ≤ length (now out)) ⌝ }
-    ensures { λ _. ⌜ now (out .exit) ≡ Inner.front (flight (now (random .entry)) (now (hint .entry)) suite) (now (out .entry)) ⌝ }
-{
-    let none = &random[0..0];
-    messages::server_hello::write(0x0303, random, none, suite as usize, 0, false, none, out);
-    put_rest(hint, &mut out[42..]);
-}
-
-// The same where there is room, and R1 otherwise.
-fn write_flight(random: &[u8], hint: &[u8], suite: u16, out: &mut [u8]) -> Written
-    requires { ⌜ (length (now random) ≡ 32) × (length (now hint) ≤ 128) ⌝ }
-    ensures { λ r. ⌜ Answers (gives (flight (now (random .entry)) (now (hint .entry)) suite)) (now (out .entry)) r (now (out .exit)) ⌝ }
-{
-    let n = flight_length(hint.len());
-    if out.len() < n {
-        return Written::Refused(Refusal::ShortOutput);
-    }
-    put_flight(random, hint, suite, out);
-    Written::Wrote(n)
-}
-
-// The connection when the hello has been answered with this flight.
-fn after_hello(c: Connection, m: &[u8], suite: u16, flight: &[u8]) -> Connection
-    requires { ⌜ 38 ≤ length (now m) ⌝ }
-    ensures { λ r. ⌜ r ≡ Inner.afterHelloWith c (now (m .entry)) suite (now (flight .entry)) ⌝ }
-{
-    let rule = c.rule;
-    let hint = c.hint;
-    let stand_in = c.stand_in;
-    let server_random = c.server_random;
-    let client_random = bytes32(&m[6..38]);
-    let master = c.master;
-    let heard = transcript::with_message(c.transcript, m);
-    let transcript = transcript::with_message(heard, flight);
-    Connection {
-        phase: Phase::KeyExchange,
-        rule,
-        hint_length: c.hint_length,
-        suite,
-        listed: false,
-        hint,
-        stand_in,
-        server_random,
-        client_random,
-        master,
-        transcript,
-    }
 }
 
 // How many bytes of the field are the hint.
@@ -162,31 +88,105 @@ fn in_field(hint_length: u8) -> usize
     n
 }
 
-// The flight to a hello that chose this suite.
-fn answer(c: Connection, m: &[u8], suite: u16, out: &mut [u8]) -> Answer
-    requires { ⌜ 38 ≤ length (now m) ⌝ }
-    ensures { λ a. ⌜ Does c (now (out .entry)) (accept (flightFor c suite) (Inner.afterHelloWith c (now (m .entry)) suite (flightFor c suite)))
-        a (now (out .exit)) ⌝ }
+// The length of the message that carries the hint, 0 where there is none.
+fn hint_message_length(hint: usize) -> usize
+    requires { ⌜ hint ≤ 128 ⌝ }
+    ensures { λ r. ⌜ r ≡ Inner.hintMessageLength hint ⌝ }
 {
-    let hint = c.hint;
-    let random = c.server_random;
-    let n = in_field(c.hint_length);
-    let said = write_flight(&random, &hint[..n], suite, out);
-    match said {
-        Written::Wrote(written) => {
-            let next = after_hello(c, m, suite, &out[..written]);
-            Answer { said, next }
-        }
-        Written::Refused(_) => Answer { said, next: c },
+    if hint == 0 {
+        return 0;
+    }
+    6 + hint
+}
+
+// ServerKeyExchange where there is a hint, and ServerHelloDone, in an output that has room for them.
+fn put_rest(hint: &[u8], out: &mut [u8])
+    requires { ⌜ (length (now hint) ≤ 128) × (length (joined (hintMessage (now hint))) + 4 ≤ length (now out)) ⌝ }
+    ensures { λ _. ⌜ now (out .exit) ≡ Inner.front (Inner.restOf (now (hint .entry))) (now (out .entry)) ⌝ }
+{
+    if hint.len() == 0 {
+        messages::fixed::write_done(out);
+        return;
+    }
+    messages::key_exchange::write_hint(hint, out);
+    let at = 6 + hint.len();
+    messages::fixed::write_done(&mut out[at..]);
+}
+
+// ServerHello, and the rest behind it, in an output that has room for them.
+fn put_flight(random: &[u8], hint: &[u8], suite: u16, out: &mut [u8])
+    requires { ⌜ (length (now random) ≡ 32) × (length (now hint) ≤ 128) × (length (joined (hintMessage (now hint))) + 46 ≤ length (now out)) ⌝ }
+    ensures { λ _. ⌜ now (out .exit) ≡ Inner.front (flightBytes (flight (now (random .entry)) (now (hint .entry)) suite)) (now (out .entry)) ⌝ }
+{
+    let none = &random[0..0];
+    hellos::server_hello::write(VERSION, random, none, suite as usize, 0, false, none, out);
+    put_rest(hint, &mut out[42..]);
+}
+
+// The flight to a hello that chose this suite.
+fn answer(setup: Setup, suite: u16) -> Outgoing
+    ensures { λ o. ⌜ Sends o (flight (setup .random) (hintOf setup) suite) ⌝ }
+{
+    let random = setup.random;
+    let hint = setup.hint;
+    let n = in_field(setup.hint_length);
+    let mut bytes = [0u8; 180];
+    put_flight(&random, &hint[..n], suite, &mut bytes);
+    let lengths = [42, hint_message_length(n), 4];
+    Outgoing {
+        bytes,
+        lengths,
+        plain: 3,
+    }
+}
+
+// The connection when the hello has been answered with this flight.
+fn after_hello(c: Connection, m: &[u8], suite: u16, flight: &[u8]) -> Connection
+    requires { ⌜ 38 ≤ length (now m) ⌝ }
+    ensures { λ r. ⌜ r ≡ Inner.afterHelloWith c (now (m .entry)) suite (now (flight .entry)) ⌝ }
+{
+    let setup = c.setup;
+    let random = bytes32(&m[6..38]);
+    let client = Negotiated {
+        random,
+        suite,
+        listed: false,
+    };
+    let secrets = c.secrets;
+    let with_hello = transcript::with_message(c.transcript, m);
+    let transcript = transcript::with_message(with_hello, flight);
+    Connection {
+        phase: Phase::KeyExchange,
+        setup,
+        client,
+        secrets,
+        transcript,
+    }
+}
+
+// A hello that chose this suite.
+fn accept(c: Connection, m: &[u8], suite: u16) -> Decision
+    requires { ⌜ 38 ≤ length (now m) ⌝ }
+    ensures { λ d. ⌜ Decides d (accept (flightFor c suite) (Inner.afterHelloWith c (now (m .entry)) suite (flightBytes (flightFor c suite)))) ⌝ }
+{
+    let setup = c.setup;
+    let outgoing = answer(setup, suite);
+    let bytes = outgoing.bytes;
+    let lengths = outgoing.lengths;
+    let n = step::size(lengths);
+    let next = after_hello(c, m, suite, &bytes[..n]);
+    Decision {
+        verdict: Verdict::Accepted,
+        outgoing,
+        next,
     }
 }
 
 // A hello whose header is tested already.
-fn body(c: Connection, m: &[u8], out: &mut [u8]) -> Answer
-    ensures { λ a. ⌜ Does c (now (out .entry)) (helloFields suites c (now (m .entry)) (clientFields (now (m .entry)) (clientBody (now (m .entry)))))
-        a (now (out .exit)) ⌝ }
+pub fn body(c: Connection, m: &[u8]) -> Decision
+    ensures { λ d. ⌜ Decides d (helloFields c (now (m .entry)) (clientFields (now (m .entry)) (clientBody (now (m .entry))))) ⌝ }
 {
-    match messages::client_hello::read_body(m) {
+    match hellos::client_hello::read_body(m) {
         Client::Read {
             version,
             session_len: _,
@@ -196,29 +196,19 @@ fn body(c: Connection, m: &[u8], out: &mut [u8]) -> Answer
             methods_len,
             block: _,
         } => {
-            if version < 0x0303 {
-                return refuse(c, Refusal::ProtocolVersion);
+            if version < VERSION {
+                return step::refused(c, Refusal::ProtocolVersion);
             }
             if !offers_null(&m[methods_start..methods_start + methods_len]) {
-                return refuse(c, Refusal::IllegalParameter);
+                return step::refused(c, Refusal::IllegalParameter);
             }
-            match choose(&SUITES, &m[suites_start..suites_start + suites_len]) {
-                Choice::Nothing => refuse(c, Refusal::HandshakeFailure),
-                Choice::Suite(suite) => answer(c, m, suite, out),
+            let setup = c.setup;
+            let ours = setup.suites;
+            match choose(&ours, &m[suites_start..suites_start + suites_len]) {
+                Choice::Nothing => step::refused(c, Refusal::HandshakeFailure),
+                Choice::Suite(suite) => accept(c, m, suite),
             }
         }
-        Client::Refused(_) => refuse(c, Refusal::DecodeError),
-    }
-}
-
-// A message where a ClientHello is awaited.
-pub fn step(c: Connection, m: &[u8], out: &mut [u8]) -> Answer
-    ensures { λ a. ⌜ Does c (now (out .entry))
-        (afterTests (header 1 (now (m .entry))) (helloFields suites c (now (m .entry)) (clientFields (now (m .entry)) (clientBody (now (m .entry))))))
-        a (now (out .exit)) ⌝ }
-{
-    match messages::header::test(1, m) {
-        Verdict::Accepted => body(c, m, out),
-        Verdict::Refused(r) => refuse(c, r),
+        Client::Refused => step::refused(c, Refusal::DecodeError),
     }
 }

@@ -1,121 +1,98 @@
 // Step 2: a ClientKeyExchange, and the master secret from the key of the identity that it names.
 ghost use mathlib.Core.Path.{_≡_};
 ghost use Prim.Native.Nat.{_≤_};
-ghost use mathlib.Core.List.{[]};
 ghost use lib.ListN.{length};
-ghost use Rattle.messages.specs.declared.Verdict.the-variants.{Accepted};
-ghost use Rattle.messages.specs.Header.{header};
-ghost use Rattle.messages.specs.Place.{lastAt, contents};
+ghost use Rattle.layout.specs.declared.Verdict.the-variants.{Accepted};
+ghost use Rattle.layout.specs.Header.{header};
+ghost use Rattle.layout.specs.Place.{lastAt, contents};
 ghost use Rattle.keytable.specs.Table.{keyOf};
 ghost use Rattle.server.specs.declared.Phase.{Phase};
-ghost use Rattle.server.specs.Steps as Steps;
-ghost use Rattle.server.specs.Steps.{answered, settled, bytesOf, masterUnder, afterKeys, keyFound, messageStep, suites, viewOf};
-use crate::Answer;
+ghost use Rattle.server.specs.KeyExchange as Exchange;
+ghost use Rattle.server.specs.KeyExchange.{afterKeys, keyFound, keyIdentity, viewOf};
+ghost use Rattle.server.specs.Message.{bodyStep};
+ghost use Rattle.server.specs.Inner.{Decides};
 use crate::Connection;
+use crate::Negotiated;
 use crate::Phase;
 use crate::Rule;
-use crate::refuse;
-use messages::Part;
-use messages::Verdict;
+use crate::Secrets;
+use crate::step;
+use crate::step::Decision;
+use keytable::Judged;
+use layout::Part;
 use refusal::Refusal;
 use refusal::Written;
-
-// The master secret from a key.
-fn master_under(key: &[u8], client: &[u8], server: &[u8]) -> [u8; 48]
-    requires { ⌜ (1 ≤ length (now key)) × (length (now key) ≤ 64) × (length (now client) ≡ 32) × (length (now server) ≡ 32) ⌝ }
-    ensures { λ r. ⌜ r ≡ bytesOf (masterUnder (now (key .entry)) (now (client .entry)) (now (server .entry))) ⌝ }
-{
-    let mut premaster = [0u8; 132];
-    let mut master = [0u8; 48];
-    keys::premaster(key, &mut premaster);
-    keys::master(&premaster[..4 + 2 * key.len()], client, server, &mut master);
-    master
-}
 
 // The connection when the key exchange has come.
 fn after_keys(c: Connection, m: &[u8], key: &[u8], listed: bool) -> Connection
     requires { ⌜ (1 ≤ length (now key)) × (length (now key) ≤ 64) ⌝ }
     ensures { λ r. ⌜ r ≡ afterKeys c (now (m .entry)) (now (key .entry)) listed ⌝ }
 {
-    let rule = c.rule;
-    let hint = c.hint;
-    let stand_in = c.stand_in;
-    let server_random = c.server_random;
-    let client_random = c.client_random;
-    let master = master_under(key, &client_random, &server_random);
+    let setup = c.setup;
+    let said = c.client;
+    let own = setup.random;
+    let random = said.random;
+    let mut master = [0u8; 48];
+    keys::master_under(key, &random, &own, &mut master);
+    let client = Negotiated {
+        random,
+        suite: said.suite,
+        listed,
+    };
     let transcript = transcript::with_message(c.transcript, m);
     Connection {
         phase: Phase::Change,
-        rule,
-        hint_length: c.hint_length,
-        suite: c.suite,
-        listed,
-        hint,
-        stand_in,
-        server_random,
-        client_random,
-        master,
+        setup,
+        client,
+        secrets: Secrets { master },
         transcript,
     }
 }
 
 // What an identity that isn't listed comes to.
-fn unlisted(c: Connection, m: &[u8]) -> Answer
-    ensures { λ a. ⌜ a ≡ answered (settled c [] (Steps.unlisted (c .rule) c (now (m .entry)))) ⌝ }
+fn unlisted(c: Connection, m: &[u8]) -> Decision
+    ensures { λ d. ⌜ Decides d (Exchange.unlisted (c .setup .rule) c (now (m .entry))) ⌝ }
 {
-    let rule = c.rule;
+    let setup = c.setup;
+    let rule = setup.rule;
     match rule {
-        Rule::Tell => refuse(c, Refusal::UnknownPskIdentity),
+        Rule::Tell => step::refused(c, Refusal::UnknownPskIdentity),
         Rule::Hide => {
-            let stand_in = c.stand_in;
-            let next = after_keys(c, m, &stand_in, false);
-            Answer {
-                said: Written::Wrote(0),
-                next,
-            }
+            let stand_in = setup.stand_in;
+            step::silent(after_keys(c, m, &stand_in, false))
         }
     }
 }
 
 // The key of the identity, if the table has it.
-fn look_up(c: Connection, table: &[u8], m: &[u8], identity: &[u8]) -> Answer
-    ensures { λ a. ⌜ a ≡ answered (settled c [] (keyFound c (now (m .entry)) (keyOf (now (table .entry)) (now (identity .entry))))) ⌝ }
+fn look_up(c: Connection, table: &[u8], m: &[u8], identity: &[u8]) -> Decision
+    ensures { λ d. ⌜ Decides d (keyFound c (now (m .entry)) (keyOf (now (table .entry)) (now (identity .entry)))) ⌝ }
 {
     let mut key = [0u8; 64];
     match keytable::lookup(table, identity, &mut key) {
-        Written::Wrote(n) => {
-            let next = after_keys(c, m, &key[..n], true);
-            Answer {
-                said: Written::Wrote(0),
-                next,
-            }
-        }
+        Written::Wrote(n) => step::silent(after_keys(c, m, &key[..n], true)),
         Written::Refused(_) => unlisted(c, m),
     }
 }
 
-// A key exchange whose header is tested already, with a table that is well formed.
-fn body(c: Connection, table: &[u8], m: &[u8]) -> Answer
+// The identity that the message names, of a table that does not refuse.
+fn identified(c: Connection, table: &[u8], m: &[u8]) -> Decision
     requires { ⌜ header 16 (now m) ≡ Accepted ⌝ }
-    ensures { λ a. ⌜ a ≡ answered (settled c [] (Steps.keyIdentity (keyOf (now (table .entry))) c (now (m .entry)) (contents (now (m .entry)) (lastAt 2 (now (m .entry)) 4)))) ⌝ }
+    ensures { λ d. ⌜ Decides d (keyIdentity (keyOf (now (table .entry))) c (now (m .entry)) (contents (now (m .entry)) (lastAt 2 (now (m .entry)) 4))) ⌝ }
 {
     match messages::key_exchange::read_identity_body(m) {
         Part::At { start: _, len: _ } => look_up(c, table, m, messages::key_exchange::identity(m)),
-        Part::Refused(_) => refuse(c, Refusal::DecodeError),
+        Part::Refused => step::refused(c, Refusal::DecodeError),
     }
 }
 
-// A message where a ClientKeyExchange is awaited.
-pub fn step(c: Connection, table: &[u8], m: &[u8]) -> Answer
-    ensures { λ a. ⌜ a ≡ answered (settled c [] (messageStep suites (viewOf (now (table .entry))) c (now (m .entry)) Phase.KeyExchange)) ⌝ }
+// A key exchange whose header is tested already.
+pub fn body(c: Connection, table: &[u8], m: &[u8]) -> Decision
+    requires { ⌜ header 16 (now m) ≡ Accepted ⌝ }
+    ensures { λ d. ⌜ Decides d (bodyStep (viewOf (now (table .entry))) c (now (m .entry)) Phase.KeyExchange) ⌝ }
 {
-    match messages::header::test(16, m) {
-        Verdict::Accepted => {
-            if !keytable::well_formed(table) {
-                return refuse(c, Refusal::BadTable);
-            }
-            body(c, table, m)
-        }
-        Verdict::Refused(r) => refuse(c, r),
+    match keytable::judge(table) {
+        Judged::Good => identified(c, table, m),
+        Judged::Refused(r) => step::refused(c, r),
     }
 }

@@ -8,7 +8,7 @@ use refusal::Written;
 // A line: the bytes, and whether they are UTF-8.
 fn print_text(text: &[u8]) {
     lines::hex(text);
-    if keytable::valid_utf8(text) {
+    if utf8::valid_utf8(text) {
         lines::text(b" UTF-8\n");
     } else {
         lines::text(b" bad\n");

@@ -1,9 +1,7 @@
 -- `keys::finished` meets its contract: the tests in their order, and then the PRF's own answer.
 -- Assumes nothing.
 use mathlib.Core.Bool.{and-false}
-use lib.ListN.{length}
 use borrow.Author.Tests.{eq-eqb, ne-eqb}
-use Rattle.refusal.specs.declared.Refusal.the-variants.{BadValue}
 use Rattle.refusal.proofs.Laws.{refused}
 use Rattle.keys.specs.Secrets.{verifyData}
 use borrow.Author.Needs.{needs}
@@ -12,23 +10,19 @@ use Rattle.keys.proofs.finished.Tie as tie
 
 returns : tie.Need-returns
 unfolding verifyData
-returns c =
-    let args = c .before .before .before .before .args in
-    rw (ne-eqb (length (args .master .now)) 48 (c .if1 .taken)) (refused BadValue (args .out .now))
+returns c = simp (ne-eqb _ _ (c .if1 .taken)) (refused _ _)
 
 returns-2 : tie.Need-returns-2
 unfolding verifyData
-returns-2 c =
-    let args = c .before .before .before .before .before .args in
-    rw (ne-eqb (length (args .hash .now)) 32 (c .if2 .taken), and-false) (refused BadValue (args .out .now))
+returns-2 c = simp (ne-eqb _ _ (c .if2 .taken), and-false) (refused _ _)
 
 returns-3 : tie.Need-returns-3
 unfolding verifyData
 returns-3 c =
     let at-label = c .before .before .before .before in
     let tests = at-label .before in
-    let args = tests .before .before .before .before .before .args in
-    rw (eq-eqb (length (args .master .now)) 48 (tests .before .if1 .left), eq-eqb (length (args .hash .now)) 32 (tests .if2 .left)) (rw (at-label .finished-label .ensures) at (c .before .before .prf .ensures))
+    simp (eq-eqb _ _ (tests .before .if1 .left), eq-eqb _ _ (tests .if2 .left))
+    (rw (at-label .finished-label .ensures) at (c .before .before .prf .ensures))
 
 pub finished-spec : {M : Type 1} → statement M
 finished-spec =

@@ -6,7 +6,6 @@ use mathlib.Core.Bool.{and-false}
 use lib.ListN.{length}
 use lib.Seq.{length-take-le}
 use borrow.Author.Tests.{lt-leb}
-use Rattle.refusal.specs.declared.Refusal.the-variants.{BadValue}
 use Rattle.refusal.proofs.Laws.{refused}
 use Rattle.keys.specs.Secrets.{premaster}
 use Rattle.keys.proofs.Lengths.{premaster-given}
@@ -16,15 +15,11 @@ use Rattle.keys.proofs.premaster.Tie as tie
 
 returns : tie.Need-returns
 unfolding premaster
-returns c =
-    let args = c .before .before .before .args in
-    rw (lt-leb 1 (length (args .psk .now)) (c .if1 .taken)) (refused BadValue (args .out .now))
+returns c = simp (lt-leb _ _ (c .if1 .taken)) (refused _ _)
 
 returns-2 : tie.Need-returns-2
 unfolding premaster
-returns-2 c =
-    let args = c .before .before .before .before .args in
-    rw (lt-leb (length (args .psk .now)) 64 (c .if2 .taken), and-false) (refused BadValue (args .out .now))
+returns-2 c = simp (lt-leb _ _ (c .if2 .taken), and-false) (refused _ _)
 
 slice-aggregate-put : tie.Need-slice-aggregate-put
 slice-aggregate-put c =
@@ -35,8 +30,7 @@ returns-3 : tie.Need-returns-3
 returns-3 c =
     let at-bytes = c .before .before .before .before .before in
     let tests = at-bytes .before in
-    let args = tests .before .before .before .before .args in
-    rw (premaster-given (args .psk .now) (tests .before .if1 .left) (tests .if2 .left))
+    rw (premaster-given _ (tests .before .if1 .left) (tests .if2 .left))
     (rw (at-bytes .premaster-bytes .ensures) at (c .before .before .put .ensures))
 
 pub premaster-spec : {M : Type 1} → statement M

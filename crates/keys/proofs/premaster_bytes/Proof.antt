@@ -5,7 +5,8 @@ use Prim.Native.Nat.{ℕ}
 use native.Mathlib.Omega.{arith}
 use lib.ListN.{length, take, replicate}
 use lib.Seq.{length-take-le}
-use Rattle.keys.proofs.PremasterParts.{premaster-parts, take-replicate}
+use Rattle.keys.proofs.PremasterParts.{premaster-parts}
+use Rattle.lists.proofs.Parts.{take-replicate}
 use borrow.Author.Needs.{needs}
 use Rattle.keys.proofs.premaster_bytes.Statement.{statement}
 use Rattle.keys.proofs.premaster_bytes.Tie as tie
@@ -28,7 +29,17 @@ returns c =
     let at-size = at-first .before .before in
     let start = at-size .before .before in
     let psk = start .args .psk .now in
-    premaster-parts psk (at-size .bytes16 .result) (take (length psk) (replicate 64 0)) (at-first .append .result) (at-second .append2 .result) (at-third .append3 .result) (c .append4 .result) (at-size .bytes16 .ensures) (take-replicate 64 (length psk) 0 (start .pre)) (at-first .append .ensures) (at-second .append2 .ensures) (at-third .append3 .ensures) (c .append4 .ensures)
+    premaster-parts psk (at-size .bytes16 .result) (take (length psk) (replicate 64 0))
+    (at-first .append .result)
+    (at-second .append2 .result)
+    (at-third .append3 .result)
+    (c .append4 .result)
+    (at-size .bytes16 .ensures)
+    (take-replicate 64 (length psk) 0 (start .pre))
+    (at-first .append .ensures)
+    (at-second .append2 .ensures)
+    (at-third .append3 .ensures)
+    (c .append4 .ensures)
 
 pub premaster-bytes-spec : {M : Type 1} → statement M
 premaster-bytes-spec =

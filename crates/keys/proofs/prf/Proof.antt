@@ -2,31 +2,27 @@
 -- Assumes nothing.
 use mathlib.Core.Path.{_≡_, sym}
 use native.Mathlib.Omega.{arith}
-use lib.ListN.{length, take}
+use mathlib.Core.Bool.{and-false}
+use lib.ListN.{length}
 use lib.Seq.{length-take-le}
-use Rattle.refusal.specs.Lent.{gives}
-use Rattle.refusal.specs.declared.Refusal.the-variants.{BadValue}
+use borrow.Author.Tests.{le-leb, lt-leb}
 use Rattle.refusal.proofs.Laws.{refused}
 use Rattle.keys.specs.Prf.{prf}
-use Rattle.keys.proofs.PrfSteps.{prf-within, long-secret-refused, long-seed-refused, long-output-refused}
 use borrow.Author.Needs.{needs}
 use Rattle.keys.proofs.prf.Statement.{statement}
 use Rattle.keys.proofs.prf.Tie as tie
 
 returns : tie.Need-returns
-returns c =
-    let args = c .before .before .before .before .args in
-    rw (long-secret-refused (args .secret .now) (args .label) (args .seed .now) (args .n) (c .if1 .taken)) (refused BadValue (args .out .now))
+unfolding prf
+returns c = simp (lt-leb _ _ (c .if1 .taken)) (refused _ _)
 
 returns-2 : tie.Need-returns-2
-returns-2 c =
-    let args = c .before .before .before .before .before .args in
-    rw (long-seed-refused (args .secret .now) (args .label) (args .seed .now) (args .n) (c .if2 .taken)) (refused BadValue (args .out .now))
+unfolding prf
+returns-2 c = simp (lt-leb _ _ (c .if2 .taken), and-false) (refused _ _)
 
 returns-3 : tie.Need-returns-3
-returns-3 c =
-    let args = c .before .before .before .before .before .before .args in
-    rw (long-output-refused (args .secret .now) (args .label) (args .seed .now) (args .n) (c .if3 .taken)) (refused BadValue (args .out .now))
+unfolding prf
+returns-3 c = simp (lt-leb _ _ (c .if3 .taken), and-false) (refused _ _)
 
 slice-aggregate-put : tie.Need-slice-aggregate-put
 slice-aggregate-put c =
@@ -34,13 +30,12 @@ slice-aggregate-put c =
     sym (length-take-le _ _ (omega arith))
 
 returns-4 : tie.Need-returns-4
+unfolding prf
 returns-4 c =
     let at-expand = c .before .before .before .before .before in
     let tests = at-expand .before in
-    let args = tests .before .before .before .before .before .before .args in
-    let given : gives (take (args .n) (at-expand .expand .result)) ≡ prf (args .secret .now) (args .label) (args .seed .now) (args .n) =
-    rw (prf-within (args .secret .now) (args .label) (args .seed .now) (args .n) (tests .before .before .if1 .left) (tests .before .if2 .left) (tests .if3 .left), at-expand .expand .ensures) in
-    rw given at (c .before .before .put .ensures)
+    simp (le-leb _ _ (tests .before .before .if1 .left), le-leb _ _ (tests .before .if2 .left), le-leb _ _ (tests .if3 .left))
+    (rw (at-expand .expand .ensures) at (c .before .before .put .ensures))
 
 pub prf-spec : {M : Type 1} → statement M
 prf-spec =

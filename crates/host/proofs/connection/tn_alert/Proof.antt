@@ -5,7 +5,7 @@ use mathlib.Core.Path.{ap}
 use mathlib.Core.List.{[]}
 use Rattle.server.specs.declared.Connection.{Connection}
 use Rattle.server.specs.declared.Answer.{Answer}
-use Rattle.server.specs.Steps.{alertStep}
+use Rattle.server.specs.Alert.{alertStep}
 use Rattle.host.proofs.Sizes.{alert-brief}
 use Rattle.host.proofs.Keeping.{step-count, keeps}
 use Rattle.host.proofs.connection.tn_alert.Statement.{statement}

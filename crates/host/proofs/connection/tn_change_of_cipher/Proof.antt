@@ -5,7 +5,7 @@ use mathlib.Core.Path.{ap}
 use mathlib.Core.List.{[]}
 use Rattle.server.specs.declared.Connection.{Connection}
 use Rattle.server.specs.declared.Answer.{Answer}
-use Rattle.server.specs.Steps.{changeStep}
+use Rattle.server.specs.Change.{changeStep}
 use Rattle.host.proofs.Sizes.{change-brief}
 use Rattle.host.proofs.Keeping.{step-count, keeps}
 use Rattle.host.proofs.connection.tn_change_of_cipher.Statement.{statement}

@@ -7,7 +7,10 @@ use mathlib.Core.List.{List}
 use mathlib.Core.Option.{Option}
 use Prim.Native.Nat.{ℕ}
 use Rattle.server.specs.declared.Connection.{Connection}
-use Rattle.server.specs.Steps.{Step, Settled, View, viewOf, suites, messageStep, settled, handedOver}
+use Rattle.server.specs.Step.{Step, Settled, settled}
+use Rattle.server.specs.KeyExchange.{View, viewOf}
+use Rattle.server.specs.Connection.{suites}
+use Rattle.server.specs.Message.{messageStep, handedOver}
 use Rattle.server.specs.Saved.{restored}
 use Rattle.host.specs.Connections.{masterAfter}
 use Rattle.host.proofs.Sizes.{Brief, message-brief}

@@ -10,11 +10,11 @@ use Rattle.host.proofs.reading.put_part.Tie as tie
 fits : (c : tie.After-known-told) → Fits (c .before .part .given .0 .0) (c .before .part .given .0 .1 .0)
 fits c = rw (c .before .part .given .1) at (c .before .before .before .pre)
 
-cast-t7 : tie.Need-cast-t7
-cast-t7 c = record { fits = fits c .start-fits }
+cast-t6 : tie.Need-cast-t6
+cast-t6 c = record { fits = fits c .start-fits }
 
-cast-t8 : tie.Need-cast-t8
-cast-t8 c = record { fits = fits c .len-fits }
+cast-t7 : tie.Need-cast-t7
+cast-t7 c = record { fits = fits c .len-fits }
 
 returns : tie.Need-returns
 returns c = rw (c .before .before .part .given .1) (record { told = refl; left = refl })
@@ -27,8 +27,8 @@ put-part-spec =
     tie.close
     (tie.spec
     (λ c. search needs)
+    cast-t6
     cast-t7
-    cast-t8
     (λ c. search needs)
     (λ c κs. search needs)
     returns

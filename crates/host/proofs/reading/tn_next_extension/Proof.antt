@@ -7,8 +7,8 @@ use lib.ListN.{length}
 use borrow.Author.Tests.{le-leb, lt-leb}
 use Rattle.refusal.specs.declared.Refusal.the-variants.{DecodeError}
 use Rattle.endian.specs.Number.{Bytes}
-use Rattle.messages.specs.declared.extensions.Step.{Step}
-use Rattle.messages.specs.Extensions.{stepAt}
+use Rattle.extensions.specs.declared.Step.{Step}
+use Rattle.extensions.specs.Extensions.{stepAt}
 use Rattle.host.proofs.Readings.{refusal-read}
 use Rattle.host.proofs.Places.{StepFits, step-fits}
 use Rattle.host.proofs.reading.tn_next_extension.Statement.{statement}
@@ -32,14 +32,14 @@ fits c =
     let b : Bytes (a .block .now) = λ i. omega (arith, c .before .before .before .before .before .shared-slice-known .given i) in
     rw (found c) at (step-fits (a .block .now) (a .at) b (c .before .before .before .before .if1 .left))
 
+cast-t12 : tie.Need-cast-t12
+cast-t12 c = record { fits = fits c .kind-fits }
+
 cast-t13 : tie.Need-cast-t13
-cast-t13 c = record { fits = fits c .kind-fits }
+cast-t13 c = record { fits = fits c .place .start-fits }
 
 cast-t14 : tie.Need-cast-t14
-cast-t14 c = record { fits = fits c .place .start-fits }
-
-cast-t15 : tie.Need-cast-t15
-cast-t15 c = record { fits = fits c .place .len-fits }
+cast-t14 c = record { fits = fits c .place .len-fits }
 
 returns-2 : tie.Need-returns-2
 returns-2 c =
@@ -55,10 +55,10 @@ returns-3 c =
 
 returns-4 : tie.Need-returns-4
 returns-4 c =
-    let next = c .before .before .before .before in
+    let next = c .before .before .before in
     let m = next .before .before .before .args .block .now in
-    rw (le-leb (length m) 65535 (next .before .if1 .left), sym (next .next .ensures) ∙ c .before .before .r .given .1)
-    (refusal-read (c .before .before .r .given .0 .0) (c .of-refusal2 .ok) (c .of-refusal2 .ensures))
+    rw (le-leb (length m) 65535 (next .before .if1 .left), sym (next .next .ensures) ∙ c .before .enum-told2 .given .1)
+    (refusal-read (DecodeError) (c .of-refusal2 .ok) (c .of-refusal2 .ensures))
 
 pub tn-next-extension-spec : {M : Type 1} → statement M
 tn-next-extension-spec =
@@ -68,9 +68,9 @@ tn-next-extension-spec =
     returns
     (λ c κs. search needs)
     (λ c. search needs)
+    cast-t12
     cast-t13
     cast-t14
-    cast-t15
     (λ c. search needs)
     (λ c. search needs)
     (λ c κs. search needs)

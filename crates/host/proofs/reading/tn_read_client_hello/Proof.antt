@@ -4,8 +4,9 @@ use borrow.Author.Needs.{needs}
 use mathlib.Core.Path.{_≡_, refl, sym, _∙_}
 use native.Mathlib.Omega.{arith}
 use Rattle.endian.specs.Number.{Bytes}
-use Rattle.messages.specs.declared.client_hello.Client.{Client}
-use Rattle.messages.specs.ClientHello.{clientPlace}
+use Rattle.refusal.specs.declared.Refusal.the-variants.{DecodeError}
+use Rattle.hellos.specs.declared.client_hello.Client.{Client}
+use Rattle.hellos.specs.ClientHello.{clientPlace}
 use Rattle.host.proofs.Readings.{refusal-read, three-fields}
 use Rattle.host.proofs.Places.{ClientFits, client-fits}
 use Rattle.host.proofs.reading.tn_read_client_hello.Statement.{statement}
@@ -29,23 +30,23 @@ fits c =
 block-fields-requires : tie.Need-block-fields-requires
 block-fields-requires c κs = fits c .block
 
+cast-t14 : tie.Need-cast-t14
+cast-t14 c = record { fits = fits (c .before) .version-fits }
+
 cast-t15 : tie.Need-cast-t15
-cast-t15 c = record { fits = fits (c .before) .version-fits }
+cast-t15 c = record { fits = fits (c .before) .session-fits }
 
 cast-t16 : tie.Need-cast-t16
-cast-t16 c = record { fits = fits (c .before) .session-fits }
+cast-t16 c = record { fits = fits (c .before) .suites .start-fits }
 
 cast-t17 : tie.Need-cast-t17
-cast-t17 c = record { fits = fits (c .before) .suites .start-fits }
+cast-t17 c = record { fits = fits (c .before) .suites .len-fits }
 
 cast-t18 : tie.Need-cast-t18
-cast-t18 c = record { fits = fits (c .before) .suites .len-fits }
+cast-t18 c = record { fits = fits (c .before) .methods .start-fits }
 
 cast-t19 : tie.Need-cast-t19
-cast-t19 c = record { fits = fits (c .before) .methods .start-fits }
-
-cast-t20 : tie.Need-cast-t20
-cast-t20 c = record { fits = fits (c .before) .methods .len-fits }
+cast-t19 c = record { fits = fits (c .before) .methods .len-fits }
 
 returns : tie.Need-returns
 returns c =
@@ -55,8 +56,8 @@ returns c =
 
 returns-2 : tie.Need-returns-2
 returns-2 c =
-    rw (sym (c .before .before .before .before .read .ensures) ∙ c .before .before .r .given .1)
-    (refusal-read (c .before .before .r .given .0 .0) (c .of-refusal .ok) (c .of-refusal .ensures))
+    rw (sym (c .before .before .before .read .ensures) ∙ c .before .enum-told .given .1)
+    (refusal-read (DecodeError) (c .of-refusal .ok) (c .of-refusal .ensures))
 
 pub tn-read-client-hello-spec : {M : Type 1} → statement M
 tn-read-client-hello-spec =
@@ -65,12 +66,12 @@ tn-read-client-hello-spec =
     (λ c κs. search needs)
     (λ c. search needs)
     block-fields-requires
+    cast-t14
     cast-t15
     cast-t16
     cast-t17
     cast-t18
     cast-t19
-    cast-t20
     (λ c. search needs)
     (λ c. search needs)
     (λ c. search needs)

@@ -4,6 +4,7 @@ use borrow.Author.Needs.{needs}
 use mathlib.Core.Path.{_≡_, refl, sym, _∙_}
 use native.Mathlib.Omega.{arith}
 use Rattle.endian.specs.Number.{Bytes}
+use Rattle.refusal.specs.declared.Refusal.the-variants.{DecodeError}
 use Rattle.messages.specs.declared.ticket.Ticket.{Ticket}
 use Rattle.messages.specs.NewSessionTicket.{ticketPlace}
 use Rattle.host.proofs.Readings.{refusal-read}
@@ -23,19 +24,19 @@ fits c =
     let b : Bytes m = λ i. omega (arith, c .before .before .before .before .shared-slice-known .given i) in
     rw (found c) at (ticket-fits m b)
 
-cast-t9 : tie.Need-cast-t9
-cast-t9 c = record { fits = fits c .start-fits }
+cast-t8 : tie.Need-cast-t8
+cast-t8 c = record { fits = fits c .start-fits }
 
-cast-t10 : tie.Need-cast-t10
-cast-t10 c = record { fits = fits c .len-fits }
+cast-t9 : tie.Need-cast-t9
+cast-t9 c = record { fits = fits c .len-fits }
 
 returns : tie.Need-returns
 returns c = rw (found (c .before)) (record { told = refl; left = refl })
 
 returns-2 : tie.Need-returns-2
 returns-2 c =
-    rw (sym (c .before .before .before .before .read .ensures) ∙ c .before .before .r .given .1)
-    (refusal-read (c .before .before .r .given .0 .0) (c .of-refusal .ok) (c .of-refusal .ensures))
+    rw (sym (c .before .before .before .read .ensures) ∙ c .before .enum-told .given .1)
+    (refusal-read (DecodeError) (c .of-refusal .ok) (c .of-refusal .ensures))
 
 pub tn-read-new-session-ticket-spec : {M : Type 1} → statement M
 tn-read-new-session-ticket-spec =
@@ -43,8 +44,8 @@ tn-read-new-session-ticket-spec =
     (tie.spec
     (λ c κs. search needs)
     (λ c. search needs)
+    cast-t8
     cast-t9
-    cast-t10
     (λ c. search needs)
     (λ c κs. search needs)
     returns

@@ -4,8 +4,9 @@ use borrow.Author.Needs.{needs}
 use mathlib.Core.Path.{_≡_, refl, sym, _∙_}
 use native.Mathlib.Omega.{arith}
 use Rattle.endian.specs.Number.{Bytes}
-use Rattle.messages.specs.declared.server_hello.Server.{Server}
-use Rattle.messages.specs.ServerHello.{serverPlace}
+use Rattle.refusal.specs.declared.Refusal.the-variants.{DecodeError}
+use Rattle.hellos.specs.declared.server_hello.Server.{Server}
+use Rattle.hellos.specs.ServerHello.{serverPlace}
 use Rattle.host.proofs.Readings.{refusal-read, three-fields}
 use Rattle.host.proofs.Places.{ServerFits, server-fits}
 use Rattle.host.proofs.reading.tn_read_server_hello.Statement.{statement}
@@ -26,14 +27,14 @@ fits c =
 block-fields-requires : tie.Need-block-fields-requires
 block-fields-requires c κs = fits c .block
 
+cast-t12 : tie.Need-cast-t12
+cast-t12 c = record { fits = fits (c .before) .version-fits }
+
 cast-t13 : tie.Need-cast-t13
-cast-t13 c = record { fits = fits (c .before) .version-fits }
+cast-t13 c = record { fits = fits (c .before) .session-fits }
 
 cast-t14 : tie.Need-cast-t14
-cast-t14 c = record { fits = fits (c .before) .session-fits }
-
-cast-t15 : tie.Need-cast-t15
-cast-t15 c = record { fits = fits (c .before) .suite-fits }
+cast-t14 c = record { fits = fits (c .before) .suite-fits }
 
 returns : tie.Need-returns
 returns c =
@@ -43,8 +44,8 @@ returns c =
 
 returns-2 : tie.Need-returns-2
 returns-2 c =
-    rw (sym (c .before .before .before .before .read .ensures) ∙ c .before .before .r .given .1)
-    (refusal-read (c .before .before .r .given .0 .0) (c .of-refusal .ok) (c .of-refusal .ensures))
+    rw (sym (c .before .before .before .read .ensures) ∙ c .before .enum-told .given .1)
+    (refusal-read (DecodeError) (c .of-refusal .ok) (c .of-refusal .ensures))
 
 pub tn-read-server-hello-spec : {M : Type 1} → statement M
 tn-read-server-hello-spec =
@@ -53,9 +54,9 @@ tn-read-server-hello-spec =
     (λ c κs. search needs)
     (λ c. search needs)
     block-fields-requires
+    cast-t12
     cast-t13
     cast-t14
-    cast-t15
     (λ c. search needs)
     (λ c. search needs)
     (λ c. search needs)

@@ -11,7 +11,7 @@ returns c = rw (sym (c .before .before .read-done .ensures) ∙ c .enum-told .gi
 
 returns-2 : tie.Need-returns-2
 returns-2 c =
-    rw (sym (c .before .before .before .before .read-done .ensures) ∙ c .before .before .r .given .1)
+    rw (sym (c .before .before .before .read-done .ensures) ∙ c .before .enum-told2 .given .1)
     (handed-on _ (c .of-refusal .ok) ∙ c .of-refusal .ensures)
 
 pub tn-read-server-hello-done-spec : {M : Type 1} → statement M

@@ -1,7 +1,7 @@
 -- `host::writing::tn_write_client_hello` meets its contract: the code of what the writer said, whose bytes are within the limit.
 -- Assumes nothing.
 use borrow.Author.Needs.{needs}
-use Rattle.messages.specs.ClientHello.{clientHello, clientGiven}
+use Rattle.hellos.specs.ClientHello.{clientHello, clientGiven}
 use Rattle.host.proofs.Answers.{few, codes}
 use Rattle.host.proofs.Sizes.{written-small}
 use Rattle.host.proofs.writing.tn_write_client_hello.Statement.{statement}

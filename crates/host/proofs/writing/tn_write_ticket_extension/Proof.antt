@@ -1,7 +1,7 @@
 -- `host::writing::tn_write_ticket_extension` meets its contract: the code of what the writer said, whose bytes are within the limit.
 -- Assumes nothing.
 use borrow.Author.Needs.{needs}
-use Rattle.messages.specs.Extensions.{ticketExtension}
+use Rattle.extensions.specs.Extensions.{ticketExtension}
 use Rattle.host.proofs.Answers.{few, codes}
 use Rattle.host.proofs.Sizes.{extension-small}
 use Rattle.host.proofs.writing.tn_write_ticket_extension.Statement.{statement}

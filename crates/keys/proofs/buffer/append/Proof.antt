@@ -12,7 +12,8 @@ returns : tie.Need-returns
 returns c =
     let start = c .before .before .before .before in
     let size : length (start .args .buffer) ≡ 256 = search (needs, start .good) in
-    copied-behind (start .args .buffer) (start .args .part .now) (c .before .copy .last .1 .0) (start .args .at) (omega arith) (c .before .copy .ensures .1)
+    let copied = c .before .copy in
+    copied-behind (start .args .buffer) (start .args .part .now) (copied .last .1 .0) (start .args .at) (omega arith) (copied .ensures .1)
 
 pub append-spec : {M : Type 1} → statement M
 append-spec =

@@ -21,7 +21,8 @@ loop-again : tie.Need-loop-again Inv-loop μ-loop
 loop-again c =
     let at-loop = c .before in
     let args = at-loop .before .args in
-    (search needs, search needs, search needs, next-xored (args .t1) (at-loop .loop .padded) (at-loop .loop .i) (args .pad) (omega arith) (omega arith) (at-loop .loop .inv .3))
+    let next = next-xored (args .t1) (at-loop .loop .padded) (at-loop .loop .i) (args .pad) in
+    (search needs, search needs, search needs, next (omega arith) (omega arith) (at-loop .loop .inv .3))
 
 returns : tie.Need-returns Inv-loop μ-loop
 returns c =

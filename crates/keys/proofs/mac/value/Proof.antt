@@ -13,8 +13,10 @@ unfolding mac
 returns c =
     let at-begin = c .before .before in
     let at-block = at-begin .before in
-    let message = at-block .before .before .before .args .message .now in
-    c .end .ensures message (c .before .update .ensures ∙ rw (at-begin .begin .ensures) (sym (absorb-append fresh (xored (at-block .block-of .result) ipad) message))) (at-block .before .before .before .pre .1)
+    let start = at-block .before .before .before in
+    let message = start .args .message .now in
+    let block = xored (at-block .block-of .result) ipad in
+    c .end .ensures message (c .before .update .ensures ∙ rw (at-begin .begin .ensures) (sym (absorb-append fresh block message))) (start .pre .1)
     ∙ rw (at-block .block-of .ensures)
 
 pub value-spec : {M : Type 1} → statement M

@@ -13,7 +13,10 @@ use Rattle.keys.proofs.p_sha256.expand.Statement.{statement}
 use Rattle.keys.proofs.p_sha256.expand.Tie as tie
 
 abbrev Inv-loop : tie.InvT-loop
-Inv-loop secret label seed n buffer₀ a₀ i₀ buffer a i = (i ≤ 8) × (32 * i < n + 32) × (length buffer ≡ 256) × (length a ≡ 32) × (take (32 * i) buffer ≡ P secret (text label ++ seed) i) × (0 < i → a ≡ A secret (text label ++ seed) i)
+Inv-loop secret label seed n buffer₀ a₀ i₀ buffer a i =
+    (i ≤ 8) × (32 * i < n + 32) × (length buffer ≡ 256) × (length a ≡ 32)
+    × (take (32 * i) buffer ≡ P secret (text label ++ seed) i)
+    × (0 < i → a ≡ A secret (text label ++ seed) i)
 
 abbrev μ-loop : tie.MeasureT-loop
 μ-loop secret label seed n buffer₀ a₀ i₀ buffer a i = 8 - i
@@ -34,7 +37,8 @@ loop-again c =
     let made : at-labelled .labelled .result ≡ mac (args .secret .now) (A (args .secret .now) seed (i + 1) ++ seed) =
     at-labelled .labelled .ensures ∙ rw stepped in
     let size : length (at-labelled .labelled .result) ≡ 32 = search (needs, at-labelled .labelled .ok) in
-    (search needs, search needs, search needs, search needs, next-part (args .secret .now) seed (at-loop .loop .buffer) (c .append .result) (at-labelled .labelled .result) i (at-loop .loop .inv .4) made (rw size at (c .append .ensures)), λ h. stepped)
+    let longer = next-part (args .secret .now) seed (at-loop .loop .buffer) (c .append .result) (at-labelled .labelled .result) i in
+    (search needs, search needs, search needs, search needs, longer (at-loop .loop .inv .4) made (rw size at (c .append .ensures)), λ h. stepped)
 
 returns : tie.Need-returns Inv-loop μ-loop
 returns c = enough _ _ _ _ _ (omega arith) (omega arith) (c .before .loop .inv .4)

@@ -25,7 +25,8 @@ returns c =
     c .before .update2 .ensures
     ∙ rw (at-label .with-label .ensures, at-update .update .ensures, at-begin .begin .ensures)
     (four-parts (xored (at-block .block-of .result) ipad) front (text (start .args .label)) (start .args .seed .now)) in
-    c .end .ensures (front ++ rest) absorbed (labelled-size front (start .args .label) (start .args .seed .now) (start .pre .1 .0) (start .pre .1 .1)) ∙ rw (at-block .block-of .ensures)
+    let small = labelled-size front (start .args .label) (start .args .seed .now) (start .pre .1 .0) (start .pre .1 .1) in
+    c .end .ensures (front ++ rest) absorbed small ∙ rw (at-block .block-of .ensures)
 
 pub labelled-spec : {M : Type 1} → statement M
 labelled-spec =

@@ -17,7 +17,7 @@ returns-3 c =
     simp (
       le-leb _ _ (c .before .before .before .if1 .left),
       le-leb _ _ (c .before .before .if2 .left),
-      failed _ _ (c .before .all-plain .ensures) (c .if3 .taken),
+      failed _ _ (c .before .all .ensures) (c .if3 .taken),
     )
 
 returns-4 : tie.Need-returns-4
@@ -26,7 +26,7 @@ returns-4 c =
     simp (
       le-leb _ _ (p .before .before .if1 .left),
       le-leb _ _ (p .before .if2 .left),
-      passed _ _ (p .all-plain .ensures) (c .before .if3 .left),
+      passed _ _ (p .all .ensures) (c .before .if3 .left),
     )
     (c .valid-utf8 .ensures)
 

@@ -2,7 +2,8 @@
 -- Assumes nothing.
 use borrow.Author.Needs.{needs}
 use mathlib.Core.Path.{_∙_, sym}
-use Prim.Native.Nat.{_≤_}
+use Prim.Native.Nat.{ℕ, _≤_}
+use mathlib.Core.List.{List}
 use denote.Ref.{now}
 use lib.ListN.{length}
 use lib.Seq.{length-take-le}
@@ -11,40 +12,40 @@ use Rattle.lists.proofs.Tests.{failed, passed}
 use Rattle.keytable.proofs.checks.valid_line.Statement.{statement}
 use Rattle.keytable.proofs.checks.valid_line.Tie as tie
 
+-- where the colon was searched
+module _ (c : tie.After-find) where
+  abbrev line : List ℕ
+  line = now (c .before .before .args .l)
+
+  inside : c .find .result ≤ length line
+  inside = colon-within line _ (c .find .ensures)
+
 slice-aggregate-valid-identity : tie.Need-slice-aggregate-valid-identity
-slice-aggregate-valid-identity c =
-    sym (length-take-le _ _ (colon-within (now (c .before .before .before .args .l)) _ (c .before .find .ensures)))
+slice-aggregate-valid-identity c = sym (length-take-le _ _ (inside (c .before)))
 
 returns : tie.Need-returns
 returns c =
     let f = c .before .before .before in
-    identity-fails (now (f .before .before .args .l)) _ (f .find .ensures) (failed _ _ (c .before .valid-identity .ensures) (c .if1 .taken))
+    identity-fails (line f) _ (f .find .ensures) (failed _ _ (c .before .valid-identity .ensures) (c .if1 .taken))
 
 returns-2 : tie.Need-returns-2
-returns-2 c =
-    let f = c .before .before .before .before in
-    colon-fails (now (f .before .before .args .l)) _ (f .find .ensures) (c .if2 .taken)
-
--- where there is a colon
-inside : (c : tie.Else2)
-    → c .before .before .before .before .find .result ≤ length (now (c .before .before .before .before .before .before .args .l))
-inside c = let f = c .before .before .before .before in colon-within (now (f .before .before .args .l)) _ (f .find .ensures)
+returns-2 c = let f = c .before .before .before .before in colon-fails (line f) _ (f .find .ensures) (c .if2 .taken)
 
 add-valid-key : tie.Need-add-valid-key
-add-valid-key c = let w = inside c in search needs
+add-valid-key c = let w = inside (c .before .before .before .before) in search needs
 
 sub-valid-key : tie.Need-sub-valid-key
-sub-valid-key c = let w = inside c in search needs
+sub-valid-key c = let w = inside (c .before .before .before .before) in search needs
 
 part-valid-key-start : tie.Need-part-valid-key-start
-part-valid-key-start c = let w = inside c in search needs
+part-valid-key-start c = let w = inside (c .before .before .before .before) in search needs
 
 returns-3 : tie.Need-returns-3
 returns-3 c =
-    let v = c .before .before .before .before in
-    let f = v .before .before in
+    let tested = c .before .before .before in
+    let f = tested .before .before .before in
     c .valid-key .ensures
-    ∙ key-decides (now (f .before .before .args .l)) _ (f .find .ensures) (passed _ _ (v .valid-identity .ensures) (c .before .before .before .if1 .left))
+    ∙ key-decides (line f) _ (f .find .ensures) (passed _ _ (tested .before .valid-identity .ensures) (tested .if1 .left))
 
 pub valid-line-spec : {M : Type 1} → statement M
 valid-line-spec =

@@ -1,9 +1,7 @@
 -- `keytable::checks::well_formed`: each return is what its tests leave of the definition.
 -- Assumes nothing.
 use borrow.Author.Needs.{needs}
-use mathlib.Core.Path.{sym, ap, _∙_}
-use Prim.Native.Nat.{ℕ}
-use lib.Dec.{leb}
+use mathlib.Core.Bool.{and-false, and-true}
 use borrow.Author.Tests.{le-leb, lt-leb}
 use Rattle.keytable.specs.Table.{wellFormed}
 use Rattle.lists.proofs.Tests.{failed, passed}
@@ -21,33 +19,23 @@ returns-2 c = simp (le-leb _ _ (c .before .before .if1 .left), failed _ _ (c .be
 returns-3 : tie.Need-returns-3
 unfolding wellFormed
 returns-3 c =
+    let tests = c .before .before in
     simp (
-      le-leb _ _ (c .before .before .before .before .if1 .left),
-      passed _ _ (c .before .before .before .ended .ensures) (c .before .before .if2 .left),
-      ap (λ (n : ℕ). leb n 256) (sym (c .before .count-lines .ensures)) ∙ lt-leb _ 256 (c .if3 .taken),
+      le-leb _ _ (tests .before .before .if1 .left),
+      passed _ _ (tests .before .ended .ensures) (tests .if2 .left),
+      failed _ _ (c .before .valid-lines .ensures) (c .if3 .taken),
+      and-false,
     )
 
 returns-4 : tie.Need-returns-4
 unfolding wellFormed
 returns-4 c =
-    let e = c .before .before .before .before .before in
+    let tests = c .before .before .before in
     simp (
-      le-leb _ _ (e .before .if1 .left),
-      passed _ _ (e .ended .ensures) (c .before .before .before .before .if2 .left),
-      ap (λ (n : ℕ). leb n 256) (sym (c .before .before .before .count-lines .ensures)) ∙ le-leb _ 256 (c .before .before .if3 .left),
-      failed _ _ (c .before .valid-lines .ensures) (c .if4 .taken),
-    )
-
-returns-5 : tie.Need-returns-5
-unfolding wellFormed
-returns-5 c =
-    let v = c .before .before in
-    let e = v .before .before .before .before in
-    simp (
-      le-leb _ _ (e .before .if1 .left),
-      passed _ _ (e .ended .ensures) (v .before .before .before .if2 .left),
-      ap (λ (n : ℕ). leb n 256) (sym (v .before .before .count-lines .ensures)) ∙ le-leb _ 256 (v .before .if3 .left),
-      passed _ _ (v .valid-lines .ensures) (c .before .if4 .left),
+      le-leb _ _ (tests .before .before .if1 .left),
+      passed _ _ (tests .before .ended .ensures) (tests .if2 .left),
+      passed _ _ (c .before .before .valid-lines .ensures) (c .before .if3 .left),
+      and-true,
     )
     (c .distinct .ensures)
 
@@ -61,6 +49,4 @@ well-formed-spec =
     (λ c κs. search needs)
     returns-3
     (λ c κs. search needs)
-    returns-4
-    (λ c κs. search needs)
-    returns-5)
+    returns-4)

@@ -4,54 +4,71 @@ use borrow.Author.Needs.{needs}
 use mathlib.Core.Path.{_≡_, refl, sym, _∙_, ap}
 use Prim.Native.Nat.{ℕ, _+_, _-_, _≤_, _<_}
 use native.Mathlib.Omega.{arith}
-use mathlib.Core.List.{List, [], map}
+use mathlib.Core.Bool.{true, and-false}
+use mathlib.Core.List.{List, _++_, map}
 use denote.Ref.{now}
 use lib.ListN.{length, drop, length-set}
-use Rattle.lists.specs.Lists.{part}
+use borrow.Author.Tests.{le-leb, lt-leb}
+use Rattle.lists.specs.Lists.{any, distinct, same, part}
 use Rattle.keytable.specs.Inner.{identityAt, earlier, fingerprint, Kept}
-use Rattle.keytable.specs.Table.{lines, identityOf, among, apart}
-use Rattle.keytable.proofs.Apart.{identity-part, identity-within, some-line, apart-stop, apart-on, kept-on}
-use Rattle.keytable.proofs.Lines.{line-within, line-here, no-lines}
+use Rattle.keytable.specs.Table.{lines, identityOf}
+use Rattle.keytable.proofs.Apart.{identity-part, identity-within, some-line, distinct-stop, all-on, distinct-on, distinct-end, kept-on}
+use Rattle.keytable.proofs.Lines.{line-within, count-on, no-lines}
 use Rattle.keytable.proofs.distinct.distinct.Statement.{statement}
 use Rattle.keytable.proofs.distinct.distinct.Tie as tie
 
 abbrev Inv-loop : tie.InvT-loop
 Inv-loop table starts₀ fingerprints₀ n₀ at₀ starts fingerprints n at =
-    (at ≤ length table + 1) × (length starts ≡ 256) × (length fingerprints ≡ 256) × (n + length (lines (drop at table)) ≤ 256)
+    (at ≤ length table + 1) × (length starts ≡ 256) × (length fingerprints ≡ 256) × (n ≤ 256)
+    × (length (lines table) ≡ n + length (lines (drop at table)))
     × Kept table starts fingerprints n
-    × (apart [] (map identityOf (lines table)) ≡ apart (earlier table starts n) (map identityOf (lines (drop at table))))
+    × (map identityOf (lines table) ≡ earlier table starts n ++ map identityOf (lines (drop at table)))
+    × (distinct same (earlier table starts n) ≡ true)
 
 abbrev μ-loop : tie.MeasureT-loop
 μ-loop table starts₀ fingerprints₀ n₀ at₀ starts fingerprints n at = length table + 1 - at
 
 loop-holds : tie.Need-loop-holds Inv-loop μ-loop
-loop-holds c = (search needs, search needs, search needs, search needs, (λ k h. absurd (omega arith)), search needs)
+loop-holds c = (search needs, search needs, search needs, search needs, search needs, (λ k h. absurd (omega arith)), refl, refl)
 
--- where the identity of a line is known
-module _ (c : tie.After-identity-end Inv-loop μ-loop) where
+-- a turn of the loop
+module _ (c : tie.In-loop Inv-loop μ-loop) where
   abbrev table : List ℕ
-  table = now (c .before .before .before .before .args .table)
+  table = now (c .before .before .before .args .table)
 
   abbrev place : ℕ
-  place = c .before .before .loop .at
+  place = c .before .loop .at
 
-  inside : place < length table
-  inside = c .before .loop-test .taken
+  abbrev count : ℕ
+  count = c .before .loop .n
 
   in-table : place ≤ length table
   in-table = search needs
 
-  within : c .identity-end .result ≤ length table
-  within = omega (arith, identity-within table place in-table, c .identity-end .ensures)
+  -- the identities of the lines passed
+  abbrev kept : List (List ℕ)
+  kept = earlier table (c .before .loop .starts) count
 
-  identity-is : part place (c .identity-end .result - place) table ≡ identityAt table place
-  identity-is = identity-part table place _ in-table (c .identity-end .ensures)
+returns : tie.Need-returns Inv-loop μ-loop
+returns c =
+    let turn = c .before in
+    let one-left = some-line (table turn) (place turn) (turn .loop-test .taken) in
+    let many : 256 < length (lines (table turn)) = omega (arith, one-left, turn .before .loop .inv .4) in
+    simp (lt-leb _ _ many)
 
-  below : c .before .before .loop .n < 256
-  below = omega (arith, some-line table place inside, c .before .before .loop .inv .3)
+-- where the identity of a line is known
+module _ (c : tie.After-identity-end Inv-loop μ-loop) where
+  abbrev turn : tie.In-loop Inv-loop μ-loop
+  turn = c .before .before
 
-part-fingerprint-end : tie.Need-part-fingerprint-end Inv-loop μ-loop
-part-fingerprint-end c = within c
+  within : c .identity-end .result ≤ length (table turn)
+  within = omega (arith, identity-within (table turn) (place turn) (in-table turn), c .identity-end .ensures)
+
+  identity-is : part (place turn) (c .identity-end .result - place turn) (table turn) ≡ identityAt (table turn) (place turn)
+  identity-is = identity-part (table turn) (place turn) _ (in-table turn) (c .identity-end .ensures)
+
+  below : count turn < 256
+  below = omega (arith, c .before .if1 .left, turn .before .loop .inv .3)
 
 part-repeated-end : tie.Need-part-repeated-end Inv-loop μ-loop
 part-repeated-end c = within (c .before .before .before .before)
@@ -60,55 +77,63 @@ repeated-requires : tie.Need-repeated-requires Inv-loop μ-loop
 repeated-requires c κs =
     let i = c .before .before .before .before .before in
     let b = below i in
-    (search needs, (search needs, (c .before .before .before .fingerprint .ensures, i .before .before .loop .inv .4)))
+    (search needs, (search needs, (c .before .before .before .fingerprint .ensures, turn i .before .loop .inv .5)))
 
-returns : tie.Need-returns Inv-loop μ-loop
-returns c =
-    let r = c .before in
-    let i = r .before .before .before .before .before .before in
-    let l = i .before .before .loop in
-    apart-stop (table i) (l .starts) (place i) _ (l .n) (inside i) refl (l .inv .5)
-    (ap (λ (x : List ℕ). among x (earlier (table i) (l .starts) (l .n))) (sym (identity-is i))
-    ∙ sym (r .repeated .ensures) ∙ c .if1 .taken)
+-- where the identities of the lines passed were searched for it
+module _ (c : tie.After-repeated Inv-loop μ-loop) where
+  abbrev line : tie.After-identity-end Inv-loop μ-loop
+  line = c .before .before .before .before .before .before
+
+  judged : any (same (identityAt (table (turn line)) (place (turn line)))) (kept (turn line)) ≡ c .repeated .result
+  judged = ap (λ (x : List ℕ). any (same x) (kept (turn line))) (sym (identity-is line)) ∙ sym (c .repeated .ensures)
+
+returns-2 : tie.Need-returns-2 Inv-loop μ-loop
+returns-2 c =
+    let t = turn (line (c .before)) in
+    let l = t .before .loop in
+    let stop = distinct-stop (table t) (l .starts) (place t) _ (count t) (t .loop-test .taken) refl (l .inv .6) in
+    simp (sym (stop (judged (c .before) ∙ c .if2 .taken)), and-false)
 
 array-write-starts : tie.Need-array-write-starts Inv-loop μ-loop
-array-write-starts c = below (c .before .before .before .before .before .before .before)
+array-write-starts c = below (line (c .before))
 
 array-write-fingerprints : tie.Need-array-write-fingerprints Inv-loop μ-loop
-array-write-fingerprints c = below (c .before .before .before .before .before .before .before)
+array-write-fingerprints c = below (line (c .before))
 
 add-at : tie.Need-add-at Inv-loop μ-loop
 add-at c =
-    let i = c .before .before .before .before .before .before .before .before in
-    let w = line-within (table i) (place i) _ (in-table i) (c .line-end .ensures) in
+    let t = turn (line (c .before .before)) in
+    let w = line-within (table t) (place t) _ (in-table t) (c .line-end .ensures) in
     search needs
 
 loop-again : tie.Need-loop-again Inv-loop μ-loop
 loop-again c =
     let r = c .before .before in
-    let i = r .before .before .before .before .before .before in
-    let l = i .before .before .loop in
+    let i = line r in
+    let t = turn i in
+    let l = t .before .loop in
     let b = below i in
-    let w = line-within (table i) (place i) _ (in-table i) (c .line-end .ensures) in
-    let one = ap length (line-here (table i) (place i) _ (in-table i) (c .line-end .ensures) (inside i)) in
-    let fresh =
-    ap (λ (x : List ℕ). among x (earlier (table i) (l .starts) (l .n))) (sym (identity-is i))
-    ∙ sym (r .repeated .ensures) ∙ c .before .if1 .left in
-    let room : l .n < length (l .starts) = omega (arith, l .inv .1) in (
+    let w = line-within (table t) (place t) _ (in-table t) (c .line-end .ensures) in
+    let room : count t < length (l .starts) = omega (arith, l .inv .1) in (
       search needs,
       simp length-set (l .inv .1),
       simp length-set (l .inv .2),
-      omega (arith, one, l .inv .3),
-      kept-on (table i) (l .starts) (l .fingerprints) (place i) (l .n) _ (in-table i) room (omega (arith, l .inv .2))
+      omega arith,
+      count-on (table t) (place t) _ (in-table t) (c .line-end .ensures) (t .loop-test .taken) _ (l .inv .4),
+      kept-on (table t) (l .starts) (l .fingerprints) (place t) (count t) _ (in-table t) room (omega (arith, l .inv .2))
           (r .before .before .before .before .fingerprint .ensures ∙ ap (fingerprint 0) (identity-is i))
-          (l .inv .4),
-      apart-on (table i) (l .starts) (place i) _ (l .n) (inside i) (c .line-end .ensures) (l .inv .5) room fresh,
+          (l .inv .5),
+      all-on (table t) (l .starts) (place t) _ (count t) (t .loop-test .taken) (c .line-end .ensures) (l .inv .6) room,
+      distinct-on (table t) (l .starts) (place t) _ (count t) (t .loop-test .taken) (c .line-end .ensures) (l .inv .6) room (l .inv .7)
+          (judged r ∙ c .before .if2 .left),
     )
 
-returns-2 : tie.Need-returns-2 Inv-loop μ-loop
-returns-2 c =
+returns-3 : tie.Need-returns-3 Inv-loop μ-loop
+returns-3 c =
     let l = c .before .loop in
-    sym (l .inv .5 ∙ ap (λ (x : List (List ℕ)). apart (earlier (now (c .before .before .before .args .table)) (l .starts) (l .n)) (map identityOf x)) (no-lines _ _ (c .loop-test .left)))
+    let all = now (c .before .before .before .args .table) in
+    let few : length (lines all) ≤ 256 = omega (arith, l .inv .3, l .inv .4, ap length (no-lines all (l .at) (c .loop-test .left))) in
+    simp (le-leb _ _ few) (distinct-end all (l .starts) (l .at) (l .n) (c .loop-test .left) (l .inv .6) (l .inv .7))
 
 pub distinct-spec : {M : Type 1} → statement M
 distinct-spec =
@@ -117,16 +142,17 @@ distinct-spec =
     Inv-loop
     μ-loop
     loop-holds
+    returns
     (λ c κs. search needs)
     (λ c. search needs)
     (λ c. search needs)
-    part-fingerprint-end
+    within
     (λ c κs. search needs)
     (λ c. search needs)
     (λ c. search needs)
     part-repeated-end
     repeated-requires
-    returns
+    returns-2
     (λ c. search needs)
     (λ c. search needs)
     array-write-starts
@@ -137,4 +163,4 @@ distinct-spec =
     add-at
     (λ c. search needs)
     loop-again
-    returns-2)
+    returns-3)

@@ -1,14 +1,14 @@
 -- `keytable::distinct::fingerprint`: the number so far goes on to that of the whole.
 -- Assumes nothing.
 use borrow.Author.Needs.{needs}
+use Rattle.keytable.proofs.distinct.fingerprint.Statement.{statement}
+use Rattle.keytable.proofs.distinct.fingerprint.Tie as tie
 use mathlib.Core.Path.{_≡_}
 use Prim.Native.Nat.{_-_, _≤_}
 use native.Mathlib.Omega.{arith}
 use lib.ListN.{length, drop}
 use Rattle.keytable.specs.Inner.{fingerprint}
 use Rattle.keytable.proofs.Apart.{fingerprint-more, fingerprint-end}
-use Rattle.keytable.proofs.distinct.fingerprint.Statement.{statement}
-use Rattle.keytable.proofs.distinct.fingerprint.Tie as tie
 
 abbrev Inv-loop : tie.InvT-loop
 Inv-loop s p₀ i₀ p i = (i ≤ length s) × (fingerprint 0 s ≡ fingerprint p (drop i s))
@@ -16,12 +16,14 @@ Inv-loop s p₀ i₀ p i = (i ≤ length s) × (fingerprint 0 s ≡ fingerprint 
 abbrev μ-loop : tie.MeasureT-loop
 μ-loop s p₀ i₀ p i = length s - i
 
+cast-p : tie.Need-cast-p Inv-loop μ-loop
+cast-p c = omega (arith, c .shared-slice-known .given (c .before .before .loop .i))
+
 add-p : tie.Need-add-p Inv-loop μ-loop
-add-p c = omega (arith, c .before .shared-slice-known2 .given (c .before .before .before .loop .i))
+add-p c = omega (arith, c .shared-slice-known .given (c .before .before .loop .i))
 
 loop-again : tie.Need-loop-again Inv-loop μ-loop
-loop-again c =
-    (search needs, rw (c .wide .ensures) (fingerprint-more _ _ _ (c .before .before .loop-test .taken) (c .before .before .before .loop .inv .1)))
+loop-again c = (search needs, fingerprint-more _ _ _ (c .before .loop-test .taken) (c .before .before .loop .inv .1))
 
 returns : tie.Need-returns Inv-loop μ-loop
 returns c = fingerprint-end _ _ _ (c .loop-test .left) (c .before .loop .inv .1)
@@ -35,7 +37,7 @@ fingerprint-spec =
     (λ c. search needs)
     (λ c. search needs)
     (λ c. search needs)
-    (λ c κs. search needs)
+    cast-p
     add-p
     (λ c. search needs)
     (λ c. search needs)

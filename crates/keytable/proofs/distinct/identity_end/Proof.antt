@@ -16,22 +16,25 @@ use Rattle.keytable.proofs.distinct.identity_end.Tie as tie
 part-find-end : tie.Need-part-find-end
 part-find-end c = line-within (now (c .before .before .args .table)) _ _ (c .before .before .pre) (c .line-end .ensures)
 
-identity-length : (c : tie.After-find)
-    → c .find .result ≡ length (identityAt (now (c .before .before .before .before .args .table)) (c .before .before .before .before .args .at))
-identity-length c =
-    let e = c .before .before in
-    c .find .ensures
-    ∙ ap (λ (l : List ℕ). length (upto colon l)) (line-is (now (e .before .before .args .table)) _ _ (e .before .before .pre) (e .line-end .ensures))
+module _ (c : tie.After-find) where
+  abbrev start : tie.Start
+  start = c .before .before .before .before
+
+  abbrev table : List ℕ
+  table = now (start .args .table)
+
+  identity-length : c .find .result ≡ length (identityAt table (start .args .at))
+  identity-length =
+      c .find .ensures ∙ ap (λ (l : List ℕ). length (upto colon l)) (line-is table _ _ (start .pre) (c .before .before .line-end .ensures))
 
 add-result : tie.Need-add-result
 add-result c =
-    let s = c .before .before .before .before in
     let l = identity-length c in
-    let w = identity-within (now (s .args .table)) _ (s .pre) in
+    let w = identity-within (table c) _ (start c .pre) in
     search needs
 
 returns : tie.Need-returns
-returns c = ap (λ (n : ℕ). c .before .before .before .before .args .at + n) (identity-length c)
+returns c = ap (λ (n : ℕ). start c .args .at + n) (identity-length c)
 
 pub identity-end-spec : {M : Type 1} → statement M
 identity-end-spec =

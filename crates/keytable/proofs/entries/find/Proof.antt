@@ -16,10 +16,12 @@ abbrev μ-loop : tie.MeasureT-loop
 μ-loop s x i₀ i = length s - i
 
 returns : tie.Need-returns Inv-loop μ-loop
-returns c = upto-stop _ _ _ (c .before .before .loop-test .taken) (c .if1 .taken) (c .before .before .before .loop .inv .1)
+returns c = let turn = c .before .before in upto-stop _ _ _ (turn .loop-test .taken) (c .if1 .taken) (turn .before .loop .inv .1)
 
 loop-again : tie.Need-loop-again Inv-loop μ-loop
-loop-again c = (search needs, upto-more _ _ _ (c .before .before .loop-test .taken) (c .if1 .left) (c .before .before .before .loop .inv .1))
+loop-again c =
+    let turn = c .before .before in
+    (search needs, upto-more _ _ _ (turn .loop-test .taken) (c .if1 .left) (turn .before .loop .inv .1))
 
 returns-2 : tie.Need-returns-2 Inv-loop μ-loop
 returns-2 c = upto-end _ _ _ (c .loop-test .left) (c .before .loop .inv .1)

@@ -32,11 +32,14 @@ abbrev μ-lines : tie.MeasureT-lines
 
 -- where the end of a line has been found
 module _ (c : tie.After-line-end Inv-loop μ-loop Inv-lines μ-lines) where
+  abbrev start : tie.Start Inv-loop μ-loop Inv-lines μ-lines
+  start = c .before .before .before .before .before
+
   abbrev table : List ℕ
-  table = now (c .before .before .before .before .before .args .table)
+  table = now (start .args .table)
 
   abbrev identity : List ℕ
-  identity = now (c .before .before .before .before .before .args .identity)
+  identity = now (start .args .identity)
 
   abbrev place : ℕ
   place = c .before .before .lines .at
@@ -84,8 +87,8 @@ loop-again c =
     )
 
 -- every way out of the comparison but the hit: the line does not match
-missed : (c : tie.Left-loop Inv-loop μ-loop Inv-lines μ-lines)
-    → keyText (identity (c .before .before)) (part (place (c .before .before)) (c .before .before .line-end .result - place (c .before .before)) (table (c .before .before))) ≡ none
+missed : (c : tie.Left-loop Inv-loop μ-loop Inv-lines μ-lines) → let f = c .before .before in
+    keyText (identity f) (part (place f) (f .line-end .result - place f) (table f)) ≡ none
 missed c =
     let m = c .before .loop .inv .2 in
     let w = within (c .before .before) in
@@ -107,10 +110,10 @@ lines-again : tie.Need-lines-again Inv-loop μ-loop Inv-lines μ-lines
 lines-again c = (omega (arith, within (c .before .before)), on (c .before .before) (missed c))
 
 returns : tie.Need-returns Inv-loop μ-loop Inv-lines μ-lines
-returns c = (
-  tt,
-  sym (c .before .lines .inv .1 ∙ ap (λ (l : List ℕ). firstText (now (c .before .before .before .before .args .identity)) (lines l)) (drop-of-length-le _ (c .if1 .taken))),
-)
+returns c =
+    let args = c .before .before .before .before .args in
+    let none-left = ap (λ (l : List ℕ). firstText (now (args .identity)) (lines l)) (drop-of-length-le _ (c .if1 .taken)) in
+    (tt, sym (c .before .lines .inv .1 ∙ none-left))
 
 returns-2 : tie.Need-returns-2 Inv-loop μ-loop Inv-lines μ-lines
 returns-2 c =

@@ -12,22 +12,25 @@ use Rattle.keytable.proofs.Lines.{length-upto}
 use Rattle.keytable.proofs.entries.line_end.Statement.{statement}
 use Rattle.keytable.proofs.entries.line_end.Tie as tie
 
-line-length : (c : tie.After-find)
-    → c .find .result ≡ length (upto lineEnd (drop (c .before .before .before .args .at) (now (c .before .before .before .args .table))))
-line-length c =
-    c .find .ensures
-    ∙ ap (λ (l : List ℕ). length (upto lineEnd l)) (part-to-end (now (c .before .before .before .args .table)) (c .before .before .before .args .at))
+module _ (c : tie.After-find) where
+  abbrev place : ℕ
+  place = c .before .before .before .args .at
+
+  abbrev table : List ℕ
+  table = now (c .before .before .before .args .table)
+
+  line-length : c .find .result ≡ length (upto lineEnd (drop place table))
+  line-length = c .find .ensures ∙ ap (λ (l : List ℕ). length (upto lineEnd l)) (part-to-end table place)
 
 add-result : tie.Need-add-result
 add-result c =
-    let a = c .before .before .before .args in
     let l = line-length c in
-    let n = length-upto lineEnd (drop (a .at) (now (a .table))) in
-    let d = length-drop (a .at) (now (a .table)) in
+    let n = length-upto lineEnd (drop (place c) (table c)) in
+    let d = length-drop (place c) (table c) in
     search needs
 
 returns : tie.Need-returns
-returns c = ap (λ (n : ℕ). c .before .before .before .args .at + n) (line-length c)
+returns c = ap (λ (n : ℕ). place c + n) (line-length c)
 
 pub line-end-spec : {M : Type 1} → statement M
 line-end-spec =

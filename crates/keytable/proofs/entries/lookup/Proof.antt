@@ -20,11 +20,14 @@ module _ (c : tie.After-known-told) where
   abbrev to : ℕ
   to = c .before .hit .given .0 .1 .0
 
+  abbrev found : tie.After-first-line
+  found = c .before .before .before
+
   abbrev table : List ℕ
-  table = now (c .before .before .before .before .before .before .before .args .table)
+  table = now (found .before .before .before .before .args .table)
 
   bounds : (from ≤ to) × (to ≤ length table)
-  bounds = subst (Within table) (c .before .hit .given .1) (c .before .before .before .first-line .ensures .0)
+  bounds = subst (Within table) (c .before .hit .given .1) (found .first-line .ensures .0)
 
 sub-key-into : tie.Need-sub-key-into
 sub-key-into c = bounds c .0

@@ -21,17 +21,23 @@ abbrev μ-loop : tie.MeasureT-loop
 
 -- the two digits, where both have been read, and the byte that they stand for
 module _ (c : tie.After-digit2 Inv-loop μ-loop) where
+  abbrev at-loop : tie.At-loop Inv-loop μ-loop
+  at-loop = c .before .before .before .before .before
+
+  abbrev start : tie.Start Inv-loop μ-loop
+  start = at-loop .before .before .before
+
   abbrev digits : List ℕ
-  digits = now (c .before .before .before .before .before .before .before .before .args .text)
+  digits = now (start .args .text)
 
   abbrev place : ℕ
-  place = c .before .before .before .before .before .loop .i
+  place = at-loop .loop .i
 
   high : c .before .before .digit .result < 16
-  high = rw (c .before .before .digit .ensures) (digit-small digits (2 * place) (search needs) (c .before .before .before .before .before .before .before .before .pre .0))
+  high = rw (c .before .before .digit .ensures) (digit-small digits (2 * place) (search needs) (start .pre .0))
 
   low : c .digit2 .result < 16
-  low = rw (c .digit2 .ensures) (digit-small digits (2 * place + 1) (search needs) (c .before .before .before .before .before .before .before .before .pre .0))
+  low = rw (c .digit2 .ensures) (digit-small digits (2 * place + 1) (search needs) (start .pre .0))
 
   value : c .before .before .digit .result * 16 + c .digit2 .result ≡ getD (decoded digits) place 0
   value =
@@ -49,11 +55,9 @@ slice-write-out c = omega arith
 
 loop-again : tie.Need-loop-again Inv-loop μ-loop
 loop-again c =
-    let t = c .before .before .before .before .before in (
-      search needs,
-      simp length-set (t .loop .inv .1),
-      rw (t .loop .inv .2) (rw (value c) (fill-turn (decoded (digits c)) (now (t .before .before .before .args .out)) (place c) (rw length-decoded (search needs)) (search needs))),
-    )
+    let t = at-loop c in
+    let turn = fill-turn (decoded (digits c)) (now (start c .args .out)) (place c) (rw length-decoded (search needs)) (search needs) in
+    (search needs, simp length-set (t .loop .inv .1), rw (t .loop .inv .2) (rw (value c) turn))
 
 same-length : tie.Need-same-length Inv-loop μ-loop
 same-length c = c .before .loop .inv .1

@@ -17,15 +17,18 @@ returns-2 c = rw (passed _ _ (c .before .before .valid-key .ensures) (c .before 
 
 decode-requires : tie.Need-decode-requires
 decode-requires c κs =
-    let v = c .before .before .before in
-    (digits-of-key (now (v .before .before .before .args .text)) (passed _ _ (v .valid-key .ensures) (c .before .before .if1 .left)), search needs)
+    let tested = c .before .before in
+    let text = now (tested .before .before .before .before .args .text) in
+    (digits-of-key text (passed _ _ (tested .before .valid-key .ensures) (tested .if1 .left)), search needs)
 
 returns-3 : tie.Need-returns-3
 returns-3 c =
-    let e = c .before .before .before .before in
-    let text = now (e .before .before .before .before .before .args .text) in
-    rw (passed _ _ (e .before .before .valid-key .ensures) (e .before .if1 .left), c .before .before .decode .ensures)
-    (rw (length-decoded text) at (gave (decoded text) (now (e .before .before .before .before .before .args .out)) (rw (length-decoded text) (e .if2 .left))))
+    let tests = c .before .before .before .before in
+    let key = tests .before .before in
+    let args = key .before .before .before .args in
+    let text = now (args .text) in
+    rw (passed _ _ (key .valid-key .ensures) (tests .before .if1 .left), c .before .before .decode .ensures)
+    (rw (length-decoded text) at (gave (decoded text) (now (args .out)) (rw (length-decoded text) (tests .if2 .left))))
 
 pub key-into-spec : {M : Type 1} → statement M
 key-into-spec =

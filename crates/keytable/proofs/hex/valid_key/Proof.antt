@@ -15,7 +15,10 @@ returns-3 : tie.Need-returns-3
 returns-3 c = simp (le-leb _ _ (c .before .before .if1 .left), le-leb _ _ (c .before .if2 .left), ne-eqb _ _ (c .if3 .taken))
 
 returns-4 : tie.Need-returns-4
-returns-4 c = simp (le-leb _ _ (c .before .before .before .if1 .left), le-leb _ _ (c .before .before .if2 .left), eq-eqb _ _ (c .before .if3 .left)) (c .all-digits .ensures)
+returns-4 c =
+    let tests = c .before in
+    simp (le-leb _ _ (tests .before .before .if1 .left), le-leb _ _ (tests .before .if2 .left), eq-eqb _ _ (tests .if3 .left))
+    (c .all .ensures)
 
 pub valid-key-spec : {M : Type 1} → statement M
 valid-key-spec = tie.close (tie.spec returns returns-2 returns-3 (λ c κs. search needs) returns-4)

@@ -6,9 +6,9 @@ use native.Mathlib.Omega.{arith}
 use mathlib.Core.Path.{_≡_}
 use mathlib.Core.List.{[], _∷_, _++_}
 use lib.ListN.{length}
-use Rattle.messages.specs.Layout.{bytes}
+use Rattle.layout.specs.Layout.{bytes}
 use Rattle.messages.specs.Fixed.{finished}
-use Rattle.messages.proofs.Layouts.{valid-rules, writes, writes-none}
+use Rattle.layout.proofs.Layouts.{valid-rules, writes, writes-none}
 use Rattle.messages.proofs.FixedMessages.{fixed-valid}
 use Rattle.messages.proofs.fixed.write_finished.Statement.{statement}
 use Rattle.messages.proofs.fixed.write_finished.Tie as tie
@@ -28,4 +28,4 @@ returns-2 c =
 
 pub write-finished-spec : {M : Type 1} → statement M
 write-finished-spec =
-    tie.close (tie.spec returns (λ c. search needs) (λ c κs. search needs) (λ c. search needs) returns-2)
+    tie.close (tie.spec returns (λ c. search needs) (λ c. search needs) (λ c κs. search needs) (λ c. search needs) returns-2)

@@ -6,9 +6,9 @@ use native.Mathlib.Nat.{add-sub-cancel-left}
 use native.Mathlib.Omega.{arith}
 use mathlib.Core.Path.{_≡_, sym, _∙_}
 use lib.ListN.{length}
-use Rattle.messages.specs.declared.Part.the-variants.{At}
+use Rattle.layout.specs.declared.Part.the-variants.{At}
 use Rattle.messages.specs.KeyExchange.{vectorPlace}
-use Rattle.messages.proofs.Places.{last-inside}
+use Rattle.layout.proofs.Places.{last-inside}
 use Rattle.messages.proofs.key_exchange.identity.Statement.{statement}
 use Rattle.messages.proofs.key_exchange.identity.Tie as tie
 

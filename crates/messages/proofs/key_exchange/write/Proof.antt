@@ -8,9 +8,9 @@ use Prim.Native.Nat.{ℕ, _+_}
 use native.Mathlib.Numerals.{add-two}
 use lib.ListN.{length, getD}
 use Rattle.endian.specs.Number.{be}
-use Rattle.messages.specs.Layout.{bytes}
+use Rattle.layout.specs.Layout.{bytes}
 use Rattle.messages.specs.KeyExchange.{vectorMessage}
-use Rattle.messages.proofs.Layouts.{valid-long, writes, writes-none}
+use Rattle.layout.proofs.Layouts.{valid-long, writes, writes-none}
 use Rattle.messages.proofs.KeyExchanges.{vector-valid}
 use Rattle.messages.proofs.key_exchange.write.Statement.{statement}
 use Rattle.messages.proofs.key_exchange.write.Tie as tie

@@ -5,10 +5,10 @@ use Prim.Native.Nat.{_≤_}
 use native.Mathlib.Omega.{arith}
 use mathlib.Core.Path.{_≡_, sym, _∙_}
 use lib.ListN.{length}
-use Rattle.messages.specs.declared.Part.the-variants.{At}
-use Rattle.messages.specs.Header.{header}
-use Rattle.messages.specs.Place.{lastAt, afterHeader}
-use Rattle.messages.proofs.Places.{last-inside}
+use Rattle.layout.specs.declared.Part.the-variants.{At}
+use Rattle.layout.specs.Header.{header}
+use Rattle.layout.specs.Place.{lastAt, afterHeader}
+use Rattle.layout.proofs.Places.{last-inside}
 use Rattle.lists.proofs.Parts.{take-window}
 use Rattle.messages.proofs.ticket.read.Statement.{statement}
 use Rattle.messages.proofs.ticket.read.Tie as tie
@@ -40,7 +40,7 @@ returns c =
     rw (found (c .before .before .before .before .before), take-window 4 4 (c .before .before .before .before .before .before .before .before .before .before .args .message .now) (omega (arith, inside (c .before .before .before .before .before))), ← c .number32 .ensures)
 
 returns-2 : tie.Need-returns-2
-returns-2 c = rw (← c .before .before .before .last16-of .ensures, c .before .r .given .1)
+returns-2 c = rw (← c .before .before .last16-of .ensures, c .enum-told .given .1)
 
 pub read-spec : {M : Type 1} → statement M
 read-spec =

@@ -10,9 +10,9 @@ use mathlib.Core.Bool.{true}
 use mathlib.Core.List.{List, [], _∷_, _++_}
 use lib.ListN.{length, getD}
 use Rattle.endian.specs.Number.{be}
-use Rattle.messages.specs.Layout.{bytes, valid}
+use Rattle.layout.specs.Layout.{bytes, valid}
 use Rattle.messages.specs.NewSessionTicket.{NewSessionTicket, newSessionTicket}
-use Rattle.messages.proofs.Layouts.{valid-within, valid-long, writes, writes-none}
+use Rattle.layout.proofs.Layouts.{valid-within, valid-long, writes, writes-none}
 use Rattle.messages.proofs.ticket.write.Statement.{statement}
 use Rattle.messages.proofs.ticket.write.Tie as tie
 

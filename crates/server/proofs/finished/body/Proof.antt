@@ -1,17 +1,15 @@
 -- `server::finished::body` meets its contract: the twelve bytes of the body are judged.
 -- Assumes nothing.
 use mathlib.Core.Path.{_≡_, sym, _∙_}
-use Prim.Native.Nat.{ℕ, _+_, _-_}
+use Prim.Native.Nat.{ℕ}
 use native.Mathlib.Omega.{arith}
 use mathlib.Core.List.{List}
-use lib.ListN.{length, drop, length-drop}
-use lib.Seq.{length-take-le}
+use lib.ListN.{length}
 use borrow.Author.Tests.{not-true, not-false}
-use Rattle.messages.specs.declared.Part.the-variants.{At}
-use Rattle.messages.specs.Place.{filledBy}
+use Rattle.layout.specs.declared.Part.the-variants.{At}
+use Rattle.layout.specs.Place.{filledBy}
 use Rattle.messages.proofs.FixedMessages.{filled-there}
-use Rattle.server.proofs.Steps.{refusing, silent-does}
-use Rattle.server.proofs.Secrets.{judged-right}
+use Rattle.server.proofs.Values.{judged-right}
 use borrow.Author.Needs.{needs}
 use Rattle.server.proofs.finished.body.Statement.{statement}
 use Rattle.server.proofs.finished.body.Tie as tie
@@ -19,7 +17,7 @@ use Rattle.server.proofs.finished.body.Tie as tie
 -- where the body has twelve bytes
 module _ (c : tie.After-known-told) where
   abbrev m : List ℕ
-  m = c .before .before .before .before .before .before .args .m .now
+  m = c .before .before .before .before .before .args .m .now
 
   abbrev from : ℕ
   from = c .before .start .given .0 .0
@@ -39,31 +37,25 @@ add-right c = let at = there c in omega arith
 part-right-end : tie.Need-part-right-end
 part-right-end c = let at = there c in omega arith
 
-right-requires : tie.Need-right-requires
-right-requires c κs =
-    let at = there (c .before) in
-    let rest : length (drop (from (c .before)) (m (c .before))) ≡ 12 = simp length-drop (omega arith) in
-    length-take-le (from (c .before) + size (c .before) - from (c .before)) _ (omega arith) ∙ omega arith
-
 returns : tie.Need-returns
 returns c =
-    let args = c .before .before .before .before .before .before .before .before .before .before .args in
+    let args = c .before .before .before .before .before .before .before .before .before .args in
     let right = c .before .before .right in
     let there = here (c .before .before .before .before) in
     rw (judged-right (args .c) (args .m .now) there (right .ensures), not-true (right .result) (c .before .if1 .taken))
-    (silent-does _ _ refusing (c .refuse .ensures))
+    (c .refused .ensures)
 
 returns-2 : tie.Need-returns-2
 returns-2 c =
-    let at-right = c .before .before .before .before .before in
-    let args = at-right .before .before .before .before .before .before .before .before .args in
+    let at-right = c .before .before in
+    let args = at-right .before .before .before .before .before .before .before .args in
     let right = at-right .right in
     let there = here (at-right .before .before) in
-    rw (judged-right (args .c) (args .m .now) there (right .ensures), not-false (right .result) (c .before .before .before .before .if1 .left))
-    (c .before .before .complete .ensures)
+    rw (judged-right (args .c) (args .m .now) there (right .ensures), not-false (right .result) (c .before .if1 .left))
+    (c .complete .ensures)
 
 returns-3 : tie.Need-returns-3
-returns-3 c = rw (← c .before .before .before .read-finished-body .ensures, c .before .enum-told .given .1) (silent-does _ _ refusing (c .refuse2 .ensures))
+returns-3 c = rw (← c .before .before .before .read-finished-body .ensures, c .before .enum-told .given .1) (c .refused2 .ensures)
 
 pub body-spec : {M : Type 1} → statement M
 body-spec =
@@ -75,12 +67,11 @@ body-spec =
     (λ c. search needs)
     (λ c. search needs)
     part-right-end
-    right-requires
+    (λ c κs. search needs)
     (λ c κs. search needs)
     returns
     (λ c κs. search needs)
     (λ c. search needs)
     (λ c κs. search needs)
-    (λ c. search needs)
     returns-2
     returns-3)

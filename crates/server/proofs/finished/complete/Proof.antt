@@ -1,77 +1,70 @@
--- `server::finished::complete` meets its contract: no value, a value that was written, or no room for it.
+-- `server::finished::complete` meets its contract: the server's value over the client's Finished too, or none past the hash's limit.
 -- Assumes nothing.
-use mathlib.Core.Path.{_≡_, _∙_}
-use native.Mathlib.Omega.{arith}
-use mathlib.Core.Bool.{true}
-use borrow.Author.Tests.{not-true, not-false}
+use mathlib.Core.Path.{_≡_, refl, sym, ap, _∙_}
+use lib.ListN.{length}
 use Rattle.refusal.specs.Lent.{Outcome, gives}
+use Rattle.refusal.proofs.Laws.{sized-gives, sized-refuses}
 use Rattle.sha256.specs.State.{absorb}
 use Rattle.keys.specs.declared.Side.the-variants.{Server}
-use Rattle.messages.specs.Layout.{valid}
-use Rattle.messages.specs.Fixed as Fixed
-use Rattle.messages.proofs.FixedMessages.{fixed-valid}
-use Rattle.server.specs.Steps.{finishedOf}
-use Rattle.server.specs.Inner.{asValue}
-use Rattle.server.proofs.Steps.{accepted, not-accepted, refusing, silent-does}
-use Rattle.server.proofs.Secrets.{made, not-made}
+use Rattle.keys.specs.Secrets.{finishedOf}
+use Rattle.keys.proofs.Lengths.{finished-of-sized}
+use Rattle.server.specs.Finished.{completed}
+use Rattle.server.proofs.Decisions.{same-step}
 use borrow.Author.Needs.{needs}
 use Rattle.server.proofs.finished.complete.Statement.{statement}
 use Rattle.server.proofs.finished.complete.Tie as tie
 
--- the value is the server's, over the client's Finished too
-module _ (c : tie.After-value-of) where
-  abbrev wanted : Outcome
-  wanted =
-      let args = c .before .before .before .before .before .args in
-      finishedOf Server (args .c .master) (absorb (args .c .transcript) (args .m .now))
+-- the entry, seen from where the transcript is made
+abbrev entry : tie.After-with-message → tie.Start
+entry c = c .before .before .before .before
 
-  value : c .value-of .result ≡ asValue wanted
-  value = c .value-of .ensures ∙ rw (c .before .with-message .ensures)
+slice-aggregate-finished-of : tie.Need-slice-aggregate-finished-of
+slice-aggregate-finished-of c =
+    let start = entry (c .before) in
+    let size : length (start .args .c .secrets .master) ≡ 48 = search (needs, start .good .0 .1 .1 .1 .1 .1 .0) in
+    search (needs, size)
 
-  -- it has twelve bytes, as the message wants it
-  valid-value : valid Fixed.finished (c .value-of .result .bytes) ≡ true
-  valid-value = fixed-valid 20 12 (c .value-of .result .bytes) (search (needs, c .value-of .ok)) (omega arith)
-
-given : (c : tie.Else1) → wanted (c .before .before) ≡ gives (c .before .before .value-of .result .bytes)
-given c =
-    let at-value = c .before .before in
-    made (wanted at-value) (value at-value) (not-false (at-value .value-of .result .made) (c .if1 .left))
+-- the value that is asked for
+wanted : (c : tie.After-finished-of) {o : Outcome} →
+    let made = c .before .before .before .with-message in
+    let conn = entry (c .before .before .before) .args .c in
+    finishedOf Server (conn .secrets .master) (made .result) ≡ o
+    → finishedOf Server (conn .secrets .master) (absorb (conn .transcript) (entry (c .before .before .before) .args .m .now)) ≡ o
+wanted c e =
+    let secret = entry (c .before .before .before) .args .c .secrets .master in
+    sym (ap (finishedOf Server secret) (c .before .before .before .with-message .ensures)) ∙ e
 
 returns : tie.Need-returns
 returns c =
-    let at-value = c .before .before .before in
-    rw (not-made (wanted at-value) (value at-value) (not-true (at-value .value-of .result .made) (c .before .if1 .taken)))
-    (silent-does _ _ refusing (c .refuse .ensures))
+    let told = c .before .before .before in
+    let at-value = told .before .before .before in
+    let conn = entry (at-value .before .before .before) .args .c in
+    let made = at-value .before .before .before .with-message .result in
+    let value = sized-gives _ (finished-of-sized Server (conn .secrets .master) made) refl (at-value .finished-of .ensures) (told .enum-told .given .1) in
+    let sent = c .before .answer .ensures in
+    same-step (ap completed (wanted at-value value)) (rw (c .ended .ensures) (record { means = rw (sent .means); fits = sent .fits }))
 
 returns-2 : tie.Need-returns-2
 returns-2 c =
-    let write = c .before .before .before .before .before in
-    let at-if = write .before .before .before .before in
-    let at-value = at-if .before .before in
-    rw (given at-if, c .ended .ensures)
-    (accepted _ _ (rw (valid-value at-value) at (write .write-finished .ensures)) (c .before .enum-told .given .1))
-
-returns-3 : tie.Need-returns-3
-returns-3 c =
-    let write = c .before .before .before .before in
-    let at-if = write .before .before .before .before in
-    let at-value = at-if .before .before in
-    rw (given at-if) (not-accepted _ _ (rw (valid-value at-value) at (write .write-finished .ensures)) (c .enum-told2 .given .1))
+    let at-value = c .before .before .before .before in
+    let conn = entry (at-value .before .before .before) .args .c in
+    let made = at-value .before .before .before .with-message .result in
+    let none = sized-refuses _ (finished-of-sized Server (conn .secrets .master) made) refl (at-value .finished-of .ensures)
+    (c .before .enum-told2 .given .1) in
+    same-step (ap completed (wanted at-value none)) (c .refused .ensures)
 
 pub complete-spec : {M : Type 1} → statement M
 complete-spec =
     tie.close
     (tie.spec
     (λ c κs. search needs)
+    slice-aggregate-finished-of
+    (λ c. search needs)
     (λ c κs. search needs)
+    (λ c. search needs)
+    (λ c κs. search needs)
+    (λ c κs. search needs)
+    (λ c. search needs)
     (λ c κs. search needs)
     returns
-    (λ c. search needs)
-    (λ c κs. search needs)
-    (λ c. search needs)
-    (λ c κs. search needs)
-    (λ c. search needs)
-    (λ c. search needs)
-    returns-2
-    (λ c. search needs)
-    returns-3)
+    returns-2)

@@ -1,49 +1,58 @@
--- `server::finished::right` meets its contract: every byte is compared before anything else is looked at.
+-- `server::finished::right` meets its contract: the value that is expected, if there is one, and the comparison with it.
 -- Assumes nothing.
-use mathlib.Core.Path.{_≡_}
-use mathlib.Core.Bool.{_&&_, and-false, and-true}
+use mathlib.Core.Path.{_≡_, refl}
+use mathlib.Core.Bool.{and-false, and-true}
 use borrow.Author.Tests.{not-true, not-false}
-use Rattle.lists.specs.Lists.{same}
+use Rattle.refusal.specs.Lent.{gives}
+use Rattle.refusal.proofs.Laws.{sized-gives, sized-refuses}
 use Rattle.keys.specs.declared.Side.the-variants.{Client}
-use Rattle.server.specs.Steps.{finishedOf}
-use Rattle.server.specs.Inner.{rightValue}
-use Rattle.server.proofs.Secrets.{is-value}
+use Rattle.keys.specs.Secrets.{finishedOf}
+use Rattle.keys.proofs.Lengths.{finished-of-sized}
 use borrow.Author.Needs.{needs}
 use Rattle.server.proofs.finished.right.Statement.{statement}
 use Rattle.server.proofs.finished.right.Tie as tie
 
--- by what was made and what it is compared with
-asked : (c : tie.After-value-of) →
-    let args = c .before .before .before .before .args in
-    rightValue (args .c) (args .value .now) ≡ (args .c .listed && (c .value-of .result .made && same (args .value .now) (c .value-of .result .bytes)))
-asked c =
-    let args = c .before .before .before .before .args in
-    rw (is-value (args .value .now) (finishedOf Client (args .c .master) (args .c .transcript)) (c .value-of .ensures))
+-- what is expected
+expected : (c : tie.After-enum-told) →
+    let at-value = c .before .before .before in
+    let conn = at-value .before .before .before .before .before .before .before .args .c in
+    finishedOf Client (conn .secrets .master) (conn .transcript) ≡ gives (at-value .finished-of .last .1 .1 .1 .0)
+expected c =
+    let at-value = c .before .before .before in
+    let conn = at-value .before .before .before .before .before .before .before .args .c in
+    sized-gives _ (finished-of-sized Client (conn .secrets .master) (conn .transcript)) refl (at-value .finished-of .ensures) (c .enum-told .given .1)
 
 returns : tie.Need-returns
 returns c =
-    let equal = c .before .equal in
-    let at-value = c .before .before .before .before in
-    rw (asked at-value, ← equal .ensures, not-true (equal .result) (c .if1 .taken), and-false (at-value .value-of .result .made), and-false)
+    let same = c .before .same in
+    let conn = c .before .before .before .before .before .before .before .before .before .before .before .before .before .args .c in
+    rw (expected (c .before .before .before), ← same .ensures, not-true (same .result) (c .if1 .taken)) (rw (and-false (conn .client .listed)))
 
 returns-2 : tie.Need-returns-2
 returns-2 c =
-    let at-value = c .before .before .before .before .before .before in
-    rw (asked at-value, not-true (at-value .value-of .result .made) (c .if2 .taken), and-false)
+    let same = c .before .same in
+    let conn = c .before .before .before .before .before .before .before .before .before .before .before .before .before .args .c in
+    rw (expected (c .before .before .before), ← same .ensures, not-false (same .result) (c .if1 .left)) (rw (and-true (conn .client .listed)))
 
 returns-3 : tie.Need-returns-3
 returns-3 c =
-    let equal = c .before .before .before .equal in
-    let at-value = c .before .before .before .before .before .before in
-    rw (
-      asked at-value,
-      not-false (at-value .value-of .result .made) (c .if2 .left),
-      ← equal .ensures,
-      not-false (equal .result) (c .before .before .if1 .left),
-      and-true,
-    )
+    let at-value = c .before .before .before in
+    let conn = at-value .before .before .before .before .before .before .before .args .c in
+    let none = sized-refuses _ (finished-of-sized Client (conn .secrets .master) (conn .transcript)) refl (at-value .finished-of .ensures)
+    (c .enum-told2 .given .1) in
+    rw none (rw (and-false (conn .client .listed)))
 
 pub right-spec : {M : Type 1} → statement M
 right-spec =
     tie.close
-    (tie.spec (λ c κs. search needs) (λ c. search needs) (λ c κs. search needs) returns returns-2 returns-3)
+    (tie.spec
+    (λ c. search needs)
+    (λ c. search needs)
+    (λ c κs. search needs)
+    (λ c. search needs)
+    (λ c. search needs)
+    (λ c κs. search needs)
+    returns
+    (λ c. search needs)
+    returns-2
+    returns-3)

@@ -4,7 +4,7 @@ use mathlib.Core.Path.{_≡_, refl}
 use Prim.Native.Nat.{_-_, _≤_, zero-le}
 use native.Mathlib.Omega.{arith}
 use lib.ListN.{length, drop, drop-of-length-le}
-use Rattle.server.specs.Steps.{chosen}
+use Rattle.server.specs.Hello.{chosen}
 use Rattle.server.proofs.Hellos.{chosen-one}
 use borrow.Author.Needs.{needs}
 use Rattle.server.proofs.hello.choose.Statement.{statement}

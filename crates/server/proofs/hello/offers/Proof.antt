@@ -4,7 +4,7 @@ use mathlib.Core.Path.{_≡_, refl, sym, _∙_}
 use Prim.Native.Nat.{_-_, _≤_, zero-le}
 use native.Mathlib.Omega.{arith}
 use lib.ListN.{length, drop, length-drop}
-use Rattle.server.specs.Steps as Steps
+use Rattle.server.specs.Hello as Steps
 use Rattle.server.proofs.Hellos.{offers-here, offers-behind, offers-none}
 use borrow.Author.Needs.{needs}
 use Rattle.server.proofs.hello.offers.Statement.{statement}

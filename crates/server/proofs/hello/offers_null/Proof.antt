@@ -5,7 +5,7 @@ use Prim.Native.Nat.{_-_, _≤_, zero-le}
 use native.Mathlib.Omega.{arith}
 use lib.ListN.{length, drop, getD, drop-of-length-le}
 use borrow.Author.Tests.{eq-eqb, ne-eqb}
-use Rattle.server.specs.Steps.{offersNull}
+use Rattle.server.specs.Hello.{offersNull}
 use Rattle.server.proofs.Hellos.{null-one}
 use borrow.Author.Needs.{needs}
 use Rattle.server.proofs.hello.offers_null.Statement.{statement}

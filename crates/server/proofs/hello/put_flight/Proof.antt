@@ -1,16 +1,15 @@
 -- `server::hello::put_flight` meets its contract: ServerHello is valid and has room, and the rest stands behind its 42 bytes.
 -- Assumes nothing.
-use mathlib.Core.Path.{_≡_, sym}
+use mathlib.Core.Path.{_≡_, sym, ap, _∙_}
+use Prim.Native.Nat.{ℕ}
 use native.Mathlib.Omega.{arith}
-use mathlib.Core.List.{[], _++_}
-use Rattle.messages.specs.Layout.{bytes}
-use Rattle.messages.specs.ServerHello.{serverHello}
-use Rattle.messages.specs.Fixed.{serverHelloDone}
-use Rattle.server.specs.Steps.{hintMessage}
-use Rattle.server.specs.Inner.{front}
-use Rattle.messages.proofs.Layouts.{at-front}
-use Rattle.messages.proofs.Puts.{put-behind}
-use Rattle.server.proofs.Hellos.{hello, length-hello, hello-valid}
+use mathlib.Core.List.{List}
+use Rattle.layout.specs.Layout.{bytes}
+use Rattle.hellos.specs.ServerHello.{serverHello}
+use Rattle.server.specs.Inner.{front, restOf}
+use Rattle.layout.proofs.Layouts.{at-front}
+use Rattle.layout.proofs.Puts.{put-behind}
+use Rattle.server.proofs.Hellos.{hello, length-hello, hello-valid, flight-parts}
 use borrow.Author.Needs.{needs}
 use Rattle.server.proofs.hello.put_flight.Statement.{statement}
 use Rattle.server.proofs.hello.put_flight.Tie as tie
@@ -28,8 +27,9 @@ returns c =
     let valid = hello-valid random (a .suite) (start .pre .0) (omega arith) in
     let one : first .last .1 .1 .1 .1 .1 .1 .1 .0 ≡ front (bytes serverHello (hello random (a .suite))) out =
     at-front serverHello (hello random (a .suite)) valid (omega (arith, size)) (first .ensures) in
-    put-behind (bytes serverHello (hello random (a .suite))) (hintMessage (a .hint .now) ++ bytes serverHelloDone []) out _ (second .last .1 .0) 42 one
+    put-behind (bytes serverHello (hello random (a .suite))) (restOf (a .hint .now)) out _ (second .last .1 .0) 42 one
     (sym size) (second .ensures)
+    ∙ sym (ap (λ (l : List ℕ). front l out) (flight-parts random (a .hint .now) (a .suite)))
 
 pub put-flight-spec : {M : Type 1} → statement M
 put-flight-spec =

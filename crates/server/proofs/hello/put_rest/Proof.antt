@@ -1,20 +1,21 @@
 -- `server::hello::put_rest` meets its contract: each message is valid and has room, and the second stands behind the first.
 -- Assumes nothing.
-use mathlib.Core.Path.{_≡_, refl, ap}
+use mathlib.Core.Path.{_≡_, refl}
 use Prim.Native.Nat.{_+_, _-_, _≤_}
 use native.Mathlib.Omega.{arith}
-use mathlib.Core.List.{[]}
+use mathlib.Core.List.{[], _∷_}
 use lib.ListN.{length, take, drop, length-drop}
 use Rattle.lists.proofs.Parts.{part-to-end}
-use Rattle.messages.specs.Layout.{bytes}
+use Rattle.layout.specs.Layout.{bytes}
 use Rattle.messages.specs.KeyExchange.{serverKeyExchange}
 use Rattle.messages.specs.Fixed.{serverHelloDone}
-use Rattle.server.specs.Steps.{hintMessage}
+use Rattle.server.specs.Hello.{hintMessage}
+use Rattle.server.specs.Flight.{joined}
 use Rattle.server.specs.Inner.{front}
-use Rattle.messages.proofs.Layouts.{at-front}
-use Rattle.messages.proofs.Puts.{put-behind}
+use Rattle.layout.proofs.Layouts.{at-front}
+use Rattle.layout.proofs.Puts.{put-behind}
 use Rattle.messages.proofs.KeyExchanges.{vector-valid}
-use Rattle.server.proofs.Hellos.{hint-absent, hint-present}
+use Rattle.server.proofs.Hellos.{hint-absent, hint-present, hint-size}
 use borrow.Author.Needs.{needs}
 use Rattle.server.proofs.hello.put_rest.Statement.{statement}
 use Rattle.server.proofs.hello.put_rest.Tie as tie
@@ -26,14 +27,17 @@ returns c =
     (at-front serverHelloDone [] refl (omega arith) (c .before .before .write-done .ensures))
 
 -- there is a hint
-present : (c : tie.Else1) → hintMessage (c .before .before .before .args .hint .now) ≡ bytes serverKeyExchange (c .before .before .before .args .hint .now)
+present : (c : tie.Else1) → hintMessage (c .before .before .before .args .hint .now) ≡ bytes serverKeyExchange (c .before .before .before .args .hint .now) ∷ []
 present c = hint-present (c .before .before .before .args .hint .now) (c .if1 .left)
 
+size : (c : tie.Else1) → length (joined (hintMessage (c .before .before .before .args .hint .now))) ≡ 6 + length (c .before .before .before .args .hint .now)
+size c = hint-size (c .before .before .before .args .hint .now) (c .if1 .left)
+
 sub-write-done : tie.Need-sub-write-done
-sub-write-done c = search (needs, ap length (present (c .before .before .before .before)))
+sub-write-done c = search (needs, size (c .before .before .before .before))
 
 part-write-done-start : tie.Need-part-write-done-start
-part-write-done-start c = search (needs, ap length (present (c .before .before .before .before)))
+part-write-done-start c = search (needs, size (c .before .before .before .before))
 
 returns-2 : tie.Need-returns-2
 returns-2 c =
@@ -41,7 +45,7 @@ returns-2 c =
     let start = at-test .before .before .before in
     let hint = start .args .hint .now in
     let out = start .args .out .now in
-    let size = ap length (present at-test) in
+    let sized = size at-test in
     let first = c .before .before .before .before .before .before .write-hint in
     let second = c .before .before .write-done2 in
     let one : first .last .1 .0 ≡ front (bytes serverKeyExchange hint) out =

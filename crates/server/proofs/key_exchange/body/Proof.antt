@@ -1,20 +1,24 @@
--- `server::key_exchange::body` meets its contract: the part of the message that is looked up is the one that was found.
+-- `server::key_exchange::body` meets its contract: the table's own refusal comes before the identity.
 -- Assumes nothing.
-use mathlib.Core.Path.{sym, _∙_}
-use Rattle.server.proofs.Secrets.{identity-there}
+use mathlib.Core.Path.{_≡_, sym, _∙_}
+use Rattle.keytable.specs.Table.{tableRefusal}
+use Rattle.server.proofs.Values.{not-refused, refused-itself}
 use borrow.Author.Needs.{needs}
 use Rattle.server.proofs.key_exchange.body.Statement.{statement}
 use Rattle.server.proofs.key_exchange.body.Tie as tie
 
 returns : tie.Need-returns
 returns c =
-    let read = c .before .before .before .before in
-    let start = read .before .before .before in
-    let there = sym (read .read-identity-body .ensures) ∙ c .before .before .enum-told .given .1 in
-    c .look-up .ensures ∙ rw (c .before .identity .ensures, identity-there (start .args .m .now) (start .pre) there)
+    let at-judge = c .before .before .before in
+    let table = at-judge .before .before .before .args .table .now in
+    rw (not-refused (tableRefusal table) (sym (at-judge .judge .ensures) ∙ c .before .enum-told .given .1)) (c .identified .ensures)
 
 returns-2 : tie.Need-returns-2
-returns-2 c = rw (← c .before .before .before .read-identity-body .ensures, c .before .enum-told2 .given .1) (c .refuse .ensures)
+returns-2 c =
+    let at-judge = c .before .before .before .before in
+    let table = at-judge .before .before .before .args .table .now in
+    let found = sym (at-judge .judge .ensures) ∙ c .before .before .r .given .1 in
+    rw (refused-itself (tableRefusal table) (c .before .before .r .given .0 .0) found) (c .refused .ensures)
 
 pub body-spec : {M : Type 1} → statement M
 body-spec =
@@ -22,7 +26,6 @@ body-spec =
     (tie.spec
     (λ c κs. search needs)
     (λ c. search needs)
-    (λ c κs. search needs)
     (λ c κs. search needs)
     (λ c. search needs)
     (λ c κs. search needs)

@@ -9,7 +9,7 @@ use lib.ListN.{length, take}
 use lib.Seq.{length-take-le}
 use Rattle.keytable.specs.Table.{keyOf}
 use Rattle.keytable.proofs.Lookups.{key-size}
-use Rattle.server.proofs.Secrets.{key-put, key-missing}
+use Rattle.server.proofs.Values.{key-put, key-missing}
 use borrow.Author.Needs.{needs}
 use Rattle.server.proofs.key_exchange.look_up.Statement.{statement}
 use Rattle.server.proofs.key_exchange.look_up.Tie as tie
@@ -46,7 +46,7 @@ after-keys-requires : tie.Need-after-keys-requires
 after-keys-requires c κs = key-size (table (c .before)) (identity (c .before)) _ (put (c .before) .1)
 
 returns : tie.Need-returns
-returns c = rw (put (c .before .before) .1, c .after-keys .ensures)
+returns c = rw (put (c .before .before .before) .1, ← c .before .after-keys .ensures) (c .silent .ensures)
 
 returns-2 : tie.Need-returns-2
 returns-2 c =
@@ -64,6 +64,7 @@ look-up-spec =
     array-share-prefix-key
     slice-aggregate-after-keys
     after-keys-requires
+    (λ c κs. search needs)
     (λ c. search needs)
     (λ c κs. search needs)
     returns

@@ -1,23 +1,31 @@
 -- `server::key_exchange::unlisted` meets its contract, rule by rule.
 -- Assumes nothing.
-use mathlib.Core.Path.{_≡_}
+use mathlib.Core.Path.{_≡_, ap}
 use native.Mathlib.Omega.{arith}
 use lib.ListN.{length}
+use Rattle.server.specs.declared.Rule.{Rule}
+use Rattle.server.specs.KeyExchange.{unlisted}
+use Rattle.server.proofs.Decisions.{same-step}
 use borrow.Author.Needs.{needs}
 use Rattle.server.proofs.key_exchange.unlisted.Statement.{statement}
 use Rattle.server.proofs.key_exchange.unlisted.Tie as tie
 
 after-keys-requires : tie.Need-after-keys-requires
 after-keys-requires c κs =
-    let start = c .before .before .before .before .before in
-    let size : length (start .args .c .«stand_in») ≡ 32 = search (needs, start .good) in
+    let start = c .before .before .before .before .before .before in
+    let fields = start .good .0 .1 .1 .1 .0 .1 .1 in
+    let size : length (start .args .c .setup .«stand_in») ≡ 32 = search (needs, fields .1 .1 .1 .1 .0) in
     (omega arith, omega arith)
 
 returns : tie.Need-returns
-returns c = rw (c .before .enum-told .given .1) (c .refuse .ensures)
+returns c = rw (c .before .enum-told .given .1) (c .refused .ensures)
 
 returns-2 : tie.Need-returns-2
-returns-2 c = rw (c .after-keys .ensures, c .before .before .before .enum-told2 .given .1)
+returns-2 c =
+    let told = c .before .before .before .before in
+    let args = told .before .before .before .before .args in
+    same-step (ap (λ (r : Rule). unlisted r (args .c) (args .m .now)) (told .enum-told2 .given .1))
+    (rw (c .before .after-keys .ensures) at (c .silent .ensures))
 
 pub unlisted-spec : {M : Type 1} → statement M
 unlisted-spec =
@@ -28,5 +36,6 @@ unlisted-spec =
     (λ c. search needs)
     (λ c. search needs)
     after-keys-requires
+    (λ c κs. search needs)
     returns
     returns-2)

@@ -1,0 +1,103 @@
+-- The extension block of a hello (RFC 5246, section 7.4.1.4): extensions one after the other, each a type and data with a 2-byte length.
+use Prim.Native.Nat.{ℕ, zero, suc, _+_}
+use mathlib.Core.Bool.{Bool, true, false, not, _&&_, _||_, cond}
+use mathlib.Core.List.{List, [], _∷_, _++_}
+use mathlib.Core.Option.{Option, none, some}
+use lib.ListN.{length, take, drop}
+use lib.Dec.{leb, ltb, eqb}
+use Rattle.endian.specs.Number.{be, number}
+use Rattle.endian.specs.Vector.{vector, writable, stated}
+use Rattle.refusal.specs.declared.Refusal.the-variants.{BadValue}
+use Rattle.refusal.specs.Lent.{Outcome, gives, refuses}
+use Rattle.extensions.specs.declared.Step.{Step}
+use Rattle.extensions.specs.declared.Step.the-variants.{Extension, End, Refused}
+use Rattle.layout.specs.Place.{endAt}
+
+pub record Ext : Type 0 where
+  pub kind : ℕ
+  pub contents : List ℕ
+
+abbrev pub extensionBytes : Ext → List ℕ
+extensionBytes e = be 2 (e .kind) ++ vector 2 (e .contents)
+
+abbrev pub blockBytes : List Ext → List ℕ
+blockBytes [] = []
+blockBytes (e ∷ es) = extensionBytes e ++ blockBytes es
+
+-- ---- writing
+
+-- a type that two bytes hold, and data whose length they hold; else R5
+abbrev pub extensionWritten : Ext → Outcome
+extensionWritten e = cond (ltb (e .kind) 65536 && writable 2 (e .contents)) (gives (extensionBytes e)) (refuses BadValue)
+
+-- SessionTicket, 35: "its data is a ticket vector with its own 2-byte length"
+abbrev pub ticketExtension : List ℕ → Ext
+ticketExtension ticket = record { kind = 35; contents = vector 2 ticket }
+
+-- ---- reading
+
+-- the extension at the front of b, and where it ends; past the end of b where it is cut off
+abbrev pub first : List ℕ → Ext
+first b = record { kind = number (take 2 b); contents = take (stated 2 (drop 2 b)) (drop 4 b) }
+
+abbrev pub firstEnd : List ℕ → ℕ
+firstEnd b = endAt 2 b 2
+
+abbrev pub adding : Ext → Option (List Ext) → Option (List Ext)
+adding e none = none
+adding e (some es) = some (e ∷ es)
+
+-- at most n of them
+abbrev pub extensionsUpTo : ℕ → List ℕ → Option (List Ext)
+extensionsUpTo zero [] = some []
+extensionsUpTo zero (x ∷ xs) = none
+extensionsUpTo (suc n) [] = some []
+extensionsUpTo (suc n) (x ∷ xs) =
+    cond (leb (firstEnd (x ∷ xs)) (length (x ∷ xs))) (adding (first (x ∷ xs)) (extensionsUpTo n (drop (firstEnd (x ∷ xs)) (x ∷ xs)))) none
+
+-- the extensions that b is, none where one is cut off: there are no more of them than bytes
+abbrev pub extensionsIn : List ℕ → Option (List Ext)
+extensionsIn b = extensionsUpTo (length b) b
+
+-- ---- the rules on a block
+
+abbrev pub member : ℕ → List ℕ → Bool
+member t [] = false
+member t (u ∷ us) = eqb t u || member t us
+
+abbrev pub distinct : List ℕ → Bool
+distinct [] = true
+distinct (t ∷ ts) = not (member t ts) && distinct ts
+
+abbrev pub kinds : List Ext → List ℕ
+kinds [] = []
+kinds (e ∷ es) = e .kind ∷ kinds es
+
+-- "One type twice is 50 (house)"
+abbrev pub eachOnce : Option (List Ext) → Bool
+eachOnce none = false
+eachOnce (some es) = distinct (kinds es)
+
+-- the data of type 35 is just such a vector
+abbrev pub ticketShape : Ext → Bool
+ticketShape e = cond (eqb (e .kind) 35) (eqb (endAt 2 (e .contents) 0) (length (e .contents))) true
+
+abbrev pub allShaped : List Ext → Bool
+allShaped [] = true
+allShaped (e ∷ es) = ticketShape e && allShaped es
+
+abbrev pub ticketsShaped : Option (List Ext) → Bool
+ticketsShaped none = false
+ticketsShaped (some es) = allShaped es
+
+-- The block of a hello; the rule on type 35 is the ClientHello's alone.
+abbrev pub blockRule : Bool → List ℕ → Bool
+blockRule client b = eachOnce (extensionsIn b) && cond client (ticketsShaped (extensionsIn b)) true
+
+-- ---- going through a block
+
+-- the extension that starts at `at`: its type, and where its data stands
+abbrev pub stepAt : List ℕ → ℕ → Step
+stepAt b at =
+    cond (leb (length b) at) End
+    (cond (leb (endAt 2 b (at + 2)) (length b)) (Extension (number (take 2 (drop at b))) (at + 4) (stated 2 (drop (at + 2) b))) Refused)

@@ -1,0 +1,3 @@
+pub mod ClientHellos
+pub mod Hellos
+pub mod ServerHellos

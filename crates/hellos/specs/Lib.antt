@@ -1,0 +1,3 @@
+pub mod ClientHello
+pub mod Hello
+pub mod ServerHello

@@ -1,0 +1,42 @@
+-- `keys::prf_of_randoms` meets its contract: the tests in their order, and then the PRF's own answer.
+-- Assumes nothing.
+use mathlib.Core.Path.{_≡_, sym}
+use native.Mathlib.Omega.{arith}
+use mathlib.Core.Bool.{and-false}
+use lib.ListN.{length}
+use lib.Seq.{length-take-le}
+use borrow.Author.Tests.{eq-eqb, ne-eqb}
+use Rattle.refusal.proofs.Laws.{refused}
+use borrow.Author.Needs.{needs}
+use Rattle.keys.proofs.prf_of_randoms.Statement.{statement}
+use Rattle.keys.proofs.prf_of_randoms.Tie as tie
+
+returns : tie.Need-returns
+returns c = simp (ne-eqb _ _ (c .if1 .taken)) (refused _ _)
+
+returns-2 : tie.Need-returns-2
+returns-2 c = simp (ne-eqb _ _ (c .if2 .taken), and-false) (refused _ _)
+
+slice-aggregate-prf : tie.Need-slice-aggregate-prf
+slice-aggregate-prf c =
+    let size : length (c .before .joined .result) ≡ 256 = search (needs, c .before .joined .ok) in
+    sym (length-take-le 64 (c .before .joined .result) (omega arith))
+
+returns-3 : tie.Need-returns-3
+returns-3 c =
+    let at-joined = c .before .before .before .before .before in
+    let tests = at-joined .before in
+    simp (eq-eqb _ _ (tests .before .if1 .left), eq-eqb _ _ (tests .if2 .left)) (rw (at-joined .joined .ensures) at (c .before .before .prf .ensures))
+
+pub prf-of-randoms-spec : {M : Type 1} → statement M
+prf-of-randoms-spec =
+    tie.close
+    (tie.spec
+    returns
+    returns-2
+    (λ c κs. search needs)
+    (λ c. search needs)
+    slice-aggregate-prf
+    (λ c κs. search needs)
+    (λ c. search needs)
+    returns-3)

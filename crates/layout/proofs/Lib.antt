@@ -1,0 +1,5 @@
+pub mod Headers
+pub mod Layouts
+pub mod Places
+pub mod Puts
+pub mod Windows

@@ -1,0 +1,38 @@
+-- What a decision means, and what a call makes of it.
+-- Assumes nothing.
+use mathlib.Core.Path.{_≡_, refl}
+use Prim.Native.Nat.{ℕ}
+use mathlib.Core.List.{List, []}
+use lib.ListN.{length}
+use borrow.Author.Tests.{le-leb, lt-leb}
+use Rattle.refusal.specs.declared.Refusal.{Refusal}
+use Rattle.refusal.specs.declared.Written.{Written}
+use Rattle.refusal.specs.declared.Written.the-variants.{Wrote, Refused}
+use Rattle.refusal.specs.Lent.{gives, Answers}
+use Rattle.refusal.proofs.Laws.{wrote-all, refused-short}
+use Rattle.server.specs.declared.Connection.{Connection}
+use Rattle.server.specs.declared.Answer.{Answer}
+use Rattle.server.specs.declared.step.Decision.{Decision}
+use Rattle.server.specs.Flight.{Flight, flightBytes}
+use Rattle.server.specs.Step.{Step, refuse, accept, settled, answered}
+use Rattle.server.specs.Inner.{Decides, Does}
+
+-- what is decided for one step is decided for the same step
+pub same-step : {d : Decision} {s t : Step} → s ≡ t → Decides d t → Decides d s
+same-step e h = rw e h
+
+pub same-does : {c : Connection} {out left : List ℕ} {a : Answer} {s t : Step} → s ≡ t → Does c out t a left → Does c out s a left
+same-does e h = rw e h
+
+-- a refusal writes nothing
+pub refused-does : (c : Connection) (out : List ℕ) (r : Refusal) {a : Answer} → a ≡ answered (settled c [] (refuse r)) → Does c out (refuse r) a out
+refused-does c out r e = record { answers = e; leaves = refl }
+
+-- a flight that was put to the lent output, by what was said
+module _ (c next : Connection) (flight : Flight) {out left : List ℕ} {said : Written} (a : Answers (gives (flightBytes flight)) out said left) where
+  pub sent : {n : ℕ} → said ≡ Wrote n → Does c out (accept flight next) (record { said = said; next = next }) left
+  sent e = record { answers = rw (a .told, le-leb (length (flightBytes flight)) (length out) (wrote-all a e .0)); leaves = a .left }
+
+  -- R1: the connection itself comes back
+  pub not-sent : {r : Refusal} → said ≡ Refused r → Does c out (accept flight next) (record { said = said; next = c }) left
+  not-sent e = record { answers = rw (a .told, lt-leb (length (flightBytes flight)) (length out) (refused-short a e)); leaves = a .left }

@@ -1,0 +1,67 @@
+-- `server::calls::decide` meets its contract: R4, the tests on the header, and the step.
+-- Assumes nothing.
+use mathlib.Core.Path.{_≡_, sym, ap, _∙_}
+use mathlib.Core.Bool.{Bool, cond}
+use Rattle.refusal.specs.declared.Refusal.the-variants.{ConnectionOver}
+use Rattle.layout.specs.declared.Verdict.{Verdict}
+use Rattle.server.specs.Step.{Step, refuse, afterTests}
+use Rattle.server.specs.KeyExchange.{viewOf}
+use Rattle.server.specs.Message.{awaited, headerTest, bodyStep, messageStep}
+use Rattle.server.proofs.Decisions.{same-step}
+use borrow.Author.Needs.{needs}
+use Rattle.server.proofs.calls.decide.Statement.{statement}
+use Rattle.server.proofs.calls.decide.Tie as tie
+
+-- the order of the tests, as far as the connection being over
+tested : (c : tie.After-is-over) →
+    let args = c .before .before .before .args in
+    let v = viewOf (args .table .now) in
+    let phase = args .c .phase in
+    messageStep v (args .c) (args .m .now) phase
+    ≡ cond (c .is-over .result) (refuse ConnectionOver)
+    (afterTests (headerTest (awaited phase) (args .m .now)) (bodyStep v (args .c) (args .m .now) phase))
+tested c =
+    let args = c .before .before .before .args in
+    let v = viewOf (args .table .now) in
+    let phase = args .c .phase in
+    let rest : Step = afterTests (headerTest (awaited phase) (args .m .now)) (bodyStep v (args .c) (args .m .now) phase) in
+    ap (λ (over : Bool). cond over (refuse ConnectionOver) rest) (sym (c .is-over .ensures))
+
+returns : tie.Need-returns
+returns c =
+    let at-over = c .before .before in
+    same-step (tested at-over ∙ rw (c .before .if1 .taken)) (c .refused .ensures)
+
+body-requires : tie.Need-body-requires
+body-requires c κs = sym (c .before .before .test-header .ensures) ∙ c .enum-told .given .1
+
+-- behind the tests on the header
+behind : (c : tie.After-test-header) {verdict : Verdict} → c .test-header .result ≡ verdict →
+    let args = c .before .before .before .before .before .args in
+    let v = viewOf (args .table .now) in
+    messageStep v (args .c) (args .m .now) (args .c .phase) ≡ afterTests verdict (bodyStep v (args .c) (args .m .now) (args .c .phase))
+behind c e =
+    let args = c .before .before .before .before .before .args in
+    let step = bodyStep (viewOf (args .table .now)) (args .c) (args .m .now) (args .c .phase) in
+    tested (c .before .before) ∙ rw (c .before .if1 .left) (ap (λ (v : Verdict). afterTests v step) (sym (c .test-header .ensures) ∙ e))
+
+returns-2 : tie.Need-returns-2
+returns-2 c = same-step (behind (c .before .before .before) (c .before .enum-told .given .1)) (c .body .ensures)
+
+returns-3 : tie.Need-returns-3
+returns-3 c = same-step (behind (c .before .before .before .before) (c .before .before .r .given .1)) (c .refused2 .ensures)
+
+pub decide-spec : {M : Type 1} → statement M
+decide-spec =
+    tie.close
+    (tie.spec
+    (λ c κs. search needs)
+    (λ c κs. search needs)
+    returns
+    (λ c κs. search needs)
+    (λ c. search needs)
+    body-requires
+    (λ c. search needs)
+    (λ c κs. search needs)
+    returns-2
+    returns-3)

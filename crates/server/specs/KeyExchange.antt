@@ -1,0 +1,49 @@
+-- Step 2: a ClientKeyExchange (document 01, "The server's steps"; RFC 4279, section 2).
+use Prim.Native.Nat.{ℕ}
+use mathlib.Core.Bool.{Bool, true, false}
+use mathlib.Core.List.{List}
+use mathlib.Core.Option.{Option, none, some}
+use Rattle.refusal.specs.declared.Refusal.{Refusal}
+use Rattle.refusal.specs.declared.Refusal.the-variants.{DecodeError, UnknownPskIdentity}
+use Rattle.refusal.specs.Lent.{bytesOf}
+use Rattle.sha256.specs.State.{absorb}
+use Rattle.keys.specs.Secrets.{masterUnder}
+use Rattle.keytable.specs.Table.{tableRefusal, keyOf}
+use Rattle.server.specs.declared.Rule.{Rule}
+use Rattle.server.specs.declared.Phase.{Phase}
+use Rattle.server.specs.declared.Connection.{Connection}
+use Rattle.server.specs.Flight.{silence}
+use Rattle.server.specs.Step.{Step, refuse, accept}
+
+-- What the server knows of a key table: which refusal it comes to, if any, and a lookup from identity to key.
+pub record View : Type 0 where
+  pub refusal : Option Refusal
+  pub lookup : List ℕ → Option (List ℕ)
+
+abbrev pub viewOf : List ℕ → View
+viewOf table = record { refusal = tableRefusal table; lookup = keyOf table }
+
+-- After the key exchange m. A key of 1 to 64 bytes, which every key of a table is, has a master secret.
+abbrev pub afterKeys : Connection → List ℕ → List ℕ → Bool → Connection
+afterKeys c m key listed =
+    record {
+      phase = Phase.Change;
+      setup = c .setup;
+      client = record { random = c .client .random; suite = c .client .suite; listed = listed };
+      secrets = record { master = bytesOf (masterUnder key (c .client .random) (c .setup .random)) };
+      transcript = absorb (c .transcript) m;
+    }
+
+-- an identity that isn't listed: 115 under tell; under hide the stand-in key serves, and it is noted that the identity is unlisted
+abbrev pub unlisted : Rule → Connection → List ℕ → Step
+unlisted Rule.Tell c m = refuse UnknownPskIdentity
+unlisted Rule.Hide c m = accept silence (afterKeys c m (c .setup .«stand_in») false)
+
+abbrev pub keyFound : Connection → List ℕ → Option (List ℕ) → Step
+keyFound c m none = unlisted (c .setup .rule) c m
+keyFound c m (some key) = accept silence (afterKeys c m key true)
+
+-- 50 for the layout
+abbrev pub keyIdentity : (List ℕ → Option (List ℕ)) → Connection → List ℕ → Option (List ℕ) → Step
+keyIdentity lookup c m none = refuse DecodeError
+keyIdentity lookup c m (some identity) = keyFound c m (lookup identity)

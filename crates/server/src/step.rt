@@ -1,0 +1,125 @@
+// What a step decides, by value, and the one place where a decision becomes an answer: here the room is
+// tested, the output written and the connection changed, and nowhere else.
+ghost use mathlib.Core.Path.{_≡_};
+ghost use mathlib.Core.List.{[]};
+ghost use Prim.Native.Nat.{_≤_};
+ghost use Rattle.server.specs.Flight.{silence};
+ghost use Rattle.server.specs.Step as Step;
+ghost use Rattle.server.specs.Step.{accept, answered, settled};
+ghost use Rattle.server.specs.Inner as Inner;
+ghost use Rattle.server.specs.Inner.{Decides, Does, Sends, decided, flightOf};
+use crate::Answer;
+use crate::Connection;
+use crate::Phase;
+use crate::ended;
+use layout::Verdict;
+use refusal::Refusal;
+use refusal::Written;
+
+// Messages for the client, one behind the other: the longest answer is a ServerHello of 42 bytes, a
+// ServerKeyExchange of 134 and a ServerHelloDone of 4.
+pub struct Outgoing {
+    pub bytes: [u8; 180],
+    // How long each message is; 0 stands for none.
+    pub lengths: [usize; 3],
+    // How many of these go out before the server's change of cipher.
+    pub plain: usize,
+}
+
+// What a step comes to: a refusal, or messages for the client and the connection as it is then.
+pub struct Decision {
+    pub verdict: Verdict,
+    pub outgoing: Outgoing,
+    pub next: Connection,
+}
+
+fn no_messages() -> Outgoing
+    ensures { λ o. ⌜ Sends o silence ⌝ }
+{
+    Outgoing {
+        bytes: [0u8; 180],
+        lengths: [0usize; 3],
+        plain: 0,
+    }
+}
+
+// A refusal; `settle` says what becomes of the connection.
+pub(crate) fn refused(c: Connection, r: Refusal) -> Decision
+    ensures { λ d. ⌜ Decides d (Step.refuse r) ⌝ }
+{
+    let outgoing = no_messages();
+    Decision {
+        verdict: Verdict::Refused(r),
+        outgoing,
+        next: c,
+    }
+}
+
+// Nothing for the client.
+pub(crate) fn silent(next: Connection) -> Decision
+    ensures { λ d. ⌜ Decides d (accept silence next) ⌝ }
+{
+    let outgoing = no_messages();
+    Decision {
+        verdict: Verdict::Accepted,
+        outgoing,
+        next,
+    }
+}
+
+// All messages together.
+pub(crate) fn size(lengths: [usize; 3]) -> usize
+    requires { ⌜ Inner.total lengths ≤ 180 ⌝ }
+    ensures { λ n. ⌜ n ≡ Inner.total lengths ⌝ }
+{
+    lengths[0] + lengths[1] + lengths[2]
+}
+
+// A refusal: an alert closes the connection, an R number leaves it as it was.
+pub(crate) fn refuse(c: Connection, r: Refusal) -> Answer
+    ensures { λ a. ⌜ a ≡ answered (settled c [] (Step.refuse r)) ⌝ }
+{
+    if refusal::for_client(r) {
+        let next = ended(Phase::Closed);
+        return Answer {
+            said: Written::Refused(r),
+            next,
+        };
+    }
+    Answer {
+        said: Written::Refused(r),
+        next: c,
+    }
+}
+
+// The messages go to the lent output and the next connection is handed back, or R1 and the connection
+// as it was.
+fn send(c: Connection, outgoing: Outgoing, next: Connection, out: &mut [u8]) -> Answer
+    requires { ⌜ Inner.total (outgoing .lengths) ≤ 180 ⌝ }
+    ensures { λ a. ⌜ Does c (now (out .entry)) (accept (flightOf outgoing) next) a (now (out .exit)) ⌝ }
+{
+    let bytes = outgoing.bytes;
+    let lengths = outgoing.lengths;
+    let n = size(lengths);
+    let said = refusal::put(&bytes[..n], out);
+    match said {
+        Written::Wrote(_) => Answer { said, next },
+        Written::Refused(_) => Answer { said, next: c },
+    }
+}
+
+// The answer that a decision comes to.
+pub(crate) fn settle(c: Connection, d: Decision, out: &mut [u8]) -> Answer
+    requires { ⌜ Inner.total (d .outgoing .lengths) ≤ 180 ⌝ }
+    ensures { λ a. ⌜ Does c (now (out .entry)) (decided d) a (now (out .exit)) ⌝ }
+{
+    let verdict = d.verdict;
+    match verdict {
+        Verdict::Accepted => {
+            let outgoing = d.outgoing;
+            let next = d.next;
+            send(c, outgoing, next, out)
+        }
+        Verdict::Refused(r) => refuse(c, r),
+    }
+}
