@@ -246,15 +246,15 @@ CLIENT, SERVER, TICKET, HINT, DONE, IDENTITY, FINISHED = 3, 2, 4, 12, 14, 16, 20
 TWICE, EMPTY_TICKET = extension(23) + extension(23), extension(35)
 
 
-def hello(kind, number, said, room=16400, random=32, session=0, suites=2, methods=1, block=None):
-    """A hello's writer: the sizes of its fields, of bytes 07, and what it answers."""
-    fields = [series(7, 0, size) for size in (random, session, suites, methods)] + [literal(block or b"")]
-    return kind, number, block is not None, room, fields, said
+def hello(kind, number_of, said, room=16400, block=None, sizes=(32, 0, 2, 1)):
+    """A hello's writer: a version or suite, the sizes of the ClientHello's fields, and what it answers."""
+    more = number(number_of) + bytes((block is not None,)) + (b"".join(number(n, 2) for n in sizes) if kind == CLIENT else b"")
+    return bytes((kind,)) + number(room, 2) + field(literal(block or b"")) + more, said
 
 
 def one(kind, size, room, said):
     """The writer of a message with one field of so many bytes 07."""
-    return kind, 0, False, room, [series(7, 0, size)], said
+    return bytes((kind,)) + number(room, 2) + field(series(7, 0, size)), said
 
 
 # What the writers answer: R5 for what a layout forbids, else R1 where the output is too short, else a length.
@@ -271,13 +271,13 @@ WRITERS = [
     one(DONE, 0, 3, "1"),
     one(DONE, 0, 16400, "wrote 4"),
     hello(CLIENT, 65536, "5"),
-    hello(CLIENT, 771, "5", random=31),
-    hello(CLIENT, 771, "5", session=33),
-    hello(CLIENT, 771, "5", suites=3),
-    hello(CLIENT, 771, "5", methods=0),
-    hello(CLIENT, 771, "5", methods=256),
-    hello(CLIENT, 771, "5", suites=16342),
-    hello(CLIENT, 771, "wrote 16383", suites=16340),
+    hello(CLIENT, 771, "5", sizes=(31, 0, 2, 1)),
+    hello(CLIENT, 771, "5", sizes=(32, 33, 2, 1)),
+    hello(CLIENT, 771, "5", sizes=(32, 0, 3, 1)),
+    hello(CLIENT, 771, "5", sizes=(32, 0, 2, 0)),
+    hello(CLIENT, 771, "5", sizes=(32, 0, 2, 256)),
+    hello(CLIENT, 771, "5", sizes=(32, 0, 16342, 1)),
+    hello(CLIENT, 771, "wrote 16383", sizes=(32, 0, 16340, 1)),
     hello(CLIENT, 771, "5", block=TWICE),
     hello(CLIENT, 771, "5", block=EMPTY_TICKET),
     hello(CLIENT, 771, "1", room=44),
@@ -289,11 +289,7 @@ WRITERS = [
 ]
 
 
-def writer_call(kind, version, present, room, fields, said):
-    return bytes((kind,)) + number(version) + bytes((present,)) + number(room, 2) + b"".join(map(field, fields))
-
-
-def writer_line(kind, version, present, room, fields, said):
+def answer_line(said):
     """How much was written or the refusal, and how far the output has changed: all that was written, or nothing."""
     n = said.removeprefix("wrote ")
     return f" {n} {n if n != said else 0}"
@@ -303,13 +299,13 @@ def main():
     if sys.argv[1] == "stdin":
         for m in inputs():
             sys.stdout.buffer.write(b"\x01" + field(literal(m)))
-        for w in WRITERS:
-            sys.stdout.buffer.write(writer_call(*w))
+        for call, _ in WRITERS:
+            sys.stdout.buffer.write(call)
     else:
         for m in inputs():
             print(line(m))
-        for w in WRITERS:
-            print(writer_line(*w))
+        for _, said in WRITERS:
+            print(answer_line(said))
 
 
 main()

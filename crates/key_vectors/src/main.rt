@@ -22,68 +22,58 @@ fn print_said(said: Written, out: &[u8]) {
     lines::text(b"\n");
 }
 
-fn print_prf(secret: &[u8], label: Label, seed: &[u8], n: usize, out: &mut [u8]) {
-    lines::text(b"prf ");
-    let said = keys::prf(secret, label, seed, n, out);
-    print_said(said, out);
+// The start of a line; answers how long it is.
+fn print_name(kind: u8) -> usize {
+    match kind {
+        1 => lines::text(b"hmac "),
+        6 => lines::text(b"premaster "),
+        7 => lines::text(b"master "),
+        8 => lines::text(b"key block "),
+        9 | 10 => lines::text(b"finished "),
+        _ => lines::text(b"prf "),
+    }
 }
 
-fn print_finished(side: Side, master: &[u8], hash: &[u8], out: &mut [u8]) {
-    lines::text(b"finished ");
-    let said = keys::finished(side, master, hash, out);
-    print_said(said, out);
+fn label(kind: u8) -> Label {
+    match kind {
+        2 => Label::MasterSecret,
+        3 => Label::KeyExpansion,
+        4 => Label::ClientFinished,
+        _ => Label::ServerFinished,
+    }
 }
 
-fn print_hmac(key: &[u8], message: &[u8], out: &mut [u8]) {
-    lines::text(b"hmac ");
-    let said = keys::hmac(key, message, out);
-    print_said(said, out);
-}
-
-fn print_premaster(psk: &[u8], out: &mut [u8]) {
-    lines::text(b"premaster ");
-    let said = keys::premaster(psk, out);
-    print_said(said, out);
-}
-
-fn print_master(premaster: &[u8], client: &[u8], server: &[u8], out: &mut [u8]) {
-    lines::text(b"master ");
-    let said = keys::master(premaster, client, server, out);
-    print_said(said, out);
-}
-
-fn print_key_block(master: &[u8], server: &[u8], client: &[u8], suite: u16, out: &mut [u8]) {
-    lines::text(b"key block ");
-    let said = keys::key_block(master, server, client, suite, out);
-    print_said(said, out);
+fn answer(kind: u8, n: u16, a: &[u8], b: &[u8], c: &[u8], out: &mut [u8]) -> Written {
+    match kind {
+        1 => keys::hmac(a, b, out),
+        6 => keys::premaster(a, out),
+        7 => keys::master(a, b, c, out),
+        8 => keys::key_block(a, b, c, n, out),
+        9 => keys::finished(Side::Client, a, b, out),
+        10 => keys::finished(Side::Server, a, b, out),
+        _ => keys::prf(a, label(kind), b, n as usize, out),
+    }
 }
 
 fn print_line(kind: u8, n: u16, a: &[u8], b: &[u8], c: &[u8], out: &mut [u8]) {
-    match kind {
-        1 => print_hmac(a, b, out),
-        2 => print_prf(a, Label::MasterSecret, b, n as usize, out),
-        3 => print_prf(a, Label::KeyExpansion, b, n as usize, out),
-        4 => print_prf(a, Label::ClientFinished, b, n as usize, out),
-        5 => print_prf(a, Label::ServerFinished, b, n as usize, out),
-        6 => print_premaster(a, out),
-        7 => print_master(a, b, c, out),
-        8 => print_key_block(a, b, c, n, out),
-        9 => print_finished(Side::Client, a, b, out),
-        10 => print_finished(Side::Server, a, b, out),
-        _ => {}
-    }
+    print_name(kind);
+    let said = answer(kind, n, a, b, c, out);
+    print_said(said, out);
 }
 
 // A call of the input, and whether there was one.
 fn call() -> bool {
     let kind = lines::byte();
+    if kind == 0 {
+        return false;
+    }
     let n = lines::number16() as u16;
     let room = lines::number16();
     if 260 < room {
         return false;
     }
-    let mut a = [0u8; 65537];
-    let mut b = [0u8; 65537];
+    let mut a = lines::buffer();
+    let mut b = lines::buffer();
     let mut c = [0u8; 64];
     let a_size = lines::field(&mut a);
     let b_size = lines::field(&mut b);
@@ -97,7 +87,7 @@ fn call() -> bool {
         lines::part(&c, 0, c_size),
         &mut out[260 - room..],
     );
-    kind != 0
+    true
 }
 
 // Nothing says that input ends, so the calls are counted, from a number that no input has.

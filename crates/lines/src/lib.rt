@@ -17,7 +17,16 @@ pub use read::fill;
 pub use read::number16;
 pub use read::number24;
 ghost use mathlib.Core.Path.{_≡_};
+ghost use lib.ListN.{length};
 ghost use Rattle.lists.specs.Lists as Lists;
+
+// Room for the longest field, a key table past its limit. The promise gives only the length, which lending
+// it as a slice needs.
+pub fn buffer() -> [u8; 65600]
+    ensures { λ r. ⌜ 65600 ≡ length r ⌝ }
+{
+    [0; 65600]
+}
 
 // The part of so many bytes that starts at a place, or as much of it as is there.
 pub fn part(bytes: &[u8], start: usize, len: usize) -> &[u8]

@@ -3,8 +3,7 @@
 // a writer answers, among them values that no layout has and outputs that are too short.
 // tests/message_vectors.py makes the input, and prints the same lines from a parser of its own.
 //
-// A call is 1 and a message, or a byte that names a writer, a version or suite, whether a block is present,
-// the output's room, and the fields.
+// A call is 1 and a message, or a byte that names a writer, the output's room, and what it takes.
 use extensions::Step;
 use hellos::Block;
 use hellos::client_hello::Client;
@@ -237,69 +236,55 @@ fn print_said(said: Written, out: &[u8]) {
     lines::text(b"\n");
 }
 
-// The writer of a hello: its fields come one after the other.
-fn try_hello(kind: u8, number: usize, present: bool, out: &mut [u8]) -> Written {
-    let mut random = [0u8; 64];
-    let mut session_id = [0u8; 64];
-    let mut suites = [0u8; 16400];
-    let mut methods = [0u8; 300];
-    let mut block = [0u8; 64];
-    let random_size = lines::field(&mut random);
-    let session_size = lines::field(&mut session_id);
-    let suites_size = lines::field(&mut suites);
-    let methods_size = lines::field(&mut methods);
-    let block_size = lines::field(&mut block);
-    let random = lines::part(&random, 0, random_size);
-    let session_id = lines::part(&session_id, 0, session_size);
-    let suites = lines::part(&suites, 0, suites_size);
-    let methods = lines::part(&methods, 0, methods_size);
-    let extensions = lines::part(&block, 0, block_size);
-    if kind == 2 {
-        return hellos::server_hello::write(
-            771,
-            random,
-            session_id,
-            number,
-            0,
-            present,
-            extensions,
-            out,
-        );
-    }
+// A ClientHello's writer, for fields of 07s whose sizes come from the input.
+fn try_client(block: &[u8], out: &mut [u8]) -> Written {
+    let bytes = [7u8; 16400];
+    let version = lines::number24();
+    let present = lines::byte() == 1;
+    let random = lines::number16();
+    let session_id = lines::number16();
+    let suites = lines::number16();
+    let methods = lines::number16();
     hellos::client_hello::write(
-        number,
-        random,
-        session_id,
-        suites,
-        methods,
+        version,
+        lines::part(&bytes, 0, random),
+        lines::part(&bytes, 0, session_id),
+        lines::part(&bytes, 0, suites),
+        lines::part(&bytes, 0, methods),
         present,
-        extensions,
+        block,
         out,
     )
 }
 
-fn try_field(kind: u8, out: &mut [u8]) -> Written {
-    let mut field = [0u8; 16400];
-    let size = lines::field(&mut field);
-    write(kind, lines::part(&field, 0, size), out)
+// A ServerHello's writer, for a random of 07s and no session id.
+fn try_server(block: &[u8], out: &mut [u8]) -> Written {
+    let suite = lines::number24();
+    let present = lines::byte() == 1;
+    hellos::server_hello::write(771, &[7u8; 32], &[], suite, 0, present, block, out)
 }
 
-// What a writer answers: kind 3 stands for the ClientHello's, any other for its message's type.
+// What a writer answers, for one field, or a block and what else a hello takes: 2 and 3 stand for the
+// hellos, any other number for its message's type.
+fn answer(kind: u8, out: &mut [u8]) -> Written {
+    let mut buffer = [0u8; 16400];
+    let size = lines::field(&mut buffer);
+    let field = lines::part(&buffer, 0, size);
+    match kind {
+        2 => try_server(field, out),
+        3 => try_client(field, out),
+        _ => write(kind, field, out),
+    }
+}
+
 fn try_writer(kind: u8) {
-    let number = lines::number24();
-    let present = lines::byte() == 1;
     let room = lines::number16();
-    let mut lent = [255u8; 16400];
     if 16400 < room {
         return;
     }
+    let mut lent = [255u8; 16400];
     let out = &mut lent[16400 - room..];
-    if kind < 4 {
-        let said = try_hello(kind, number, present, out);
-        print_said(said, out);
-        return;
-    }
-    let said = try_field(kind, out);
+    let said = answer(kind, out);
     print_said(said, out);
 }
 

@@ -47,7 +47,7 @@ fn call() -> bool {
     let kind = lines::byte();
     let room = lines::byte() as usize;
     let mut a = [0u8; 128];
-    let mut b = [0u8; 65600];
+    let mut b = lines::buffer();
     let mut key = [0u8; 255];
     let a_size = lines::field(&mut a);
     let b_size = lines::field(&mut b);
