@@ -46,6 +46,10 @@ build/records-test: tests/records.c host/records.c host/entropy.c $(HOST_HEADERS
 	@mkdir -p build
 	@$(CC) $(HOST_FLAGS) $(SANITIZED) $(filter %.c,$^) -lcrypto -o $@
 
+build/records-time: tests/records_time.c bench/records_time.c bench/measure.c host/records.c host/entropy.c $(HOST_HEADERS) bench/records_time.h | needs-build
+	@mkdir -p build
+	@$(CC) $(HOST_FLAGS) -O2 -Ihost $(filter %.c,$^) -lcrypto -o $@
+
 build/mbedtls-client: tests/mbedtls_client.c | needs-test
 	@mkdir -p build
 	@$(CC) $(HOST_FLAGS) -O2 $< -lmbedtls -lmbedx509 -lmbedcrypto -o $@
@@ -66,6 +70,7 @@ header-test: $(LIBRARY) | needs-test
 	@$(MAKE) --no-print-directory -f $(firstword $(MAKEFILE_LIST)) install PREFIX=$(INSTALLED) DESTDIR= LIBRARY=$(LIBRARY)
 	@tests/installed $(INSTALLED)
 
-interop: build/gateway-sanitized build/records-test build/mbedtls-client | needs-test
+interop: build/gateway-sanitized build/records-test build/records-time build/mbedtls-client | needs-test
 	@build/records-test
+	@build/records-time
 	@python3 tests/interop build/gateway-sanitized build/mbedtls-client
