@@ -21,6 +21,7 @@
 #include "options.h"
 #include "report.h"
 #include "table.h"
+#include "wipe.h"
 
 enum {
     CLIENTS = 64,
@@ -398,6 +399,10 @@ int main(int count, char **words)
     enum reading reading = options_read(&options, count, words);
     if (reading != OPTIONS_READ)
         return reading == OPTIONS_HELP ? 0 : 2;
+    if (!forbid_dumps()) {
+        fprintf(stderr, "gateway: core dumps can't be forbidden: %s\n", strerror(errno));
+        return 1;
+    }
     int listener = ready() ? listen_there() : -1;
     if (listener >= 0) {
         announce(listener);

@@ -12,7 +12,7 @@ VERSION := 0.1
 LIBRARY ?= build/libturretnail.a
 HOST_FLAGS := -std=c11 -D_GNU_SOURCE -Wall -Wextra -Wconversion -Wshadow -Werror -Iinclude
 SANITIZED := -O1 -g -fsanitize=address,undefined -fno-sanitize-recover=all
-HOST_PARTS := host/connection.c host/records.c host/entropy.c host/options.c host/report.c host/table.c
+HOST_PARTS := host/connection.c host/records.c host/entropy.c host/options.c host/report.c host/table.c host/wipe.c
 HOST_HEADERS := $(wildcard host/*.h) include/turretnail.h
 PROVED := $(shell find crates -name '*.rt' -o -name '*.antt') crates.txt
 INSTALLED := $(CURDIR)/build/installed
@@ -42,6 +42,11 @@ build/gateway-sanitized: host/gateway.c $(HOST_PARTS) $(HOST_HEADERS) $(LIBRARY)
 	@mkdir -p build
 	@$(CC) $(HOST_FLAGS) $(SANITIZED) $(filter %.c,$^) $(LIBRARY) -lcrypto -o $@
 
+# The same without what clears keys, for the test that looks for them: it must find them there.
+build/gateway-careless: host/gateway.c $(filter-out host/wipe.c,$(HOST_PARTS)) tests/no_wipe.c $(HOST_HEADERS) $(LIBRARY) | needs-build
+	@mkdir -p build
+	@$(CC) $(HOST_FLAGS) -O2 $(filter %.c,$^) $(LIBRARY) -lcrypto -o $@
+
 build/records-test: tests/records.c host/records.c host/entropy.c $(HOST_HEADERS) | needs-build
 	@mkdir -p build
 	@$(CC) $(HOST_FLAGS) $(SANITIZED) $(filter %.c,$^) -lcrypto -o $@
@@ -70,7 +75,8 @@ header-test: $(LIBRARY) | needs-test
 	@$(MAKE) --no-print-directory -f $(firstword $(MAKEFILE_LIST)) install PREFIX=$(INSTALLED) DESTDIR= LIBRARY=$(LIBRARY)
 	@tests/installed $(INSTALLED)
 
-interop: build/gateway-sanitized build/records-test build/records-time build/mbedtls-client | needs-test
+interop: build/gateway build/gateway-careless build/gateway-sanitized build/records-test build/records-time build/mbedtls-client | needs-test
 	@build/records-test
 	@build/records-time
+	@python3 tests/keys_in_memory.py build/gateway build/gateway-careless
 	@python3 tests/interop build/gateway-sanitized build/mbedtls-client

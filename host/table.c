@@ -6,6 +6,8 @@
 #include <stdio.h>
 #include <string.h>
 
+#include "wipe.h"
+
 /* Reads up to n bytes of the file; their number, or -1 with a line on standard error. */
 static long read_file(const char *file, uint8_t *bytes, size_t n)
 {
@@ -65,6 +67,7 @@ bool table_load(struct settings *settings, const char *file)
         settings->table_len = (size_t)n;
     }
     OPENSSL_cleanse(fresh, sizeof fresh);
+    wipe_stack();
     return good;
 }
 

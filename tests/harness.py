@@ -26,8 +26,10 @@ def until(holds, what):
 class Program:
     """A program whose output is read as it comes."""
 
-    def __init__(self, words):
-        self.process = subprocess.Popen([str(w) for w in words], stdin=subprocess.PIPE, stdout=subprocess.PIPE, stderr=subprocess.STDOUT)
+    def __init__(self, words, started=None, **more):
+        self.process = subprocess.Popen([str(w) for w in words], stdin=subprocess.PIPE, stdout=subprocess.PIPE, stderr=subprocess.STDOUT, **more)
+        if started:
+            started(self.process)
         self.text = ""
         self.reader = threading.Thread(target=self.read, daemon=True)
         self.reader.start()
@@ -51,8 +53,8 @@ class Program:
 
 
 class Gateway(Program):
-    def __init__(self, *options):
-        super().__init__([GATEWAY, "--port", 0, *(options if "--table" in options else ("--table", TABLE, *options))])
+    def __init__(self, *options, program=GATEWAY, **more):
+        super().__init__([program, "--port", 0, *(options if "--table" in options else ("--table", TABLE, *options))], **more)
         until(lambda: "listening on" in self.text or self.over(), "the gateway")
         found = re.search(r"listening on \S+:(\d+),", self.text)
         assert found, self.text

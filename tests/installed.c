@@ -100,8 +100,10 @@ int main(void)
 {
     uint8_t answer[TN_FLIGHT_SIZE];
     secrets();
+    tn_clear_stack(TN_STACK_LIMIT);
     messages();
     table();
+    tn_clear_stack(TN_STACK_LIMIT);
     expect("V12, 0x0302", hello(0x0302, answer) == TN_ALERT_RESULT(TN_ALERT_PROTOCOL_VERSION));
     expect("V12, 0x0304", hello(0x0304, answer) == 46 && answer[4] == 3 && answer[5] == 3);
     if (failures == 0)
