@@ -100,11 +100,7 @@ void connection_close(struct connection *c, enum outcome why)
 
 void connection_lost(struct connection *c)
 {
-    if (c->ended)
-        return;
-    if (complete(c))
-        c->ended = true;
-    else
+    if (!c->ended)
         conclude(c, OUTCOME_CLOSED, 0);
     leave(c);
 }
@@ -288,15 +284,20 @@ static void alert_received(struct connection *c, const uint8_t *bytes, size_t n)
 
 /* ---- enrolment lines */
 
-/* The answer to the line that has just ended, at `answer`; its length. */
+/* The answer to the line that has just ended, at `answer`; its length. An empty line enrols nobody. */
 static size_t line_answer(struct connection *c, uint8_t *answer)
 {
-    memcpy(answer, answer_front, ANSWER_FRONT);
-    memcpy(answer + ANSWER_FRONT, c->line, c->line_len);
-    answer[ANSWER_FRONT + c->line_len] = '\n';
-    size_t n = ANSWER_FRONT + c->line_len + 1;
+    size_t length = c->line_len;
     c->line_len = 0;
-    return n;
+    c->lines++;
+    if (length > 0 && c->line[length - 1] == '\r')
+        length--;
+    if (length == 0)
+        return 0;
+    memcpy(answer, answer_front, ANSWER_FRONT);
+    memcpy(answer + ANSWER_FRONT, c->line, length);
+    answer[ANSWER_FRONT + length] = '\n';
+    return ANSWER_FRONT + length + 1;
 }
 
 /* Answers as many lines as one record takes; false at a line that is too long. */
@@ -309,7 +310,7 @@ static bool answer_some(struct connection *c)
         uint8_t byte = c->in[c->lines_at++];
         if (byte == '\n')
             n += line_answer(c, answers + n);
-        else if (c->line_len < sizeof c->line)
+        else if (c->line_len < LINE_LIMIT || (c->line_len == LINE_LIMIT && byte == '\r'))
             c->line[c->line_len++] = byte;
         else
             fits = false;

@@ -12,7 +12,7 @@ VERSION := 0.1
 LIBRARY ?= build/libturretnail.a
 HOST_FLAGS := -std=c11 -D_GNU_SOURCE -Wall -Wextra -Wconversion -Wshadow -Werror -Iinclude
 SANITIZED := -O1 -g -fsanitize=address,undefined -fno-sanitize-recover=all
-HOST_PARTS := host/connection.c host/records.c host/entropy.c host/options.c host/report.c host/table.c host/wipe.c
+HOST_PARTS := $(addprefix host/,connection.c records.c entropy.c options.c report.c table.c log.c places.c listener.c client.c wipe.c)
 HOST_HEADERS := $(wildcard host/*.h) include/turretnail.h
 PROVED := $(shell find crates -name '*.rt' -o -name '*.antt') crates.txt
 INSTALLED := $(CURDIR)/build/installed

@@ -42,6 +42,9 @@
 extern "C" {
 #endif
 
+/* The version of header and library, as pkg-config has it. */
+#define TN_VERSION "0.1"
+
 /* ==== Sizes ================================================================================================================================== */
 
 #define TN_RANDOM_SIZE 32       /* a hello's random, and the bytes lent to tn_start */

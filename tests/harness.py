@@ -16,6 +16,9 @@ KEY = KEYS["gate7"]
 LIMIT = 20  # seconds, for anything that is waited for
 NAMES = {10: "unexpected_message", 20: "bad_record_mac", 22: "record_overflow", 40: "handshake_failure", 47: "illegal_parameter", 50: "decode_error",
          51: "decrypt_error", 70: "protocol_version", 115: "unknown gate"}
+STAMP = r"^\d{4}-\d\d-\d\dT\d\d:\d\d:\d\d\.\d{3}Z "  # in front of each line of the gateway
+
+
 def until(holds, what):
     end = time.monotonic() + LIMIT
     while not holds():
@@ -55,18 +58,23 @@ class Program:
 class Gateway(Program):
     def __init__(self, *options, program=GATEWAY, **more):
         super().__init__([program, "--port", 0, *(options if "--table" in options else ("--table", TABLE, *options))], **more)
-        until(lambda: "listening on" in self.text or self.over(), "the gateway")
+        until(lambda: re.search(r"listening on .*\n", self.text) or self.over(), "the gateway")
         found = re.search(r"listening on \S+:(\d+),", self.text)
         assert found, self.text
         self.port = int(found[1])
-        self.seen = self.text.index("\n") + 1
+        self.seen = self.text.index("\n", found.end()) + 1
+
+    def next_line(self):
+        """The next line, without its time."""
+        until(lambda: "\n" in self.text[self.seen :], "a line")
+        line, _, _ = self.text[self.seen :].partition("\n")
+        self.seen += len(line) + 1
+        assert re.match(STAMP, line), f"no time in front of '{line}'"
+        return re.sub(STAMP, "", line)
 
     def line(self, outcome, gate=None, suite=None):
         """The next line is of a connection that ended so."""
-        until(lambda: "\n" in self.text[self.seen :], f"a line that ends in '{outcome}'")
-        line, _, _ = self.text[self.seen :].partition("\n")
-        self.seen += len(line) + 1
-        wanted = f"""gate {'-' if gate is None else f'"{gate}"'} suite {suite or '-'}: {outcome}"""
+        line, wanted = self.next_line(), f"""gate {'-' if gate is None else f'"{gate}"'} suite {suite or '-'}: {outcome}"""
         assert re.fullmatch(r"127\.0\.0\.1:\d+ " + re.escape(wanted), line), f"the gateway says '{line}', not '{wanted}'"
 
     def stop(self, number=signal.SIGTERM):
