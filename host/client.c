@@ -43,11 +43,12 @@ static void tell(struct slot *s)
     }
 }
 
+/* Closes before it tells: the time of the line depends on the table. */
 static void drop(struct slot *s)
 {
     connection_lost(&s->connection);
-    tell(s);
     close(s->fd);
+    tell(s);
     connection_clear(&s->connection);
     s->fd = -1;
 }
@@ -80,7 +81,12 @@ static bool receive_some(struct slot *s)
             connection_lost(c);
             return c->out_at < c->out_end;
         }
+        int64_t came = nanoseconds();
         (void)connection_received(c, &settings, (size_t)n);
+        if (c->judged && settings.rule == TN_RULE_HIDE && options.hide_ms > 0)
+            rest_begin(&s->rest, came, 1000000 * (int64_t)options.hide_ms);
+        if (rest_left(&s->rest) > 0)
+            return true;
         if (!send_some(s))
             return false;
     }
@@ -104,23 +110,25 @@ static void put_off(struct slot *s)
     s->deadline = milliseconds() + 1000 * (int64_t)options.idle_seconds;
 }
 
-/* What is to be said, done or closed after bytes have come and gone. */
+/* What is to be closed, done or said after bytes have come and gone; said last, since the time of the line depends on the table. */
 static void wind_up(struct slot *s)
 {
     struct connection *c = &s->connection;
     put_off(s);
-    tell(s);
     if (c->ended && c->out_at == c->out_end && !s->said_all) {
         s->said_all = true;
         s->deadline = milliseconds() + LINGER_MS;
         shutdown(s->fd, SHUT_WR);
     }
+    tell(s);
 }
 
 void client_serve(struct slot *s, short events)
 {
     struct connection *c = &s->connection;
     bool was_over = c->ended;
+    if (rest_left(&s->rest) > 0)
+        return;
     bool here = send_some(s);
     if (here && s->said_all)
         here = discard(s);
@@ -130,6 +138,8 @@ void client_serve(struct slot *s, short events)
         drop(s);
         return;
     }
+    if (rest_left(&s->rest) > 0)
+        return;
     wind_up(s);
     if (c->ended && !was_over && !s->said_all)
         s->deadline = milliseconds() + LINGER_MS;

@@ -181,7 +181,10 @@ static bool accepted(struct connection *c, const uint8_t *answer, size_t n, cons
 static void note_identity(struct connection *c)
 {
     uint32_t fields[2];
-    if (tn_phase(c->login) != TN_PHASE_CLIENT_KEY_EXCHANGE || tn_read_client_key_exchange(c->message, c->message_len, fields) != 0)
+    if (tn_phase(c->login) != TN_PHASE_CLIENT_KEY_EXCHANGE)
+        return;
+    c->judged = true;
+    if (tn_read_client_key_exchange(c->message, c->message_len, fields) != 0)
         return;
     c->identity_known = true;
     c->identity_len = fields[1];

@@ -66,6 +66,7 @@ static void welcome(int fd, const struct sockaddr_storage *from)
     s->said_all = s->login_reported = s->later_reported = false;
     s->turn = places_turn();
     s->lines = 0;
+    s->rest = (struct rest){0};
     s->origin = origin;
     s->deadline = milliseconds() + 1000 * (int64_t)options.handshake_seconds;
     memcpy(s->address, address, sizeof address);
@@ -186,20 +187,26 @@ static int64_t sooner(int64_t a, int64_t b)
     return a < 0 || (b >= 0 && b < a) ? b : a;
 }
 
-/* Fills the list; its length, and the time until there is something to do without an event, or -1. */
+static int64_t in_nanoseconds(int64_t ms)
+{
+    return ms < 0 ? ms : ms * 1000000;
+}
+
+/* Fills the list; its length, and the time in nanoseconds until there is something to do without an event, or -1. A client that rests has no events. */
 static size_t prepare(int listener, int64_t *wait)
 {
     int64_t now = milliseconds();
     size_t n = FIRST_CLIENT;
     polled[LISTENER] = (struct pollfd){.fd = accepting() ? listener : -1, .events = POLLIN};
     polled[LOG] = (struct pollfd){.fd = log_waits_for(), .events = POLLOUT};
-    *wait = sooner(report_rest(false), accept_from > now ? accept_from - now : -1);
+    *wait = in_nanoseconds(sooner(report_rest(false), accept_from > now ? accept_from - now : -1));
     for (size_t i = 0; i < places; i++) {
         if (slots[i].fd < 0)
             continue;
+        int64_t rest = rest_left(&slots[i].rest);
         whose[n] = &slots[i];
-        polled[n++] = (struct pollfd){.fd = slots[i].fd, .events = client_events(&slots[i])};
-        *wait = sooner(*wait, slots[i].deadline > now ? slots[i].deadline - now : 0);
+        polled[n++] = (struct pollfd){.fd = rest > 0 ? -1 : slots[i].fd, .events = client_events(&slots[i])};
+        *wait = sooner(*wait, rest > 0 ? rest : in_nanoseconds(slots[i].deadline > now ? slots[i].deadline - now : 0));
     }
     return n;
 }
@@ -220,7 +227,7 @@ static void turn(int listener, const sigset_t *waiting)
 {
     int64_t wait;
     size_t n = prepare(listener, &wait);
-    struct timespec limit = {.tv_sec = (time_t)(wait / 1000), .tv_nsec = (long)(wait % 1000) * 1000000};
+    struct timespec limit = {.tv_sec = (time_t)(wait / 1000000000), .tv_nsec = (long)(wait % 1000000000)};
     int woken = ppoll(polled, n, wait < 0 ? NULL : &limit, waiting);
     if (woken < 0 && errno != EINTR) {
         const struct timespec rest = {.tv_nsec = TROUBLE_MS * 1000000L};

@@ -12,7 +12,7 @@ VERSION := 0.1
 LIBRARY ?= build/libturretnail.a
 HOST_FLAGS := -std=c11 -D_GNU_SOURCE -Wall -Wextra -Wconversion -Wshadow -Werror -Iinclude
 SANITIZED := -O1 -g -fsanitize=address,undefined -fno-sanitize-recover=all
-HOST_PARTS := $(addprefix host/,connection.c records.c entropy.c options.c report.c table.c log.c places.c listener.c client.c wipe.c)
+HOST_PARTS := $(addprefix host/,connection.c records.c entropy.c options.c report.c table.c log.c places.c listener.c client.c rest.c wipe.c)
 HOST_HEADERS := $(wildcard host/*.h) include/turretnail.h
 PROVED := $(shell find crates -name '*.rt' -o -name '*.antt') crates.txt
 INSTALLED := $(CURDIR)/build/installed
@@ -51,6 +51,10 @@ build/records-test: tests/records.c host/records.c host/entropy.c $(HOST_HEADERS
 	@mkdir -p build
 	@$(CC) $(HOST_FLAGS) $(SANITIZED) $(filter %.c,$^) -lcrypto -o $@
 
+build/rest-test: tests/rest.c host/rest.c $(HOST_HEADERS) | needs-build
+	@mkdir -p build
+	@$(CC) $(HOST_FLAGS) $(SANITIZED) $(filter %.c,$^) -o $@
+
 build/records-time: tests/records_time.c bench/records_time.c bench/measure.c host/records.c host/entropy.c $(HOST_HEADERS) bench/records_time.h | needs-build
 	@mkdir -p build
 	@$(CC) $(HOST_FLAGS) -O2 -Ihost $(filter %.c,$^) -lcrypto -o $@
@@ -75,8 +79,10 @@ header-test: $(LIBRARY) | needs-test
 	@$(MAKE) --no-print-directory -f $(firstword $(MAKEFILE_LIST)) install PREFIX=$(INSTALLED) DESTDIR= LIBRARY=$(LIBRARY)
 	@tests/installed $(INSTALLED)
 
-interop: build/gateway build/gateway-careless build/gateway-sanitized build/records-test build/records-time build/mbedtls-client | needs-test
+interop: build/gateway build/gateway-careless build/gateway-sanitized build/records-test build/records-time build/rest-test build/mbedtls-client | needs-test
 	@build/records-test
 	@build/records-time
+	@build/rest-test
 	@python3 tests/keys_in_memory.py build/gateway build/gateway-careless
+	@python3 tests/hide_in_time.py build/gateway
 	@python3 tests/interop build/gateway-sanitized build/mbedtls-client

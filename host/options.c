@@ -21,6 +21,8 @@ static const char help[] =
     "  --hint TEXT              identity hint for the gates, up to 128 bytes (default none)\n"
     "  --rule tell|hide         an unknown gate is told so (alert 115), or refused like a wrong key\n"
     "                           (alert 51); default tell\n"
+    "  --hide-delay MS          under hide a login ends so long after its key exchange came, whatever\n"
+    "                           the table and the key (default 5); 0: as soon as it can\n"
     "  --handshake-timeout SEC  for a whole handshake (default 10)\n"
     "  --idle-timeout SEC       without a line, after the handshake (default 300)\n"
     "  --clients N              at a time (default 512); when all places are taken the oldest\n"
@@ -35,7 +37,7 @@ static const char help[] =
     "\n"
     "SIGINT or SIGTERM stops it.\n";
 
-enum { ADDRESS = 1000, PORT, TABLE, HINT, RULE, ONCE, HANDSHAKE, IDLE, CLIENTS, PER_ADDRESS, PER_GATE, FAILED_LINES, VERSION, HELP = 'h' };
+enum { ADDRESS = 1000, PORT, TABLE, HINT, RULE, HIDE_DELAY, ONCE, HANDSHAKE, IDLE, CLIENTS, PER_ADDRESS, PER_GATE, FAILED_LINES, VERSION, HELP = 'h' };
 
 static const struct option names[] = {
     {"address", required_argument, NULL, ADDRESS},
@@ -43,6 +45,7 @@ static const struct option names[] = {
     {"table", required_argument, NULL, TABLE},
     {"hint", required_argument, NULL, HINT},
     {"rule", required_argument, NULL, RULE},
+    {"hide-delay", required_argument, NULL, HIDE_DELAY},
     {"once", required_argument, NULL, ONCE},
     {"handshake-timeout", required_argument, NULL, HANDSHAKE},
     {"idle-timeout", required_argument, NULL, IDLE},
@@ -115,6 +118,7 @@ static bool take(struct options *o, int which, const char *text)
     case IDLE: return seconds("idle-timeout", text, &o->idle_seconds);
     case CLIENTS: return number("clients", text, 1, 16384, &o->clients);
     case PER_ADDRESS: return number("per-address", text, 1, 16384, &o->per_address);
+    case HIDE_DELAY: return number("hide-delay", text, 0, 1000, &o->hide_ms);
     case PER_GATE: return number("per-gate", text, 1, 16384, &o->per_gate);
     case FAILED_LINES: return number("failed-lines", text, 0, 1000000, &o->failed_lines);
     default: return false;
@@ -148,8 +152,8 @@ static bool whole(struct options *o, int count, char **words)
 
 enum reading options_read(struct options *o, int count, char **words)
 {
-    *o = (struct options){.address = "127.0.0.1", .port = 4433, .hint = "", .rule = TN_RULE_NONE, .handshake_seconds = 10, .idle_seconds = 300,
-                          .clients = 512, .per_gate = 8, .failed_lines = 20};
+    *o = (struct options){.address = "127.0.0.1", .port = 4433, .hint = "", .rule = TN_RULE_NONE, .hide_ms = 5, .handshake_seconds = 10,
+                          .idle_seconds = 300, .clients = 512, .per_gate = 8, .failed_lines = 20};
     opterr = 0;
     for (int which; (which = getopt_long(count, words, ":h", names, NULL)) != -1;) {
         if (which == HELP || which == VERSION) {

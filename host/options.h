@@ -10,6 +10,7 @@ struct options {
     const char *table;
     const char *hint;
     uint8_t rule;               /* one of TN_RULE_.. */
+    unsigned long hide_ms;      /* under hide: the tick at which the end of a login is seen; 0: at once */
     unsigned long once;         /* stop after so many connections; 0: never */
     unsigned handshake_seconds; /* for a whole handshake */
     unsigned idle_seconds;      /* without an enrolment line, after it */

@@ -8,6 +8,7 @@
 #include <netinet/in.h>
 
 #include "connection.h"
+#include "rest.h"
 
 /* Where a client comes from, as far as the limit for one address goes: an IPv4 address, or the first 64 bits of an IPv6 one, which are one subscriber's. */
 struct origin {
@@ -23,6 +24,7 @@ struct slot {
     uint64_t turn;         /* counts up with each arrival and each completed login: the smaller, the older */
     unsigned long lines;   /* of those that came, how many have put the deadline off */
     int64_t deadline;      /* in milliseconds */
+    struct rest rest;      /* under the rule hide */
     struct origin origin;
     char address[INET6_ADDRSTRLEN + 10];
     struct connection connection;

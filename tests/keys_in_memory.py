@@ -51,7 +51,7 @@ def watch(process):
 
 @contextlib.contextmanager
 def watched(program, *options):
-    g = Gateway(*options, program=program, preexec_fn=traced, started=watch)
+    g = Gateway("--clients", 8, *options, program=program, preexec_fn=traced, started=watch)
     try:
         yield g
         g.stop()
