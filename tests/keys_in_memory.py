@@ -3,8 +3,8 @@
 
     tests/keys_in_memory.py GATEWAY CARELESS
 
-Tried with both: GATEWAY, in which nothing may be left after a session, after a failed login and after a gate was retired; and CARELESS, the same program without
-what clears the stack (tests/no_wipe.c), in which the keys have to be found, so that the test is seen to work.
+In GATEWAY nothing may be left after a session, after a failed login and after a gate was retired. CARELESS is the same program without what clears the stack
+(tests/no_wipe.c): there the keys have to be found, so that the test is seen to work.
 
 The gateway lets nobody look into it, so its memory is opened at exec, before its first instruction, by the parent that traces it. That takes no privilege.
 """
@@ -26,7 +26,6 @@ from plain_client import HANDSHAKE, Client, prf
 
 CARELESS = sys.argv[2]
 PIECE = 8  # so many bytes of a secret in a row count as found, from every fourth place on
-PATIENCE = 1  # seconds
 TRACE_ME, DETACH = 0, 17  # of ptrace
 DROP, SYS_PTRACE = 24, 19  # PR_CAPBSET_DROP of prctl, and the capability
 LIBC = ctypes.CDLL(None, use_errno=True)
@@ -85,12 +84,11 @@ def found(g, known):
     return {name for name, value in known.items() if any(value[i : i + PIECE] in memory for i in range(0, len(value) - PIECE + 1, 4))}
 
 
-def left(g, known):
-    """What is still found after a while in which it may take notice of the end."""
-    end = time.monotonic() + PATIENCE
-    while names := found(g, known):
-        if time.monotonic() > end:
-            break
+def left(g, known, allowed=frozenset()):
+    """What is found beside what may be, after all the time that it may take to see that a client is gone or a table new."""
+    end = time.monotonic() + LIMIT
+    while (names := found(g, known) - allowed) and time.monotonic() < end:
+        time.sleep(0.05)
     return names
 
 
@@ -132,36 +130,37 @@ def named(g, name, key):
 
 
 def session(g, name, key):
-    """A whole session. Amid the login only the master secret is kept, and in the session only the keys of its records."""
+    """A whole session; what the gateway knew, and what is found amid the login, in the session and when the client sees its end."""
     c, known = named(g, name, key)
-    careful = g.process.args[0] == GATEWAY
     until(lambda: "master secret" in found(g, known), "the master secret amid a login")
-    assert not careful or found(g, known) == KEYS_IN_USE | {"master secret"}, found(g, known)
+    time.sleep(0.1)  # it may be in the midst of it
+    amid = found(g, known)
     c.change()
     c.send(HANDSHAKE, c.said(c.finished()))
     c.finish()
     c.enrol([b"cow 212"])
-    assert found(g, known) == KEYS_IN_USE or not careful, found(g, known)
-    assert KEYS_IN_USE <= found(g, known)
+    during = found(g, known)
     c.bye()
-    return known
+    return amid, during, found(g, known)
 
 
 def failed_login(g, name, key, how):
-    """A login that fails at the Finished or before it. What is found while the client still holds its end, and what once it is gone."""
+    """A login that fails. What is found when the client sees the alert, and still has its end open; or some time after it is gone."""
     c, known = named(g, name, key)
-    if how != "gone":
-        c.change()
-        text = c.finished()
-        if how == "wrong MAC":
-            c.writing = (bytes(32), 0)
-        else:
-            text = text[:-1] + bytes([text[-1] ^ 1])
-        c.send(HANDSHAKE, text)
-        assert c.alert() == (2, 51)
-    names = set() if how == "gone" else left(g, known)
+    if how == "gone":
+        c.socket.close()
+        return left(g, known)
+    c.change()
+    text = c.finished()
+    if how == "wrong MAC":
+        c.writing = (bytes(32), 0)
+    else:
+        text = text[:-1] + bytes([text[-1] ^ 1])
+    c.send(HANDSHAKE, text)
+    assert c.alert() == (2, 51)
+    names = found(g, known)
     c.socket.close()
-    return known, names | left(g, known)
+    return names
 
 
 def cbc_session(g, suite, name, key):
@@ -181,33 +180,31 @@ def cbc_session(g, suite, name, key):
 
 # ---- the cases
 
-def careful():
-    with tempfile.TemporaryDirectory() as folder:
-        table = Table(folder)
-        with watched(GATEWAY, "--table", table.file) as g:
-            gone = {}
-            for name, key in table.keys.items():
-                known = session(g, name, key)
-                assert not (names := left(g, known)), f"after a session of {name}: {names}"
-                for how in ("wrong MAC", "wrong Finished", "gone"):
-                    known, names = failed_login(g, name, key, how)
-                    assert not names, f"after a failed login of {name}, {how}: {names}"
-                gone[f"{name}'s raw key"] = key
-            for suite in ("PSK-AES128-CBC-SHA256", "PSK-AES128-CBC-SHA"):
-                assert not (names := left(g, cbc_session(g, suite, "gate128", table.keys["gate128"]))), f"after a session with {suite}: {names}"
-            text = {f"{name}'s line": key.hex().encode() for name, key in table.keys.items()}
-            assert found(g, text) == set(text), "the table in use is not found"
-            assert not found(g, gone), found(g, gone)
-            retire(g, table, ["gate256"])
-            assert (names := left(g, text)) == {"gate256's line"}, f"after gates were retired: {names}"
-            assert not found(g, gone), found(g, gone)
-
-
 def retire(g, table, names):
     """A table with these gates alone is read."""
     table.write(names)
     g.process.send_signal(signal.SIGHUP)
     until(lambda: f"read again, gates: {len(names)}\n" in g.text, "the new table")
+
+
+def careful():
+    """Amid a login the master secret is kept, in a session the keys of its records, and after it nothing."""
+    with tempfile.TemporaryDirectory() as folder:
+        table = Table(folder)
+        with watched(GATEWAY, "--table", table.file) as g:
+            for name, key in table.keys.items():
+                found_then = session(g, name, key)
+                assert found_then == (KEYS_IN_USE | {"master secret"}, KEYS_IN_USE, set()), f"amid, in and after a session of {name}: {found_then}"
+                for how in ("wrong MAC", "wrong Finished", "gone"):
+                    assert not (names := failed_login(g, name, key, how)), f"after a failed login of {name}, {how}: {names}"
+            for suite in ("PSK-AES128-CBC-SHA256", "PSK-AES128-CBC-SHA"):
+                assert not (names := left(g, cbc_session(g, suite, "gate128", table.keys["gate128"]))), f"after a session with {suite}: {names}"
+            text = {f"{name}'s line": key.hex().encode() for name, key in table.keys.items()}
+            raw = {f"{name}'s raw key": key for name, key in table.keys.items()}
+            assert found(g, text | raw) == set(text), found(g, text | raw)
+            retire(g, table, ["gate256"])
+            assert not (names := left(g, text | raw, {"gate256's line"})), f"after gates were retired: {names}"
+            assert found(g, text) == {"gate256's line"}, "the table in use is not found"
 
 
 def careless():
@@ -216,9 +213,9 @@ def careless():
         table = Table(folder)
         with watched(CARELESS, "--table", table.file) as g:
             key = table.keys["gate128"]
-            after = left(g, session(g, "gate128", key))
+            _, _, after = session(g, "gate128", key)
             assert after, "a careless gateway leaves nothing behind after a session"
-            _, names = failed_login(g, "gate128", key, "wrong MAC")
+            names = failed_login(g, "gate128", key, "wrong MAC")
             assert {"raw key", "master secret"} <= names, names
             retire(g, table, ["gate256"])
             assert found(g, {"raw key": key}), "a retired gate's key is not found"
