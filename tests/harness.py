@@ -9,7 +9,8 @@ import sys
 import threading
 import time
 
-GATEWAY = sys.argv[1]
+GATEWAY = sys.argv[1]  # under sanitizers
+FAST_GATEWAY = sys.argv[3]  # as it is installed, where time is measured
 TABLE = pathlib.Path(__file__).resolve().parent.parent / "host/gates.psk"
 KEYS = dict(line.split(":") for line in TABLE.read_text().split())
 KEY = KEYS["gate7"]
@@ -29,8 +30,8 @@ def until(holds, what):
 class Program:
     """A program whose output is read as it comes."""
 
-    def __init__(self, words):
-        self.process = subprocess.Popen([str(w) for w in words], stdin=subprocess.PIPE, stdout=subprocess.PIPE, stderr=subprocess.STDOUT)
+    def __init__(self, words, **more):
+        self.process = subprocess.Popen([str(w) for w in words], stdin=subprocess.PIPE, stdout=subprocess.PIPE, stderr=subprocess.STDOUT, **more)
         self.text = ""
         self.reader = threading.Thread(target=self.read, daemon=True)
         self.reader.start()
@@ -54,8 +55,8 @@ class Program:
 
 
 class Gateway(Program):
-    def __init__(self, *options):
-        super().__init__([GATEWAY, "--port", 0, *(options if "--table" in options else ("--table", TABLE, *options))])
+    def __init__(self, *options, program=GATEWAY, **more):
+        super().__init__([program, "--port", 0, *(options if "--table" in options else ("--table", TABLE, *options))], **more)
         until(lambda: re.search(r"listening on .*\n", self.text) or self.over(), "the gateway")
         found = re.search(r"listening on \S+:(\d+),", self.text)
         assert found, self.text
@@ -86,8 +87,8 @@ class Gateway(Program):
 
 
 @contextlib.contextmanager
-def gateway(*options):
-    g = Gateway(*options)
+def gateway(*options, **more):
+    g = Gateway(*options, **more)
     try:
         yield g
     except BaseException:
@@ -97,12 +98,12 @@ def gateway(*options):
     assert rest == "", f"lines that no case asked for: {rest}"
 
 
-# the cases, (name, function), run one after the other
-CASES = []
+# the cases, (name, function); those that measure time are run alone, after the others
+CASES, ALONE = [], []
 
 
-def case(name):
+def case(name, alone=False):
     def keep(function):
-        CASES.append((name, function))
+        (ALONE if alone else CASES).append((name, function))
         return function
     return keep
