@@ -43,9 +43,10 @@ static struct slot *find_room(const struct origin *origin, const char *address)
         client_end_at_once(place_to_go(origin), OUTCOME_MADE_ROOM);
     }
     if (!place_free()) {
-        if (pace_allows(&full, 1))
+        struct slot *goes = place_to_go(NULL);
+        if (!goes->connection.ended && pace_allows(&full, 1))
             log_line("all %zu places are taken: the oldest unfinished handshake goes", places);
-        client_end_at_once(place_to_go(NULL), OUTCOME_MADE_ROOM);
+        client_end_at_once(goes, OUTCOME_MADE_ROOM);
     }
     return place_free();
 }

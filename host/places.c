@@ -57,18 +57,24 @@ bool place_logged_in(const struct slot *s)
     return s->fd >= 0 && s->connection.login_outcome == OUTCOME_COMPLETE && !s->connection.ended;
 }
 
-/* Whether somebody else's connection may take this place, of this origin or of all. */
-static bool may_go(const struct slot *s, const struct origin *origin)
+/* Whether the place is that of an unfinished handshake of this origin. */
+static bool unfinished(const struct slot *s, const struct origin *origin)
 {
-    return s->fd >= 0 && !place_logged_in(s) && (!origin || memcmp(&s->origin, origin, sizeof *origin) == 0);
+    return s->fd >= 0 && s->connection.login_outcome == OUTCOME_NONE && memcmp(&s->origin, origin, sizeof *origin) == 0;
 }
 
 size_t places_of_origin(const struct origin *origin)
 {
     size_t n = 0;
     for (size_t i = 0; i < places; i++)
-        n += may_go(&slots[i], origin);
+        n += unfinished(&slots[i], origin);
     return n;
+}
+
+/* Whether somebody else may take this place: of an origin the unfinished handshakes, of all the connections that are over too. */
+static bool may_go(const struct slot *s, const struct origin *origin)
+{
+    return origin ? unfinished(s, origin) : s->fd >= 0 && !place_logged_in(s);
 }
 
 /* How much would be lost with it. */

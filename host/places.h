@@ -47,11 +47,11 @@ size_t places_in_use(void);
 /* Whether the place is in use by a gate that is logged in. */
 bool place_logged_in(const struct slot *s);
 
-/* How many places clients of this origin have beside those that are logged in. */
+/* How many unfinished handshakes of this origin there are. */
 size_t places_of_origin(const struct origin *origin);
 
-/* Who goes for another client, of this origin or, with NULL, of all: first a connection that is over, then one that has not even sent a hello, then any
- * unfinished handshake; of each kind the oldest. NULL: nobody. */
+/* Who goes for another client: of this origin an unfinished handshake, one that has not even sent its hello before one that has; with NULL of all, and a
+ * connection that is over before both. Of each kind the oldest goes. NULL: nobody. */
 struct slot *place_to_go(const struct origin *origin);
 
 /* Of the logged-in connections of the same gate as s their number, and the oldest. */

@@ -9,7 +9,8 @@ import sys
 import threading
 import time
 
-GATEWAY = sys.argv[1]
+GATEWAY = sys.argv[1]  # under sanitizers
+FAST_GATEWAY = sys.argv[3]  # as it is installed, where time is measured
 TABLE = pathlib.Path(__file__).resolve().parent.parent / "host/gates.psk"
 KEYS = dict(line.split(":") for line in TABLE.read_text().split())
 KEY = KEYS["gate7"]
@@ -88,8 +89,8 @@ class Gateway(Program):
 
 
 @contextlib.contextmanager
-def gateway(*options):
-    g = Gateway(*options)
+def gateway(*options, **more):
+    g = Gateway(*options, **more)
     try:
         yield g
     except BaseException:
@@ -99,12 +100,12 @@ def gateway(*options):
     assert rest == "", f"lines that no case asked for: {rest}"
 
 
-# the cases, (name, function), run one after the other
-CASES = []
+# the cases, (name, function); those that measure time are run alone, after the others
+CASES, ALONE = [], []
 
 
-def case(name):
+def case(name, alone=False):
     def keep(function):
-        CASES.append((name, function))
+        (ALONE if alone else CASES).append((name, function))
         return function
     return keep

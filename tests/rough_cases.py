@@ -361,7 +361,7 @@ def slow_reader():
         sender = threading.Thread(target=c.send, args=(DATA, b"c\n" * 500000), daemon=True)
         sender.start()
         time.sleep(0.5)
-        got = b""
+        got = bytearray()
         while len(got) < 11 * 500000:
             kind, content = c.receive()
             assert kind == DATA
