@@ -8,6 +8,8 @@
 
 #include "log.h"
 #include "report.h"
+#include "table.h"
+#include "work.h"
 
 enum {
     LINGER_MS = 1000, /* for what was said last, and for the client to close */
@@ -66,6 +68,21 @@ static bool send_some(struct slot *s)
     return true;
 }
 
+/* Under the rule hide, after a ClientKeyExchange that came then: what the line will say of it is found now, the loop stays with it as long as with any other,
+ * and the connection rests. */
+static void hide(struct slot *s, int64_t came)
+{
+    struct connection *c = &s->connection;
+    if (!c->judged || settings.rule != TN_RULE_HIDE)
+        return;
+    c->judged = false;
+    c->unlisted = c->identity_len > sizeof c->identity || !table_lists(&settings, c->identity, c->identity_len);
+    if (options.hide_ms == 0)
+        return;
+    work_even_out(came);
+    s->rest.until = rest_end(came, nanoseconds(), 1000000 * (int64_t)options.hide_ms);
+}
+
 /* Reads what there is, for some turns; false where the client is gone and nothing is left to be sent. */
 static bool receive_some(struct slot *s)
 {
@@ -83,8 +100,7 @@ static bool receive_some(struct slot *s)
         }
         int64_t came = nanoseconds();
         (void)connection_received(c, &settings, (size_t)n);
-        if (c->judged && settings.rule == TN_RULE_HIDE && options.hide_ms > 0)
-            rest_begin(&s->rest, came, 1000000 * (int64_t)options.hide_ms);
+        hide(s, came);
         if (rest_left(&s->rest) > 0)
             return true;
         if (!send_some(s))

@@ -56,7 +56,8 @@ struct connection {
     uint8_t identity[TN_IDENTITY_LIMIT];
     size_t identity_len; /* as the client named it; only so many bytes as fit are kept */
     bool identity_known;
-    bool judged; /* a message came where a ClientKeyExchange was awaited: the table may have been looked at */
+    bool judged;   /* a message came where a ClientKeyExchange was awaited: the table may have been looked at */
+    bool unlisted; /* under the rule hide, and the gateway's own finding: the table has no such gate */
 
     uint8_t in[RECORD_LIMIT]; /* the record that is coming */
     size_t in_len;

@@ -19,6 +19,7 @@
 #include "report.h"
 #include "table.h"
 #include "wipe.h"
+#include "work.h"
 
 enum {
     ARRIVALS = 32,   /* clients that are taken in before the others get their turn */
@@ -145,6 +146,8 @@ static bool take_table(bool again)
     if (again)
         retire(&fresh);
     table_use(&settings, &fresh);
+    if (settings.rule == TN_RULE_HIDE)
+        work_measure(&settings);
     if (again)
         log_line("%s read again, gates: %zu", options.table, table_gates(&settings));
     return true;

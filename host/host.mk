@@ -13,7 +13,7 @@ VERSION := $(shell sed -n 's/^\#define TN_VERSION "\(.*\)"/\1/p' include/turretn
 LIBRARY ?= build/libturretnail.a
 HOST_FLAGS := -std=c11 -D_GNU_SOURCE -Wall -Wextra -Wconversion -Wshadow -Werror -Iinclude
 SANITIZED := -O1 -g -fsanitize=address,undefined -fno-sanitize-recover=all
-HOST_PARTS := $(addprefix host/,connection.c records.c entropy.c options.c report.c table.c log.c places.c listener.c client.c rest.c wipe.c)
+HOST_PARTS := $(addprefix host/,connection.c records.c entropy.c options.c report.c table.c log.c places.c listener.c client.c rest.c work.c wipe.c)
 HOST_HEADERS := $(wildcard host/*.h) include/turretnail.h
 PROVED := $(shell find crates -name '*.rt' -o -name '*.antt') crates.txt
 INSTALLED := $(CURDIR)/build/installed

@@ -82,8 +82,8 @@ static bool record_mac(const struct protection *p, const uint8_t *front, const u
 }
 
 /*
- * The same of a CBC record that came, whose n bytes of content are the front of `plain_size` bytes of plaintext. Only the latter is public: n tells how long the
- * padding is. libcrypto's HMAC hashes as many blocks for every n where it is told the public size, and takes one record in a context.
+ * The same of a CBC record that came, whose n bytes of content are the front of `plain_size` bytes of plaintext. Only the latter is public: n tells how
+ * long the padding is. libcrypto's HMAC hashes as many blocks for every n where it is told the public size, and takes one record in a context.
  */
 static bool opened_mac(const struct protection *p, const uint8_t *front, const uint8_t *plain, size_t n, size_t plain_size, uint8_t *out)
 {

@@ -5,7 +5,6 @@
 #include <stdio.h>
 
 #include "log.h"
-#include "table.h"
 
 /* The names of RFC 5246 section 7.2 and of the registry that has grown from it; 115 is RFC 4279's unknown_psk_identity, in the station's word. */
 static const char *alert_name(uint8_t alert)
@@ -95,8 +94,7 @@ static void add_alert(struct line *line, const char *front, uint8_t alert)
 /* Under hide the client can't tell a name that is not listed from a wrong key; whoever reads the log may. */
 static bool hidden(const struct connection *c, const struct settings *settings)
 {
-    return settings->rule == TN_RULE_HIDE && c->alert == TN_ALERT_DECRYPT_ERROR && c->login_outcome == OUTCOME_ALERT_SENT && c->identity_known
-           && !(c->identity_len <= sizeof c->identity && table_lists(settings, c->identity, c->identity_len));
+    return settings->rule == TN_RULE_HIDE && c->alert == TN_ALERT_DECRYPT_ERROR && c->login_outcome == OUTCOME_ALERT_SENT && c->identity_known && c->unlisted;
 }
 
 static void add_outcome(struct line *line, const struct connection *c, enum outcome outcome, const struct settings *settings)

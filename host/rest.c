@@ -16,12 +16,6 @@ int64_t rest_end(int64_t came, int64_t now, int64_t tick)
     return came + tick * (ticks < 1 ? 1 : ticks);
 }
 
-void rest_begin(struct rest *r, int64_t came, int64_t tick)
-{
-    if (r->until == 0)
-        r->until = rest_end(came, nanoseconds(), tick);
-}
-
 int64_t rest_left(const struct rest *r)
 {
     int64_t left = r->until == 0 ? 0 : r->until - nanoseconds();

@@ -19,9 +19,6 @@ int64_t nanoseconds(void);
 /* The first whole tick since `came` that is not before `now`; at least one. */
 int64_t rest_end(int64_t came, int64_t now, int64_t tick);
 
-/* Begins the rest, once: a message came at `came`, and the work on it is done. */
-void rest_begin(struct rest *r, int64_t came, int64_t tick);
-
 /* The time that is left, 0 where it does not rest. */
 int64_t rest_left(const struct rest *r);
 

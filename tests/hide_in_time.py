@@ -4,8 +4,9 @@
     tests/hide_in_time.py GATEWAY
 
 Logins with a wrong key, of a gate that is listed and of one that is not, come in pairs, in a drawn order. Whoever wants to tell them apart guesses of each pair
-that the slower one is not listed; by chance half of the guesses are right. That is tried with the time until the alert and with the time until the connection is
-closed, without the delay, where the guesses must be good, so that the test is seen to work; and with it, where they must not.
+that the slower one is not listed; by chance half of the guesses are right. Three times are tried: until the alert, until the connection is closed, and until
+another connection is answered that spoke at the same moment. Without the delay the guesses must be good, so that the test is seen to work; with it they must
+not.
 """
 import contextlib
 import os
@@ -62,12 +63,17 @@ def greeted(g, identity):
 
 # ---- the populations
 
+def wrong_end(c):
+    """The key exchange and all that follows it, under a wrong key."""
+    return record(HANDSHAKE, c.key_exchange()) + record(CHANGE, b"\x01") + record(HANDSHAKE, os.urandom(48))
+
+
 def wrong_login(g, identity):
-    """Nanoseconds from the key exchange, with all that follows it, to the alert and to the end."""
+    """Nanoseconds from the key exchange to the alert and to the end."""
     c = greeted(g, identity)
-    rest = record(HANDSHAKE, c.key_exchange()) + record(CHANGE, b"\x01") + record(HANDSHAKE, os.urandom(48))
+    data = wrong_end(c)
     begun = time.perf_counter_ns()
-    c.socket.sendall(rest)
+    c.socket.sendall(data)
     alert = c.exactly(7)
     alerted = time.perf_counter_ns()
     assert c.socket.recv(1) == b""
@@ -77,36 +83,57 @@ def wrong_login(g, identity):
     return alerted - begun, closed - begun
 
 
+def beside(g, identity):
+    """Nanoseconds from the key exchange of one client to the answer that another gets to its hello."""
+    c, other = greeted(g, identity), Client(g.port, timeout=LIMIT)
+    data, hello = wrong_end(c), record(HANDSHAKE, other.hello())
+    time.sleep(0.0005)  # until the gateway waits for both
+    begun = time.perf_counter_ns()
+    c.socket.sendall(data)
+    other.socket.sendall(hello)
+    other.exactly(FLIGHT)
+    answered = time.perf_counter_ns()
+    c.socket.close()
+    other.socket.close()
+    return (answered - begun,)
+
+
+WAYS = "alert, end and another's answer"
+
+
 def guesses(g):
-    """Right guesses of one round, by the alert and by the end."""
-    right = [0, 0]
+    """Right guesses of one round, by each of the three times."""
+    right = [0, 0, 0]
     for _ in range(PAIRS):
-        times = {identity: wrong_login(g, identity) for identity in random.sample([LISTED, UNLISTED], 2)}
+        times = {LISTED: (), UNLISTED: ()}
+        for measure in (wrong_login, beside):
+            for identity in random.sample([LISTED, UNLISTED], 2):
+                times[identity] += measure(g, identity)
         for i, (listed, unlisted) in enumerate(zip(times[LISTED], times[UNLISTED])):
             right[i] += 1 if unlisted > listed else 0.5 if unlisted == listed else 0
     return right
 
 
-def told(rounds, i):
-    """Whether all rounds point the same way."""
-    return all(r[i] > HALF + SUSPECT for r in rounds) or all(r[i] < HALF - SUSPECT for r in rounds)
+def told(rounds):
+    """Whether by one of the times all rounds point the same way."""
+    return any(all(n > HALF + SUSPECT for n in by) or all(n < HALF - SUSPECT for n in by) for by in zip(*rounds))
 
 
 def without_delay():
     with hiding("--hide-delay", 0) as g:
-        rounds = []
-        while len(rounds) < ROUNDS and not any(min(r) >= GOOD for r in rounds):
+        rounds = [guesses(g)]
+        while min(rounds[-1]) < GOOD and len(rounds) < ROUNDS:
             rounds.append(guesses(g))
-        assert min(rounds[-1]) >= GOOD, f"without the delay the two are not told apart either, right guesses of {PAIRS}: {rounds}"
+        assert min(rounds[-1]) >= GOOD, f"without the delay the two are not told apart either; right guesses of {PAIRS} by {WAYS}: {rounds}"
         return rounds
 
 
 def with_delay():
     with hiding() as g:
-        rounds = []
-        while not rounds or ((told(rounds, 0) or told(rounds, 1)) and len(rounds) < ROUNDS):
+        rounds = [guesses(g)]
+        while told(rounds) and len(rounds) < ROUNDS:
             rounds.append(guesses(g))
-        assert not told(rounds, 0) and not told(rounds, 1), f"right guesses of {PAIRS}, by alert and by end: {rounds}"
+        assert not told(rounds), f"right guesses of {PAIRS} by {WAYS}: {rounds}"
         return rounds
 
 
@@ -135,7 +162,7 @@ def right(c):
 
 
 def wrong_key(c):
-    return record(HANDSHAKE, c.key_exchange()) + record(CHANGE, b"\x01") + record(HANDSHAKE, os.urandom(48)), False
+    return wrong_end(c), False
 
 
 def wrong_layout(c):
@@ -166,9 +193,9 @@ def ends():
 def main():
     begun = time.monotonic()
     ends()
-    apart, hidden = without_delay(), with_delay()
-    shown = ["; ".join("%g and %g" % tuple(r) for r in rounds) for rounds in (apart, hidden)]
-    print(f"tests/hide_in_time: right guesses of {PAIRS}, by alert and by end: {shown[1]}; without the delay {shown[0]} ({time.monotonic() - begun:.0f} s)")
+    apart, hidden = without_delay()[-1], with_delay()[-1]
+    shown = ["%g, %g and %g" % tuple(right) for right in (hidden, apart)]
+    print(f"tests/hide_in_time: right guesses of {PAIRS} by {WAYS}: {shown[0]}; without the delay {shown[1]} ({time.monotonic() - begun:.0f} s)")
 
 
 main()
