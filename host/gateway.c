@@ -238,12 +238,10 @@ static void turn(int listener, const sigset_t *waiting)
 }
 
 /* Until a signal, or until the connections that were asked for are over; then all that are left are closed. */
-static void run(int listener)
+static void run(int listener, const sigset_t *waiting)
 {
-    sigset_t waiting;
-    take_signals(&waiting);
     while (!stop_asked && (options.once == 0 || accepted_in_all < options.once || places_in_use() > 0))
-        turn(listener, &waiting);
+        turn(listener, waiting);
     for (size_t i = 0; i < places; i++)
         if (slots[i].fd >= 0)
             client_end_at_once(&slots[i], OUTCOME_STOPPED);
@@ -301,10 +299,12 @@ int main(int count, char **words)
     enum reading reading = options_read(&options, count, words);
     if (reading != OPTIONS_READ)
         return reading == OPTIONS_HELP ? 0 : 2;
+    sigset_t waiting;
+    take_signals(&waiting);
     int listener = ready() ? listener_open(&options) : -1;
     if (listener >= 0) {
         announce(listener);
-        run(listener);
+        run(listener, &waiting);
         close(listener);
     }
     records_stop();

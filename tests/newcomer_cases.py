@@ -104,6 +104,18 @@ def warnings():
                 assert [g.next_line() for _ in wanted] == wanted and g.next_line() == f"{table} read again, gates: 2"
 
 
+@case("GnuTLS's psktool writes a table")
+def psktool():
+    with tempfile.TemporaryDirectory() as folder:
+        table = pathlib.Path(folder) / "gates.psk"
+        for name in ("gate7", "gate8"):
+            assert Program(["psktool", "-u", name, "-p", table]).end() == 0
+        key = bytes.fromhex(re.search(r"^gate8:(\w+)$", table.read_text(), re.M)[1])
+        with gateway("--table", table) as g:
+            Client(g.port, identity=b"gate8", key=key, timeout=LIMIT).handshake().bye()
+            g.line("complete", "gate8", NULL)
+
+
 # ---- enrolment lines
 
 @case("an empty line enrols nobody, and CR before LF is no part of a line")

@@ -212,10 +212,11 @@ def beside_a_crowd():
             c = client(g).handshake()
             took.append(time.monotonic() - begun)
             c.bye()
+            time.sleep(0.1)
         crowd_outside.process.stdin.close()
         assert crowd_outside.end() == 0
         came = int(crowd_outside.text.split()[1])
-        assert came > 2000, f"the crowd came only {came} times"
+        assert came > 1500, f"the crowd came only {came} times"
         print(f"an honest login beside 1,000 silent clients: median {1000 * statistics.median(took):.0f} ms, longest {1000 * max(took):.0f} ms; they came {came} times")
         assert statistics.median(took) < 0.2, took
         until(lambda: g.text.count(": complete\n") == 15, "all lines")
