@@ -1,7 +1,7 @@
 /*
  * One client of the gateway, apart from its socket: bytes that came go in, bytes to be sent come out. Joins records to handshake messages, hands these to the
- * library, changes ciphers, sends and takes alerts, and serves the enrolment lines: each line X is answered with "enrolled X", an empty one with nothing. A line
- * ends in LF, and a CR before that is no part of it.
+ * library, changes ciphers, sends and takes alerts, and serves the enrolment lines: each line X is answered with "enrolled X", an empty one with nothing. A
+ * line ends in LF, and a CR before that is no part of it.
  */
 #ifndef HOST_CONNECTION_H
 #define HOST_CONNECTION_H

@@ -52,6 +52,14 @@ static struct slot *find_room(const struct origin *origin, const char *address)
     return place_free();
 }
 
+/* What the system has refused is said, at most once a second, and not asked again at once. */
+static void trouble(const char *call, const char *error)
+{
+    static struct pace said;
+    if (pace_allows(&said, 1))
+        log_line("%s: %s", call, error);
+}
+
 static void welcome(int fd, const struct sockaddr_storage *from)
 {
     char address[sizeof slots->address];
@@ -60,7 +68,7 @@ static void welcome(int fd, const struct sockaddr_storage *from)
     struct slot *s = find_room(&origin, address);
     accepted_in_all++;
     if (!connection_start(&s->connection, &settings)) {
-        log_line("%s: no connection could be started", address);
+        trouble(address, "no connection could be started");
         close(fd);
         return;
     }
@@ -81,14 +89,6 @@ static bool accepting(void)
     return milliseconds() >= accept_from && (options.once == 0 || accepted_in_all < options.once) && (place_free() || place_to_go(NULL));
 }
 
-/* What the system has refused is said, at most once a second, and not asked again at once. */
-static void trouble(const char *call, int error)
-{
-    static struct pace said;
-    if (pace_allows(&said, 1))
-        log_line("%s: %s", call, strerror(error));
-}
-
 static void take_in(int listener)
 {
     for (int i = 0; i < ARRIVALS && accepting(); i++) {
@@ -99,7 +99,7 @@ static void take_in(int listener)
             continue;
         }
         if (error != 0) {
-            trouble("accept", error);
+            trouble("accept", strerror(error));
             accept_from = milliseconds() + TROUBLE_MS;
         }
         return;
@@ -135,7 +135,7 @@ static bool take_table(bool again)
 {
     static struct table fresh;
     char why[TABLE_SENTENCE];
-    if (!table_read(&fresh, options.table, why)) {
+    if (!table_read(&fresh, options.table, again, why)) {
         if (again)
             log_line("%s: %s; the old table stays", options.table, why);
         else
@@ -177,7 +177,6 @@ static void take_signals(sigset_t *waiting)
     sigprocmask(SIG_BLOCK, &blocked, waiting);
     for (size_t i = 0; i < sizeof numbers / sizeof numbers[0]; i++)
         sigdelset(waiting, numbers[i]);
-    signal(SIGPIPE, SIG_IGN);
 }
 
 /* What is polled: the listener, the log, then the clients, and whose each of these is. */
@@ -201,9 +200,9 @@ static size_t prepare(int listener, int64_t *wait)
 {
     int64_t now = milliseconds();
     size_t n = FIRST_CLIENT;
+    *wait = in_nanoseconds(sooner(report_rest(false), accept_from > now ? accept_from - now : -1));
     polled[LISTENER] = (struct pollfd){.fd = accepting() ? listener : -1, .events = POLLIN};
     polled[LOG] = (struct pollfd){.fd = log_waits_for(), .events = POLLOUT};
-    *wait = in_nanoseconds(sooner(report_rest(false), accept_from > now ? accept_from - now : -1));
     for (size_t i = 0; i < places; i++) {
         if (slots[i].fd < 0)
             continue;
@@ -235,7 +234,7 @@ static void turn(int listener, const sigset_t *waiting)
     int woken = ppoll(polled, n, wait < 0 ? NULL : &limit, waiting);
     if (woken < 0 && errno != EINTR) {
         const struct timespec rest = {.tv_nsec = TROUBLE_MS * 1000000L};
-        trouble("ppoll", errno);
+        trouble("ppoll", strerror(errno));
         (void)pselect(0, NULL, NULL, NULL, &rest, waiting); /* signals come here too */
     }
     log_flush();
@@ -250,12 +249,10 @@ static void turn(int listener, const sigset_t *waiting)
 }
 
 /* Until a signal, or until the connections that were asked for are over; then all that are left are closed. */
-static void run(int listener)
+static void run(int listener, const sigset_t *waiting)
 {
-    sigset_t waiting;
-    take_signals(&waiting);
     while (!stop_asked && (options.once == 0 || accepted_in_all < options.once || places_in_use() > 0))
-        turn(listener, &waiting);
+        turn(listener, waiting);
     for (size_t i = 0; i < places; i++)
         if (slots[i].fd >= 0)
             client_end_at_once(&slots[i], OUTCOME_STOPPED);
@@ -319,8 +316,10 @@ int main(int count, char **words)
     }
     int listener = ready() ? listener_open(&options) : -1;
     if (listener >= 0) {
+        sigset_t waiting;
+        take_signals(&waiting);
         announce(listener);
-        run(listener);
+        run(listener, &waiting);
         close(listener);
     }
     records_stop();

@@ -5,6 +5,7 @@
 #include <fcntl.h>
 #include <limits.h>
 #include <poll.h>
+#include <signal.h>
 #include <stdarg.h>
 #include <stdio.h>
 #include <string.h>
@@ -42,6 +43,7 @@ void log_start(void)
         (void)fcntl(fd, F_SETFD, 0);
     if (fd >= 0)
         close(fd);
+    signal(SIGPIPE, SIG_IGN);
     struct stat kind;
     if (fstat(STDOUT_FILENO, &kind) != 0)
         return;

@@ -11,7 +11,7 @@
 
 enum { LOG_LINE_LIMIT = 1024 }; /* of a line with its time and line end; what is longer is cut */
 
-/* To be called before anything is opened: makes standard input, output and error exist, and finds out how to write without waiting. */
+/* To be called before anything is opened: makes standard input, output and error exist, finds out how to write without waiting, and ignores SIGPIPE. */
 void log_start(void);
 
 /* One line, without its time and line end. */

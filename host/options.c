@@ -125,13 +125,12 @@ static bool take(struct options *o, int which, const char *text)
     }
 }
 
-/* getopt_long's complaint in our own words: `word` is the one that it stumbled over. */
+/* getopt_long's complaint in our own words: a single letter is in optopt, a long option is the last word that was looked at. */
 static void complain(int which, const char *word)
 {
-    if (which == ':')
-        fprintf(stderr, "gateway: '%s' needs a value%s\n", word, where);
-    else
-        fprintf(stderr, "gateway: '%s' is no option of it, or has a value too many%s\n", word, where);
+    char letter[] = {'-', (char)optopt, '\0'};
+    bool single = which == '?' && optopt > 0 && optopt < 128 && optopt != HELP;
+    fprintf(stderr, "gateway: '%s' %s%s\n", single ? letter : word, which == ':' ? "needs a value" : "is not understood", where);
 }
 
 /* Whether all that is needed was given, and nothing else. */

@@ -77,21 +77,28 @@ static bool may_go(const struct slot *s, const struct origin *origin)
     return origin ? unfinished(s, origin) : s->fd >= 0 && !place_logged_in(s);
 }
 
-/* How much would be lost with it. */
-static int worth(const struct slot *s)
+enum kind { OVER, SILENT, GREETED, KINDS };
+
+static enum kind kind_of(const struct slot *s)
 {
-    return s->said_all ? 0 : s->connection.suite ? 2 : 1;
+    return s->said_all ? OVER : s->connection.suite ? GREETED : SILENT;
 }
 
 struct slot *place_to_go(const struct origin *origin)
 {
-    struct slot *found = NULL;
+    struct slot *oldest[KINDS] = {NULL};
+    size_t count[KINDS] = {0};
     for (size_t i = 0; i < places; i++) {
-        struct slot *s = &slots[i];
-        if (may_go(s, origin) && (!found || worth(s) < worth(found) || (worth(s) == worth(found) && s->turn < found->turn)))
-            found = s;
+        if (!may_go(&slots[i], origin))
+            continue;
+        enum kind kind = kind_of(&slots[i]);
+        count[kind]++;
+        if (!oldest[kind] || slots[i].turn < oldest[kind]->turn)
+            oldest[kind] = &slots[i];
     }
-    return found;
+    if (oldest[OVER])
+        return oldest[OVER];
+    return count[GREETED] > count[SILENT] ? oldest[GREETED] : oldest[SILENT];
 }
 
 static bool same_gate(const struct connection *a, const struct connection *b)

@@ -50,8 +50,9 @@ bool place_logged_in(const struct slot *s);
 /* How many unfinished handshakes of this origin there are. */
 size_t places_of_origin(const struct origin *origin);
 
-/* Who goes for another client: of this origin an unfinished handshake, one that has not even sent its hello before one that has; with NULL of all, and a
- * connection that is over before both. Of each kind the oldest goes. NULL: nobody. */
+/* Who goes for another client: of this origin an unfinished handshake, with NULL one of all, or, before these, a connection that is over. Of the handshakes
+ * that have not even a hello and those that have one the more numerous kind gives its oldest: a crowd that does the one makes no room of those who do the
+ * other. NULL: nobody. */
 struct slot *place_to_go(const struct origin *origin);
 
 /* Of the logged-in connections of the same gate as s their number, and the oldest. */

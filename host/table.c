@@ -4,11 +4,13 @@
 
 #include <ctype.h>
 #include <errno.h>
+#include <fcntl.h>
 #include <openssl/crypto.h>
 #include <stdio.h>
 #include <string.h>
 #include <strings.h>
 #include <sys/stat.h>
+#include <unistd.h>
 
 /* ---- lines of a well-formed table */
 
@@ -154,27 +156,35 @@ static void explain(const uint8_t *table, size_t n, char why[TABLE_SENTENCE])
 
 /* ---- reading */
 
-/* Reads the file, as far as the memory goes; false with the reason where that fails. */
-static bool read_file(struct table *table, const char *file, char why[TABLE_SENTENCE])
+/* Reads the open file, as far as the memory goes. */
+static bool read_all(struct table *table, int fd)
 {
-    struct stat about;
-    FILE *f = fopen(file, "rb");
-    if (f)
-        setvbuf(f, NULL, _IONBF, 0); /* no second copy of the keys */
-    table->n = f ? fread(table->bytes, 1, sizeof table->bytes, f) : 0;
-    bool failed = !f || ferror(f) || fstat(fileno(f), &about) != 0;
-    if (failed)
-        snprintf(why, TABLE_SENTENCE, "%s", strerror(errno));
-    else
-        table->readable = (about.st_mode & (S_IRGRP | S_IROTH)) != 0;
-    if (f)
-        fclose(f);
-    return !failed;
+    ssize_t n = 1;
+    for (table->n = 0; n > 0 && table->n < sizeof table->bytes; table->n += n > 0 ? (size_t)n : 0)
+        n = read(fd, table->bytes + table->n, sizeof table->bytes - table->n);
+    return n >= 0;
 }
 
-bool table_read(struct table *table, const char *file, char why[TABLE_SENTENCE])
+/* Reads the file; false with the reason where that fails. */
+static bool read_file(struct table *table, const char *file, bool again, char why[TABLE_SENTENCE])
 {
-    bool good = read_file(table, file, why);
+    struct stat about;
+    int fd = open(file, O_RDONLY | O_CLOEXEC | O_NOCTTY | (again ? O_NONBLOCK : 0));
+    bool known = fd >= 0 && fstat(fd, &about) == 0;
+    bool lasting = known && (!again || S_ISREG(about.st_mode));
+    bool good = lasting && read_all(table, fd);
+    if (!good)
+        snprintf(why, TABLE_SENTENCE, "%s", known && !lasting ? "it is no file, and can't be read again" : strerror(errno));
+    else
+        table->readable = S_ISREG(about.st_mode) && (about.st_mode & (S_IRGRP | S_IROTH)) != 0;
+    if (fd >= 0)
+        close(fd);
+    return good;
+}
+
+bool table_read(struct table *table, const char *file, bool again, char why[TABLE_SENTENCE])
+{
+    bool good = read_file(table, file, again, why);
     if (good && tn_table_test(table->bytes, table->n) != 0) {
         explain(table->bytes, table->n, why);
         good = false;

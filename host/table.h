@@ -17,8 +17,9 @@ struct table {
     bool readable; /* by others than its owner */
 };
 
-/* Reads the file whole and tests it. False where that can't be done; `why` then says what is wrong, and the table is cleared. */
-bool table_read(struct table *table, const char *file, char why[TABLE_SENTENCE]);
+/* Reads the file whole and tests it. False where that can't be done; `why` then says what is wrong, and the table is cleared. A table may come through a pipe,
+ * but not again: nobody can say how long that takes, and an empty one would retire all gates. */
+bool table_read(struct table *table, const char *file, bool again, char why[TABLE_SENTENCE]);
 
 /* Puts the table into force, and clears the one before and the memory that it was read into. */
 void table_use(struct settings *settings, struct table *table);

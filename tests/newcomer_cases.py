@@ -27,7 +27,7 @@ def command_line():
                         (["--version"], f"gateway of turretnail {VERSION}\n")]:
         asked = Program([GATEWAY, *words])
         assert asked.end() == 0 and asked.text.startswith(said), asked.text
-    for words, named in [(["--nonsense"], "--nonsense"), (["-x"], "-x"), (["--port"], "--port"), (["--port", "x"], "--port"), (["--rule", "loud"], "loud"),
+    for words, named in [(["--nonsense"], "--nonsense"), (["-x"], "-x"), (["-xh"], "-x"), (["--per", "1"], "--per"), (["--port"], "--port"), (["--port", "x"], "--port"), (["--rule", "loud"], "loud"),
                          (["--clients", "0"], "--clients"), (["--per-gate", "0"], "--per-gate"), (["--per-address", "-1"], "--per-address"),
                          (["--failed-lines", ""], "--failed-lines"), (["--help=me"], "--help=me"), (["more"], "more"), ([], "--table")]:
         bad = Program([GATEWAY, *words])
@@ -84,6 +84,9 @@ def faults():
             table.unlink()
             g.process.send_signal(signal.SIGHUP)
             assert g.next_line() == f"{table}: No such file or directory; the old table stays"
+            os.mkfifo(table)
+            g.process.send_signal(signal.SIGHUP)
+            assert g.next_line() == f"{table}: it is no file, and can't be read again; the old table stays"
             plain(g).handshake().bye()
             g.line("complete", "gate7", NULL)
 
@@ -102,6 +105,29 @@ def warnings():
                 assert [re.sub(STAMP, "", line) for line in g.text.splitlines()[:-1]] == wanted, g.text
                 g.process.send_signal(signal.SIGHUP)
                 assert [g.next_line() for _ in wanted] == wanted and g.next_line() == f"{table} read again, gates: 2"
+
+
+@case("GnuTLS's psktool writes a table")
+def psktool():
+    with tempfile.TemporaryDirectory() as folder:
+        table = pathlib.Path(folder) / "gates.psk"
+        for name in ("gate7", "gate8"):
+            assert Program(["psktool", "-u", name, "-p", table]).end() == 0
+        key = bytes.fromhex(re.search(r"^gate8:(\w+)$", table.read_text(), re.M)[1])
+        with gateway("--table", table) as g:
+            Client(g.port, identity=b"gate8", key=key, timeout=LIMIT).handshake().bye()
+            g.line("complete", "gate8", NULL)
+
+
+@case("a table that comes through a pipe, once")
+def piped():
+    reading, writing = os.pipe()
+    os.write(writing, TABLE.read_bytes())
+    os.close(writing)
+    with gateway("--table", f"/dev/fd/{reading}", pass_fds=[reading]) as g:
+        os.close(reading)
+        plain(g).handshake().bye()
+        g.line("complete", "gate7", NULL)
 
 
 # ---- enrolment lines

