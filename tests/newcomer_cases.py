@@ -7,7 +7,7 @@ import signal
 import subprocess
 import tempfile
 
-from harness import GATEWAY, KEY, LIMIT, STAMP, TABLE, Program, case, gateway, until
+from harness import GATEWAY, KEY, LIMIT, STAMP, TABLE, Program, case, gateway
 from plain_client import DATA, Client
 
 ROOT = pathlib.Path(__file__).resolve().parent.parent

@@ -10,7 +10,7 @@ import tempfile
 import threading
 import time
 
-from harness import GATEWAY, KEY, LIMIT, NAMES, TABLE, Gateway, Program, case, gateway, until
+from harness import GATEWAY, KEY, LIMIT, NAMES, TABLE, Gateway, Program, case, gateway
 from plain_client import ALERT, CHANGE, DATA, HANDSHAKE, Client, message, record
 
 NULL = "PSK-NULL-SHA256"
