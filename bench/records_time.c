@@ -50,12 +50,12 @@ static int64_t sample(const struct protection *p, const uint8_t *record)
     uint8_t bytes[RECORD];
     struct protection reading = *p;
     size_t start, length;
-    unsigned core;
     memcpy(bytes, record, sizeof bytes);
     _mm_lfence();
     uint64_t from = __rdtsc();
     enum record_verdict verdict = record_open(&reading, bytes, sizeof bytes, &start, &length);
-    uint64_t to = __rdtscp(&core);
+    _mm_lfence();
+    uint64_t to = __rdtsc();
     must(verdict == RECORD_BAD, "a record with a wrong MAC was opened");
     return (int64_t)(to - from);
 }

@@ -23,7 +23,7 @@ static void hand(struct connection *c, const struct settings *settings, const ui
 }
 
 /* The table's last name with another last byte, one that is no UTF-8: listed nowhere, and as long in being compared as the last. Its length. */
-static size_t unlisted(const struct settings *settings, uint8_t name[TN_IDENTITY_LIMIT])
+static size_t unlisted_name(const struct settings *settings, uint8_t name[TN_IDENTITY_LIMIT])
 {
     size_t at = settings->table_len, n = 0;
     while (at > 1 && settings->table[at - 2] != '\n')
@@ -51,7 +51,7 @@ void work_measure(const struct settings *settings)
     int64_t taken[TRIES];
     int32_t hello_len = tn_write_client_hello(0x0303, random, sizeof random, random, 0, suites, sizeof suites, methods, sizeof methods, false, random, 0,
                                               hello, sizeof hello);
-    int32_t exchange_len = tn_write_client_key_exchange(name, unlisted(settings, name), exchange, sizeof exchange);
+    int32_t exchange_len = tn_write_client_key_exchange(name, unlisted_name(settings, name), exchange, sizeof exchange);
     for (size_t i = 0; i < TRIES; i++) {
         if (!connection_start(&trial, settings) || !tn_is_count(hello_len) || !tn_is_count(exchange_len))
             return;
