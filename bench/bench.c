@@ -2,7 +2,7 @@
  * The benchmark's main program:
  *
  *     bench           every case
- *     bench CASE..    hash, handshake, parts, hellos, logins or stack
+ *     bench CASE..    hash, handshake, parts, hellos, logins, records or stack
  */
 #include <stdio.h>
 #include <string.h>
@@ -14,7 +14,8 @@ static const struct {
     const char *name;
     void (*run)(void);
 } cases[] = {
-    {"hash", bench_hash}, {"handshake", bench_handshake}, {"parts", bench_parts}, {"hellos", bench_hellos}, {"logins", bench_logins}, {"stack", bench_stack},
+    {"hash", bench_hash}, {"handshake", bench_handshake}, {"parts", bench_parts}, {"hellos", bench_hellos}, {"logins", bench_logins},
+    {"records", bench_records}, {"stack", bench_stack},
 };
 
 enum { CASES = sizeof cases / sizeof *cases };
@@ -27,7 +28,7 @@ static void run_named(const char *name)
             return;
         }
     }
-    must(0, "the cases are hash, handshake, parts, hellos, logins and stack");
+    must(0, "the cases are hash, handshake, parts, hellos, logins, records and stack");
 }
 
 /* The CPU's kind, since times mean little without it. */

@@ -9,6 +9,7 @@ void bench_handshake(void);
 void bench_parts(void);
 void bench_hellos(void);
 void bench_logins(void);
+void bench_records(void);
 void bench_stack(void);
 
 /* The same program in another process, started by bench_hash: times OpenSSL's hash for each byte that comes on its input. */

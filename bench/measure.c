@@ -29,7 +29,7 @@ void stay_on_one_core(void)
 {
     cpu_set_t one;
     CPU_ZERO(&one);
-    CPU_SET(sched_getcpu(), &one);
+    CPU_SET((size_t)sched_getcpu(), &one);
     must(sched_setaffinity(0, sizeof one, &one) == 0, "the process can't stay on a core");
 }
 

@@ -63,6 +63,8 @@ void bench_stack(void)
          "no thread");
     munmap(stack, STACK);
     printf("\nStack, bytes below the calling frame\n");
-    for (size_t i = 0; i < MEASURED; i++)
+    for (size_t i = 0; i < MEASURED; i++) {
+        must(sizes[i] <= TN_STACK_LIMIT, "a call reaches below TN_STACK_LIMIT");
         printf("  %-52s %9zu\n", i < PARTS ? parts[i].name : i == LARGE ? "start and a ClientHello of 16 KiB" : "no call", sizes[i]);
+    }
 }

@@ -11,6 +11,7 @@
 #include <string.h>
 
 #include "entropy.h"
+#include "wipe.h"
 
 enum {
     ALERT_CLOSE_NOTIFY = 0,
@@ -65,29 +66,50 @@ static void refuse_result(struct connection *c, int32_t result)
     refuse(c, tn_is_alert(result) ? tn_alert_number(result) : ALERT_INTERNAL_ERROR);
 }
 
-void connection_close(struct connection *c, enum outcome why)
+static __attribute__((noinline)) void say_goodbye(struct connection *c, enum outcome why)
 {
     const uint8_t content[2] = {LEVEL_WARNING, ALERT_CLOSE_NOTIFY};
-    if (c->ended)
-        return;
     (void)queue(c, RECORD_ALERT, content, sizeof content);
     conclude(c, why, 0);
 }
 
-void connection_lost(struct connection *c)
+/* ---- no key outlives its use */
+
+/* The last step of each public function that may have handled keys, of which the work stands in a function that is not inlined: its frame is then among those
+ * that are cleared. A connection that is over needs no key, also while its last alert is still to be sent. */
+static void leave(struct connection *c)
+{
+    if (c->ended) {
+        OPENSSL_cleanse(c->login, sizeof c->login);
+        OPENSSL_cleanse(&c->reading, sizeof c->reading);
+        OPENSSL_cleanse(&c->writing, sizeof c->writing);
+        OPENSSL_cleanse(&c->next_reading, sizeof c->next_reading);
+        OPENSSL_cleanse(&c->next_writing, sizeof c->next_writing);
+        records_forget();
+    }
+    wipe_stack();
+}
+
+void connection_close(struct connection *c, enum outcome why)
 {
     if (c->ended)
         return;
-    if (complete(c))
-        c->ended = true;
-    else
+    say_goodbye(c, why);
+    leave(c);
+}
+
+void connection_lost(struct connection *c)
+{
+    if (!c->ended)
         conclude(c, OUTCOME_CLOSED, 0);
+    leave(c);
 }
 
 void connection_clear(struct connection *c)
 {
     OPENSSL_cleanse(c, sizeof *c);
     records_forget();
+    wipe_stack();
 }
 
 bool connection_start(struct connection *c, const struct settings *settings)
@@ -95,9 +117,10 @@ bool connection_start(struct connection *c, const struct settings *settings)
     connection_clear(c);
     if (!entropy_fill(c->server_random, sizeof c->server_random))
         return false;
-    return tn_start(c->login, c->server_random, sizeof c->server_random, (const uint8_t *)settings->hint, strlen(settings->hint), settings->stand_in,
-                    sizeof settings->stand_in, settings->rule)
-           == 0;
+    int32_t result = tn_start(c->login, c->server_random, sizeof c->server_random, (const uint8_t *)settings->hint, strlen(settings->hint),
+                              settings->stand_in, sizeof settings->stand_in, settings->rule);
+    leave(c);
+    return result == 0;
 }
 
 /* ---- handshake messages */
@@ -132,6 +155,7 @@ static bool finish(struct connection *c, const uint8_t *finished, size_t n)
     if (!queue(c, RECORD_CHANGE_CIPHER_SPEC, change, sizeof change))
         return false;
     c->writing = c->next_writing;
+    OPENSSL_cleanse(&c->next_writing, sizeof c->next_writing);
     if (!queue(c, RECORD_HANDSHAKE, finished, n))
         return false;
     c->login_outcome = OUTCOME_COMPLETE;
@@ -157,7 +181,10 @@ static bool accepted(struct connection *c, const uint8_t *answer, size_t n, cons
 static void note_identity(struct connection *c)
 {
     uint32_t fields[2];
-    if (tn_phase(c->login) != TN_PHASE_CLIENT_KEY_EXCHANGE || tn_read_client_key_exchange(c->message, c->message_len, fields) != 0)
+    if (tn_phase(c->login) != TN_PHASE_CLIENT_KEY_EXCHANGE)
+        return;
+    c->judged = true;
+    if (tn_read_client_key_exchange(c->message, c->message_len, fields) != 0)
         return;
     c->identity_known = true;
     c->identity_len = fields[1];
@@ -222,10 +249,12 @@ static void change_of_cipher(struct connection *c, const uint8_t *bytes, size_t 
         return;
     }
     int32_t result = tn_change_of_cipher(c->login);
-    if (result != 0)
+    if (result != 0) {
         refuse_result(c, result);
-    else
-        c->reading = c->next_reading;
+        return;
+    }
+    c->reading = c->next_reading;
+    OPENSSL_cleanse(&c->next_reading, sizeof c->next_reading);
 }
 
 /* An alert after completion is ours to judge, by the same rules. */
@@ -234,7 +263,7 @@ static void alert_later(struct connection *c, uint8_t level, uint8_t description
     if (level != LEVEL_WARNING && level != LEVEL_FATAL)
         refuse(c, TN_ALERT_ILLEGAL_PARAMETER);
     else if (description == ALERT_CLOSE_NOTIFY)
-        connection_close(c, OUTCOME_NONE);
+        say_goodbye(c, OUTCOME_NONE);
     else if (level == LEVEL_FATAL)
         conclude(c, OUTCOME_ALERT_RECEIVED, description);
 }
@@ -258,15 +287,20 @@ static void alert_received(struct connection *c, const uint8_t *bytes, size_t n)
 
 /* ---- enrolment lines */
 
-/* The answer to the line that has just ended, at `answer`; its length. */
+/* The answer to the line that has just ended, at `answer`; its length. An empty line enrols nobody. */
 static size_t line_answer(struct connection *c, uint8_t *answer)
 {
-    memcpy(answer, answer_front, ANSWER_FRONT);
-    memcpy(answer + ANSWER_FRONT, c->line, c->line_len);
-    answer[ANSWER_FRONT + c->line_len] = '\n';
-    size_t n = ANSWER_FRONT + c->line_len + 1;
+    size_t length = c->line_len;
     c->line_len = 0;
-    return n;
+    c->lines++;
+    if (length > 0 && c->line[length - 1] == '\r')
+        length--;
+    if (length == 0)
+        return 0;
+    memcpy(answer, answer_front, ANSWER_FRONT);
+    memcpy(answer + ANSWER_FRONT, c->line, length);
+    answer[ANSWER_FRONT + length] = '\n';
+    return ANSWER_FRONT + length + 1;
 }
 
 /* Answers as many lines as one record takes; false at a line that is too long. */
@@ -279,7 +313,7 @@ static bool answer_some(struct connection *c)
         uint8_t byte = c->in[c->lines_at++];
         if (byte == '\n')
             n += line_answer(c, answers + n);
-        else if (c->line_len < sizeof c->line)
+        else if (c->line_len < LINE_LIMIT || (c->line_len == LINE_LIMIT && byte == '\r'))
             c->line[c->line_len++] = byte;
         else
             fits = false;
@@ -290,7 +324,7 @@ static bool answer_some(struct connection *c)
 }
 
 /* Answers lines until all that came are, or there is no room to answer more before something is sent. */
-static void answer_lines(struct connection *c)
+static __attribute__((noinline)) void answer_lines(struct connection *c)
 {
     while (c->lines_at < c->lines_end && !c->ended && c->out_end + ANSWERS_SIZE + RECORD_SEAL_OVERHEAD + ALERT_RESERVE <= sizeof c->out)
         if (!answer_some(c) && !c->ended)
@@ -360,7 +394,8 @@ size_t connection_wants(const struct connection *c)
     return c->ended || c->lines_at < c->lines_end ? 0 : record_size(c) - c->in_len;
 }
 
-bool connection_received(struct connection *c, const struct settings *settings, size_t n)
+/* As connection_received. */
+static __attribute__((noinline)) bool take(struct connection *c, const struct settings *settings, size_t n)
 {
     bool header = c->in_len < RECORD_HEADER;
     c->in_len += n;
@@ -374,11 +409,22 @@ bool connection_received(struct connection *c, const struct settings *settings, 
     return true;
 }
 
+bool connection_received(struct connection *c, const struct settings *settings, size_t n)
+{
+    bool record = take(c, settings, n);
+    if (record || c->ended)
+        leave(c);
+    return record;
+}
+
 void connection_sent(struct connection *c, size_t n)
 {
     c->out_at += n;
     if (c->out_at < c->out_end)
         return;
     c->out_at = c->out_end = 0;
+    if (c->lines_at == c->lines_end)
+        return;
     answer_lines(c);
+    leave(c);
 }

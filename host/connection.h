@@ -1,6 +1,7 @@
 /*
  * One client of the gateway, apart from its socket: bytes that came go in, bytes to be sent come out. Joins records to handshake messages, hands these to the
- * library, changes ciphers, sends and takes alerts, and serves the enrolment lines: each line X is answered with "enrolled X".
+ * library, changes ciphers, sends and takes alerts, and serves the enrolment lines: each line X is answered with "enrolled X", an empty one with nothing. A
+ * line ends in LF, and a CR before that is no part of it.
  */
 #ifndef HOST_CONNECTION_H
 #define HOST_CONNECTION_H
@@ -34,7 +35,10 @@ enum outcome {
     OUTCOME_ALERT_RECEIVED,
     OUTCOME_CLOSED,
     OUTCOME_TIME_OUT,
-    OUTCOME_STOPPED
+    OUTCOME_STOPPED,   /* the gateway stops */
+    OUTCOME_MADE_ROOM, /* an unfinished handshake went for another client */
+    OUTCOME_REPLACED,  /* the gate has logged in too often since */
+    OUTCOME_RETIRED    /* a new table has come that the login was not judged by */
 };
 
 struct connection {
@@ -52,14 +56,17 @@ struct connection {
     uint8_t identity[TN_IDENTITY_LIMIT];
     size_t identity_len; /* as the client named it; only so many bytes as fit are kept */
     bool identity_known;
+    bool judged;   /* a message came where a ClientKeyExchange was awaited: the table may have been looked at */
+    bool unlisted; /* under the rule hide, and the gateway's own finding: the table has no such gate */
 
     uint8_t in[RECORD_LIMIT]; /* the record that is coming */
     size_t in_len;
     size_t lines_at, lines_end; /* application data in `in` that is not yet answered */
     uint8_t message[TN_MESSAGE_LIMIT];
     size_t message_len;
-    uint8_t line[LINE_LIMIT];
+    uint8_t line[LINE_LIMIT + 1]; /* room for a CR */
     size_t line_len;
+    unsigned long lines; /* that ended, empty ones too */
     uint8_t out[OUT_SIZE];
     size_t out_at, out_end;
 };
@@ -76,7 +83,7 @@ bool connection_received(struct connection *c, const struct settings *settings, 
 /* So many bytes from c->out + c->out_at on were sent. */
 void connection_sent(struct connection *c, size_t n);
 
-/* Ends the connection from our side, with close_notify: a time-out, or the gateway stops. */
+/* Ends the connection from our side, with close_notify. */
 void connection_close(struct connection *c, enum outcome why);
 
 /* The client closed its side, or the transport broke. */

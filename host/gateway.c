@@ -1,262 +1,156 @@
 /*
- * The gateway: a TLS 1.2 server with pre-shared keys over the library, one poll loop for all its clients. It does sockets, time and signals; a client's bytes
- * are connection.c's.
+ * The gateway: a TLS 1.2 server with pre-shared keys over the library, one poll loop for all its clients. It takes clients in, reads the table and
+ * waits for events, time and signals; client.c serves a client, places.c says who goes where there are too many.
  */
-#include <arpa/inet.h>
 #include <errno.h>
-#include <fcntl.h>
-#include <netinet/in.h>
-#include <netinet/tcp.h>
 #include <openssl/crypto.h>
 #include <poll.h>
 #include <signal.h>
 #include <stdio.h>
+#include <stdlib.h>
 #include <string.h>
-#include <sys/socket.h>
-#include <time.h>
+#include <sys/select.h>
 #include <unistd.h>
 
-#include "connection.h"
+#include "client.h"
 #include "entropy.h"
-#include "options.h"
+#include "listener.h"
+#include "log.h"
 #include "report.h"
 #include "table.h"
+#include "wipe.h"
+#include "work.h"
 
 enum {
-    CLIENTS = 64,
-    LINGER_MS = 1000, /* for what was said last, and for the client to close */
-    TURNS = 16        /* reads of one client before the others get theirs */
+    ARRIVALS = 32,   /* clients that are taken in before the others get their turn */
+    TROUBLE_MS = 100 /* rest after the system has refused a call */
 };
 
-/* A place for a client. */
-struct slot {
-    int fd; /* -1: free */
-    bool said_all; /* our side is closed, and what still comes is dropped */
-    bool login_reported, later_reported;
-    int64_t deadline; /* in milliseconds */
-    char address[INET6_ADDRSTRLEN + 10];
-    struct connection connection;
-};
-
-static struct slot slots[CLIENTS];
-static struct settings settings;
-static struct options options;
+struct settings settings;
+struct options options;
 static unsigned long accepted_in_all;
+static int64_t accept_from; /* no sooner, after trouble */
 static volatile sig_atomic_t stop_asked, reload_asked;
 
-static int64_t milliseconds(void)
-{
-    struct timespec now;
-    clock_gettime(CLOCK_MONOTONIC, &now);
-    return (int64_t)now.tv_sec * 1000 + now.tv_nsec / 1000000;
-}
+/* ---- clients that come */
 
-/* ---- one client */
-
-/* Prints what has become of the login, and of the connection after it where that is worth a line. */
-static void tell(struct slot *s)
+/* Sees to it that there is a place for a client of this origin, and that this origin has not too many. */
+static struct slot *find_room(const struct origin *origin, const char *address)
 {
-    const struct connection *c = &s->connection;
-    if (!s->login_reported && c->login_outcome != OUTCOME_NONE) {
-        s->login_reported = true;
-        report(s->address, c, c->login_outcome);
+    static struct pace full, crowded;
+    if (places_of_origin(origin) >= options.per_address) {
+        if (pace_allows(&crowded, 1))
+            log_line("%s: its address has %lu unfinished handshakes, the most allowed: the oldest goes", address, options.per_address);
+        client_end_at_once(place_to_go(origin), OUTCOME_MADE_ROOM);
     }
-    if (!s->later_reported && c->later_outcome != OUTCOME_NONE) {
-        s->later_reported = true;
-        if (c->later_outcome != OUTCOME_STOPPED)
-            report(s->address, c, c->later_outcome);
+    if (!place_free()) {
+        struct slot *goes = place_to_go(NULL);
+        if (!goes->connection.ended && pace_allows(&full, 1))
+            log_line("all %zu places are taken: the oldest unfinished handshake goes", places);
+        client_end_at_once(goes, OUTCOME_MADE_ROOM);
     }
+    return place_free();
 }
 
-static void drop(struct slot *s)
+/* What the system has refused is said, at most once a second, and not asked again at once. */
+static void trouble(const char *call, const char *error)
 {
-    connection_lost(&s->connection);
-    tell(s);
-    close(s->fd);
-    connection_clear(&s->connection);
-    s->fd = -1;
+    static struct pace said;
+    if (pace_allows(&said, 1))
+        log_line("%s: %s", call, error);
 }
 
-/* Sends what there is to send; false where the transport is broken. */
-static bool send_some(struct slot *s)
+static void welcome(int fd, const struct sockaddr_storage *from)
 {
-    struct connection *c = &s->connection;
-    while (c->out_at < c->out_end) {
-        ssize_t n = send(s->fd, c->out + c->out_at, c->out_end - c->out_at, MSG_NOSIGNAL);
-        if (n < 0)
-            return errno == EAGAIN || errno == EWOULDBLOCK || errno == EINTR;
-        connection_sent(c, (size_t)n);
-    }
-    return true;
-}
-
-/* Reads what there is, for some turns; false where the client is gone and nothing is left to be sent. */
-static bool receive_some(struct slot *s)
-{
-    struct connection *c = &s->connection;
-    for (int turn = 0; turn < TURNS; turn++) {
-        size_t wanted = connection_wants(c);
-        if (wanted == 0)
-            return true;
-        ssize_t n = recv(s->fd, c->in + c->in_len, wanted, 0);
-        if (n < 0)
-            return errno == EAGAIN || errno == EWOULDBLOCK || errno == EINTR;
-        if (n == 0) {
-            connection_lost(c);
-            return c->out_at < c->out_end;
-        }
-        bool record = connection_received(c, &settings, (size_t)n);
-        if (record && c->login_outcome == OUTCOME_COMPLETE)
-            s->deadline = milliseconds() + 1000 * (int64_t)options.idle_seconds;
-        if (!send_some(s))
-            return false;
-    }
-    return true;
-}
-
-/* Drops what still comes after all was said; false once the client has closed its side too. A close with unread bytes would take our last alert along. */
-static bool discard(const struct slot *s)
-{
-    uint8_t dropped[4096];
-    ssize_t n = recv(s->fd, dropped, sizeof dropped, 0);
-    return n > 0 || (n < 0 && (errno == EAGAIN || errno == EWOULDBLOCK || errno == EINTR));
-}
-
-/* The connection is over, and its last bytes are sent as far as they can be. */
-static void wind_up(struct slot *s)
-{
-    struct connection *c = &s->connection;
-    tell(s);
-    if (c->ended && c->out_at == c->out_end && !s->said_all) {
-        s->said_all = true;
-        s->deadline = milliseconds() + LINGER_MS;
-        shutdown(s->fd, SHUT_WR);
-    }
-}
-
-static void serve(struct slot *s, short events)
-{
-    struct connection *c = &s->connection;
-    bool was_over = c->ended;
-    bool here = send_some(s);
-    if (here && s->said_all)
-        here = discard(s);
-    else if (here && (events & (POLLIN | POLLHUP | POLLERR)) && !c->ended)
-        here = receive_some(s);
-    if (!here) {
-        drop(s);
-        return;
-    }
-    wind_up(s);
-    if (c->ended && !was_over && !s->said_all)
-        s->deadline = milliseconds() + LINGER_MS;
-}
-
-/* Its time is over: close_notify first, and where even that can't be sent in time, the end. */
-static void expire(struct slot *s)
-{
-    if (s->connection.ended) {
-        drop(s);
-        return;
-    }
-    connection_close(&s->connection, OUTCOME_TIME_OUT);
-    s->deadline = milliseconds() + LINGER_MS;
-    serve(s, 0);
-}
-
-/* ---- the listener */
-
-static struct slot *free_slot(void)
-{
-    for (size_t i = 0; i < CLIENTS; i++)
-        if (slots[i].fd < 0)
-            return &slots[i];
-    return NULL;
-}
-
-static bool accepting(void)
-{
-    return free_slot() && (options.once == 0 || accepted_in_all < options.once);
-}
-
-/* The address and port of a socket as text. */
-static void name_address(const struct sockaddr_storage *from, char *text, size_t size)
-{
-    char address[INET6_ADDRSTRLEN] = "?";
-    snprintf(text, size, "%s", address);
-    if (from->ss_family == AF_INET) {
-        const struct sockaddr_in *in = (const struct sockaddr_in *)from;
-        inet_ntop(AF_INET, &in->sin_addr, address, sizeof address);
-        snprintf(text, size, "%s:%u", address, (unsigned)ntohs(in->sin_port));
-    } else if (from->ss_family == AF_INET6) {
-        const struct sockaddr_in6 *in6 = (const struct sockaddr_in6 *)from;
-        inet_ntop(AF_INET6, &in6->sin6_addr, address, sizeof address);
-        snprintf(text, size, "[%s]:%u", address, (unsigned)ntohs(in6->sin6_port));
-    }
-}
-
-static void welcome(int listener)
-{
-    struct sockaddr_storage from = {0};
-    socklen_t size = sizeof from;
-    int fd = accept4(listener, (struct sockaddr *)&from, &size, SOCK_NONBLOCK | SOCK_CLOEXEC);
-    if (fd < 0)
-        return;
-    struct slot *s = free_slot();
+    char address[sizeof slots->address];
+    struct origin origin = address_origin(from);
+    address_text(from, address, sizeof address);
+    struct slot *s = find_room(&origin, address);
     accepted_in_all++;
     if (!connection_start(&s->connection, &settings)) {
-        fprintf(stderr, "gateway: no connection could be started\n");
+        trouble(address, "no connection could be started");
         close(fd);
         return;
     }
-    int on = 1;
-    setsockopt(fd, IPPROTO_TCP, TCP_NODELAY, &on, sizeof on);
     s->fd = fd;
     s->said_all = s->login_reported = s->later_reported = false;
+    s->turn = places_turn();
+    s->lines = 0;
+    s->rest = (struct rest){0};
+    s->origin = origin;
     s->deadline = milliseconds() + 1000 * (int64_t)options.handshake_seconds;
-    name_address(&from, s->address, sizeof s->address);
+    memcpy(s->address, address, sizeof address);
+    client_serve(s, POLLIN); /* its hello has often come along, and then it is not silent */
 }
 
-static bool address_of(struct sockaddr_storage *at, socklen_t *size)
+/* Whether a client that comes now can have a place. */
+static bool accepting(void)
 {
-    struct sockaddr_in *in = (struct sockaddr_in *)at;
-    struct sockaddr_in6 *in6 = (struct sockaddr_in6 *)at;
-    memset(at, 0, sizeof *at);
-    if (inet_pton(AF_INET, options.address, &in->sin_addr) == 1) {
-        in->sin_family = AF_INET;
-        in->sin_port = htons(options.port);
-        *size = sizeof *in;
-        return true;
-    }
-    if (inet_pton(AF_INET6, options.address, &in6->sin6_addr) == 1) {
-        in6->sin6_family = AF_INET6;
-        in6->sin6_port = htons(options.port);
-        *size = sizeof *in6;
-        return true;
-    }
-    return false;
+    return milliseconds() >= accept_from && (options.once == 0 || accepted_in_all < options.once) && (place_free() || place_to_go(NULL));
 }
 
-/* The listening socket, or -1 with a line on standard error. */
-static int listen_there(void)
+static void take_in(int listener)
 {
-    struct sockaddr_storage at;
-    socklen_t size;
-    int on = 1;
-    if (!address_of(&at, &size)) {
-        fprintf(stderr, "gateway: --address: '%s' is no IPv4 or IPv6 address\n", options.address);
-        return -1;
+    for (int i = 0; i < ARRIVALS && accepting(); i++) {
+        struct sockaddr_storage from;
+        int error, fd = listener_accept(listener, &from, &error);
+        if (fd >= 0) {
+            welcome(fd, &from);
+            continue;
+        }
+        if (error != 0) {
+            trouble("accept", strerror(error));
+            accept_from = milliseconds() + TROUBLE_MS;
+        }
+        return;
     }
-    int fd = socket(at.ss_family, SOCK_STREAM | SOCK_NONBLOCK | SOCK_CLOEXEC, 0);
-    if (fd >= 0)
-        setsockopt(fd, SOL_SOCKET, SO_REUSEADDR, &on, sizeof on);
-    if (fd < 0 || bind(fd, (const struct sockaddr *)&at, size) != 0 || listen(fd, CLIENTS) != 0) {
-        fprintf(stderr, "gateway: %s port %u: %s\n", options.address, (unsigned)options.port, strerror(errno));
-        if (fd >= 0)
-            close(fd);
-        return -1;
+}
+
+/* ---- the table */
+
+/* What is odd about a table that is well formed. */
+static void warn(const struct table *table)
+{
+    if (table->marked)
+        log_line("warning: %s begins with a byte order mark, which counts as part of the first gate's name", options.table);
+    if (table->readable)
+        log_line("warning: %s has keys and can be read by others than its owner: chmod 600", options.table);
+}
+
+/* Whoever logged in by a line that the new table has not loses its connection. A login that is between naming its gate and its end was judged by the old
+ * table, and ends whatever the name is, so that it can't be learned from that which names are listed. */
+static void retire(const struct table *fresh)
+{
+    for (size_t i = 0; i < places; i++) {
+        struct connection *c = &slots[i].connection;
+        if (slots[i].fd < 0 || c->ended || !c->identity_known)
+            continue;
+        if (c->login_outcome == OUTCOME_NONE || !table_keeps(&settings, fresh, c->identity, c->identity_len))
+            client_end(&slots[i], OUTCOME_RETIRED);
     }
-    return fd;
+}
+
+/* Reads the table, at the start or again; false where it can't be used. */
+static bool take_table(bool again)
+{
+    static struct table fresh;
+    char why[TABLE_SENTENCE];
+    if (!table_read(&fresh, options.table, again, why)) {
+        if (again)
+            log_line("%s: %s; the old table stays", options.table, why);
+        else
+            fprintf(stderr, "gateway: %s: %s\n", options.table, why);
+        return false;
+    }
+    warn(&fresh);
+    if (again)
+        retire(&fresh);
+    table_use(&settings, &fresh);
+    if (settings.rule == TN_RULE_HIDE)
+        work_measure(&settings);
+    if (again)
+        log_line("%s read again, gates: %zu", options.table, table_gates(&settings));
+    return true;
 }
 
 /* ---- the loop */
@@ -283,128 +177,156 @@ static void take_signals(sigset_t *waiting)
     sigprocmask(SIG_BLOCK, &blocked, waiting);
     for (size_t i = 0; i < sizeof numbers / sizeof numbers[0]; i++)
         sigdelset(waiting, numbers[i]);
-    signal(SIGPIPE, SIG_IGN);
 }
 
-static size_t in_use(void)
+/* What is polled: the listener, the log, then the clients, and whose each of these is. */
+static struct pollfd *polled;
+static struct slot **whose;
+enum { LISTENER, LOG, FIRST_CLIENT };
+
+/* The sooner of two times to wait, of which -1 is none. */
+static int64_t sooner(int64_t a, int64_t b)
 {
-    size_t n = 0;
-    for (size_t i = 0; i < CLIENTS; i++)
-        n += slots[i].fd >= 0;
+    return a < 0 || (b >= 0 && b < a) ? b : a;
+}
+
+static int64_t in_nanoseconds(int64_t ms)
+{
+    return ms < 0 ? ms : ms * 1000000;
+}
+
+/* Fills the list; its length, and the time in nanoseconds until there is something to do without an event, or -1. A client that rests has no events. */
+static size_t prepare(int listener, int64_t *wait)
+{
+    int64_t now = milliseconds();
+    size_t n = FIRST_CLIENT;
+    *wait = in_nanoseconds(sooner(report_rest(false), accept_from > now ? accept_from - now : -1));
+    polled[LISTENER] = (struct pollfd){.fd = accepting() ? listener : -1, .events = POLLIN};
+    polled[LOG] = (struct pollfd){.fd = log_waits_for(), .events = POLLOUT};
+    for (size_t i = 0; i < places; i++) {
+        if (slots[i].fd < 0)
+            continue;
+        int64_t rest = rest_left(&slots[i].rest);
+        whose[n] = &slots[i];
+        polled[n++] = (struct pollfd){.fd = rest > 0 ? -1 : slots[i].fd, .events = client_events(&slots[i])};
+        *wait = sooner(*wait, rest > 0 ? rest : in_nanoseconds(slots[i].deadline > now ? slots[i].deadline - now : 0));
+    }
     return n;
 }
 
-static short wanted_events(const struct slot *s)
+/* Those for whom something has come or can go, then those whose time is over. */
+static void serve_clients(size_t n, int woken)
 {
-    const struct connection *c = &s->connection;
-    short events = 0;
-    if (s->said_all || connection_wants(c) > 0)
-        events |= POLLIN;
-    if (c->out_at < c->out_end)
-        events |= POLLOUT;
-    return events;
-}
-
-/* Fills the list, whose first entry is the listener's and whose others are the slots'; the time until the first deadline, or -1. */
-static int64_t prepare(struct pollfd *polled, int listener)
-{
-    int64_t first = -1, now = milliseconds();
-    polled[0] = (struct pollfd){.fd = accepting() ? listener : -1, .events = POLLIN};
-    for (size_t i = 0; i < CLIENTS; i++) {
-        polled[1 + i] = (struct pollfd){.fd = slots[i].fd};
-        if (slots[i].fd < 0)
-            continue;
-        polled[1 + i].events = wanted_events(&slots[i]);
-        int64_t left = slots[i].deadline > now ? slots[i].deadline - now : 0;
-        if (first < 0 || left < first)
-            first = left;
-    }
-    return first;
-}
-
-static void turn(struct pollfd *polled, int listener, const sigset_t *waiting)
-{
-    int64_t wait = prepare(polled, listener);
-    struct timespec limit = {.tv_sec = (time_t)(wait / 1000), .tv_nsec = (long)(wait % 1000) * 1000000};
-    int woken = ppoll(polled, 1 + CLIENTS, wait < 0 ? NULL : &limit, waiting);
-    for (size_t i = 0; woken > 0 && i < CLIENTS; i++)
-        if (slots[i].fd >= 0 && polled[1 + i].revents)
-            serve(&slots[i], polled[1 + i].revents);
+    for (size_t i = FIRST_CLIENT; woken > 0 && i < n; i++)
+        if (polled[i].revents && whose[i]->fd == polled[i].fd)
+            client_serve(whose[i], polled[i].revents);
     int64_t now = milliseconds();
-    for (size_t i = 0; i < CLIENTS; i++)
+    for (size_t i = 0; i < places; i++)
         if (slots[i].fd >= 0 && slots[i].deadline <= now)
-            expire(&slots[i]);
-    if (woken > 0 && polled[0].revents)
-        welcome(listener);
+            client_end(&slots[i], OUTCOME_TIME_OUT);
+}
+
+static void turn(int listener, const sigset_t *waiting)
+{
+    int64_t wait;
+    size_t n = prepare(listener, &wait);
+    struct timespec limit = {.tv_sec = (time_t)(wait / 1000000000), .tv_nsec = (long)(wait % 1000000000)};
+    int woken = ppoll(polled, n, wait < 0 ? NULL : &limit, waiting);
+    if (woken < 0 && errno != EINTR) {
+        const struct timespec rest = {.tv_nsec = TROUBLE_MS * 1000000L};
+        trouble("ppoll", strerror(errno));
+        (void)pselect(0, NULL, NULL, NULL, &rest, waiting); /* signals come here too */
+    }
+    log_flush();
+    serve_clients(n, woken);
+    if (woken > 0 && polled[LISTENER].revents)
+        take_in(listener);
     if (reload_asked) {
         reload_asked = 0;
-        if (table_load(&settings, options.table))
-            printf("%s read again, gates: %zu\n", options.table, table_gates(&settings));
+        (void)take_table(true);
+        wipe_stack(); /* after the table's test, and where the signal's frame has kept registers */
     }
 }
 
 /* Until a signal, or until the connections that were asked for are over; then all that are left are closed. */
-static void run(int listener)
+static void run(int listener, const sigset_t *waiting)
 {
-    static struct pollfd polled[1 + CLIENTS];
-    sigset_t waiting;
-    take_signals(&waiting);
-    while (!stop_asked && (options.once == 0 || accepted_in_all < options.once || in_use() > 0))
-        turn(polled, listener, &waiting);
-    for (size_t i = 0; i < CLIENTS; i++) {
-        if (slots[i].fd < 0)
-            continue;
-        connection_close(&slots[i].connection, OUTCOME_STOPPED);
-        (void)send_some(&slots[i]);
-        drop(&slots[i]);
-    }
+    while (!stop_asked && (options.once == 0 || accepted_in_all < options.once || places_in_use() > 0))
+        turn(listener, waiting);
+    for (size_t i = 0; i < places; i++)
+        if (slots[i].fd >= 0)
+            client_end_at_once(&slots[i], OUTCOME_STOPPED);
+    (void)report_rest(true);
 }
 
-/* What can be tested before the first client comes: randomness, libcrypto, table, and by a trial start the hint. */
+/* Places, and what belongs to them. */
+static bool make_places(void)
+{
+    if (!places_allowed(options.clients))
+        return false;
+    polled = calloc(FIRST_CLIENT + options.clients, sizeof *polled);
+    whose = calloc(FIRST_CLIENT + options.clients, sizeof(struct slot *));
+    if (polled && whose && places_make(options.clients))
+        return true;
+    fprintf(stderr, "gateway: no memory for %lu clients\n", options.clients);
+    return false;
+}
+
+/* What can be tested before the first client comes: places, randomness, libcrypto, table, and by a trial start the hint. */
 static bool ready(void)
 {
-    struct connection *trial = &slots[0].connection;
     settings.hint = options.hint;
     settings.rule = options.rule;
+    if (!make_places())
+        return false;
     if (!records_start() || !entropy_fill(settings.stand_in, sizeof settings.stand_in)) {
         fprintf(stderr, "gateway: no cryptography or no randomness\n");
         return false;
     }
-    if (!table_load(&settings, options.table))
+    if (!take_table(false))
         return false;
+    struct connection *trial = &slots[0].connection;
     bool started = connection_start(trial, &settings);
     connection_clear(trial);
     if (!started)
-        fprintf(stderr, "gateway: --hint: not UTF-8, or more than %d bytes\n", TN_HINT_LIMIT);
+        fprintf(stderr, "gateway: --hint: not UTF-8, or more than %d bytes; --help lists the options\n", TN_HINT_LIMIT);
     return started;
 }
 
 static void announce(int listener)
 {
-    static const char *const rules[] = {"the library's own", "tell", "hide"};
+    static const char *const rules[] = {"tell (none was named)", "tell", "hide"};
     struct sockaddr_storage at = {0};
     socklen_t size = sizeof at;
     char text[INET6_ADDRSTRLEN + 10];
     getsockname(listener, (struct sockaddr *)&at, &size);
-    name_address(&at, text, sizeof text);
-    printf("listening on %s, gates in %s: %zu, rule: %s\n", text, options.table, table_gates(&settings), rules[options.rule]);
+    address_text(&at, text, sizeof text);
+    log_line("listening on %s, gates in %s: %zu, rule: %s, places: %zu", text, options.table, table_gates(&settings), rules[options.rule], places);
 }
 
 int main(int count, char **words)
 {
-    for (size_t i = 0; i < CLIENTS; i++)
-        slots[i].fd = -1;
-    setvbuf(stdout, NULL, _IOLBF, 0);
+    log_start();
     enum reading reading = options_read(&options, count, words);
     if (reading != OPTIONS_READ)
         return reading == OPTIONS_HELP ? 0 : 2;
-    int listener = ready() ? listen_there() : -1;
+    if (!forbid_dumps()) {
+        fprintf(stderr, "gateway: core dumps can't be forbidden: %s\n", strerror(errno));
+        return 1;
+    }
+    int listener = ready() ? listener_open(&options) : -1;
     if (listener >= 0) {
+        sigset_t waiting;
+        take_signals(&waiting);
         announce(listener);
-        run(listener);
+        run(listener, &waiting);
         close(listener);
     }
     records_stop();
     OPENSSL_cleanse(&settings, sizeof settings);
+    log_finish();
+    free(whose);
+    free(polled);
+    free(slots);
     return listener >= 0 ? 0 : 1;
 }

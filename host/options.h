@@ -10,14 +10,19 @@ struct options {
     const char *table;
     const char *hint;
     uint8_t rule;               /* one of TN_RULE_.. */
+    unsigned long hide_ms;      /* under hide: the tick at which the end of a login is seen; 0: at once */
     unsigned long once;         /* stop after so many connections; 0: never */
     unsigned handshake_seconds; /* for a whole handshake */
-    unsigned idle_seconds;      /* without a record, after it */
+    unsigned idle_seconds;      /* without an enrolment line, after it */
+    unsigned long clients;      /* at a time */
+    unsigned long per_address;  /* unfinished handshakes of one address */
+    unsigned long per_gate;     /* connections of one gate */
+    unsigned long failed_lines; /* on logins that failed, in a second */
 };
 
 enum reading { OPTIONS_READ, OPTIONS_HELP, OPTIONS_WRONG };
 
-/* Reads the command line. OPTIONS_HELP: the help was asked for and printed. OPTIONS_WRONG: a line on standard error says what is wrong. */
+/* Reads the command line. OPTIONS_HELP: help or version was asked for and printed. OPTIONS_WRONG: a line on standard error says what is wrong. */
 enum reading options_read(struct options *options, int count, char **words);
 
 #endif

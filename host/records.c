@@ -17,7 +17,8 @@ static const struct suite suites[] = {
     {TN_SUITE_PSK_NULL_SHA256, "PSK-NULL-SHA256", "SHA256", 32, 0},
 };
 
-/* One of each for the whole program: they are keyed anew for every record, so that a connection's keys stand in its own memory alone. */
+/* One of each for the whole program: they are keyed anew for every record, so that a connection's keys stand in its own memory alone. A CBC record that came
+ * has a MAC context for itself, see opened_mac. */
 static EVP_CIPHER *aes;
 static EVP_CIPHER_CTX *cipher;
 static EVP_MAC *hmac;
@@ -56,8 +57,9 @@ static bool aes_cbc(const uint8_t *key, const uint8_t *iv, bool encrypt, uint8_t
            && EVP_CipherUpdate(cipher, bytes, &done, bytes, (int)n) && done == (int)n;
 }
 
-/* HMAC over sequence number, type, version, length and content (RFC 5246 section 6.2.3.1); `front` is the record's first three bytes. */
-static bool record_mac(const struct protection *p, const uint8_t *front, const uint8_t *content, size_t n, uint8_t *out)
+/* HMAC over sequence number, type, version, length and content (RFC 5246 section 6.2.3.1), in this context; `front` is the record's first three bytes. Where
+ * `public_size` is not 0, the time depends on it and not on n: see opened_mac. */
+static bool mac_in(EVP_MAC_CTX *ctx, const struct protection *p, const uint8_t *front, const uint8_t *content, size_t n, size_t public_size, uint8_t *out)
 {
     uint8_t head[13];
     for (unsigned i = 0; i < 8; i++)
@@ -67,10 +69,28 @@ static bool record_mac(const struct protection *p, const uint8_t *front, const u
     head[12] = (uint8_t)n;
     char digest[16];
     strcpy(digest, p->suite->digest);
-    OSSL_PARAM params[] = {OSSL_PARAM_construct_utf8_string(OSSL_MAC_PARAM_DIGEST, digest, 0), OSSL_PARAM_construct_end()};
+    OSSL_PARAM params[] = {OSSL_PARAM_construct_utf8_string(OSSL_MAC_PARAM_DIGEST, digest, 0),
+                           OSSL_PARAM_construct_size_t(OSSL_MAC_PARAM_TLS_DATA_SIZE, &public_size), OSSL_PARAM_construct_end()};
     size_t size = 0;
-    return EVP_MAC_init(mac, p->mac_key, p->suite->mac_size, params) && EVP_MAC_update(mac, head, sizeof head) && EVP_MAC_update(mac, content, n)
-           && EVP_MAC_final(mac, out, &size, RECORD_MAC_LIMIT) && size == p->suite->mac_size;
+    return EVP_MAC_init(ctx, p->mac_key, p->suite->mac_size, params) && EVP_MAC_update(ctx, head, sizeof head) && EVP_MAC_update(ctx, content, n)
+           && EVP_MAC_final(ctx, out, &size, RECORD_MAC_LIMIT) && size == p->suite->mac_size;
+}
+
+static bool record_mac(const struct protection *p, const uint8_t *front, const uint8_t *content, size_t n, uint8_t *out)
+{
+    return mac_in(mac, p, front, content, n, 0, out);
+}
+
+/*
+ * The same of a CBC record that came, whose n bytes of content are the front of `plain_size` bytes of plaintext. Only the latter is public: n tells how
+ * long the padding is. libcrypto's HMAC hashes as many blocks for every n where it is told the public size, and takes one record in a context.
+ */
+static bool opened_mac(const struct protection *p, const uint8_t *front, const uint8_t *plain, size_t n, size_t plain_size, uint8_t *out)
+{
+    EVP_MAC_CTX *own = EVP_MAC_CTX_new(hmac);
+    bool made = own && mac_in(own, p, front, plain, n, plain_size, out);
+    EVP_MAC_CTX_free(own);
+    return made;
 }
 
 void records_forget(void)
@@ -181,21 +201,51 @@ static uint32_t padding_of(const uint8_t *plain, size_t n, size_t mac_size, uint
 }
 
 /*
- * The content of n bytes of plaintext, which ends in MAC and padding. Where the padding is bad its length counts as none and the MAC is computed all the same
- * (RFC 5246 section 6.2.3.2). The small difference in time that a shorter content makes remains, as the RFC says.
+ * Copies the MAC that stands at plain + at to `taken`, with no branch and no address that depends on `at`. Every place where a MAC may stand is read, and its
+ * bytes are laid down round and round in a ring of the MAC's length; then the ring is turned, by powers of two, until the MAC's first byte is in front.
  */
+static void take_mac(const uint8_t *plain, size_t n, uint32_t at, size_t mac_size, uint8_t *taken)
+{
+    uint8_t ring[RECORD_MAC_LIMIT] = {0};
+    uint32_t size = (uint32_t)mac_size, front = 0;
+    size_t places = mac_size + RECORD_PADDING_LIMIT;
+    uint32_t first = n < places ? 0 : (uint32_t)(n - places);
+    for (uint32_t i = first, spot = 0; i < n; i++, spot = spot + 1 < size ? spot + 1 : 0) {
+        ring[spot] |= (uint8_t)(plain[i] & ~below(i, at) & below(i, at + size));
+        front |= spot & ~below(i, at) & below(i, at + 1);
+    }
+    for (uint32_t step = 1; step < size; step *= 2) {
+        uint32_t turn = below(0, front & step);
+        for (uint32_t i = 0; i < size; i++)
+            taken[i] = (uint8_t)((ring[i] & ~turn) | (ring[i + step < size ? i + step : i + step - size] & turn));
+        memcpy(ring, taken, mac_size);
+    }
+}
+
+/* A record without a cipher: content and MAC. */
 static enum record_verdict checked(const struct protection *p, const uint8_t *front, const uint8_t *plain, size_t n, size_t *length)
 {
-    size_t mac_size = p->suite->mac_size;
-    uint32_t padding = 0, good = UINT32_MAX;
-    if (p->suite->cipher_size)
-        padding = padding_of(plain, n, mac_size, &good);
-    *length = n - mac_size - padding;
     uint8_t value[RECORD_MAC_LIMIT];
+    *length = n - p->suite->mac_size;
     if (!record_mac(p, front, plain, *length, value))
         return RECORD_FAILED;
-    uint32_t differs = (uint32_t)CRYPTO_memcmp(value, plain + *length, mac_size);
-    return (differs | ~good) ? RECORD_BAD : RECORD_OPENED;
+    return CRYPTO_memcmp(value, plain + *length, p->suite->mac_size) ? RECORD_BAD : RECORD_OPENED;
+}
+
+/*
+ * The content of n bytes of decrypted plaintext, which ends in MAC and padding. Where the padding is bad its length counts as none and the MAC is computed all
+ * the same (RFC 5246 section 6.2.3.2). The time depends on n alone, as far as libcrypto's does: `make bench` measures it.
+ */
+static enum record_verdict checked_padded(const struct protection *p, const uint8_t *front, const uint8_t *plain, size_t n, size_t *length)
+{
+    uint8_t value[RECORD_MAC_LIMIT], taken[RECORD_MAC_LIMIT];
+    size_t mac_size = p->suite->mac_size;
+    uint32_t good, padding = padding_of(plain, n, mac_size, &good);
+    *length = n - mac_size - padding;
+    if (!opened_mac(p, front, plain, *length, n, value))
+        return RECORD_FAILED;
+    take_mac(plain, n, (uint32_t)*length, mac_size, taken);
+    return ((uint32_t)CRYPTO_memcmp(value, taken, mac_size) | ~good) ? RECORD_BAD : RECORD_OPENED;
 }
 
 /* Whether a fragment of n bytes can hold what its protection adds. */
@@ -218,7 +268,7 @@ enum record_verdict record_open(struct protection *p, uint8_t *record, size_t n,
             return RECORD_BAD;
         if (p->sequence == UINT64_MAX || (before && !aes_cbc(p->cipher_key, fragment, false, fragment + before, size - before)))
             return RECORD_FAILED;
-        enum record_verdict verdict = checked(p, record, fragment + before, size - before, length);
+        enum record_verdict verdict = (before ? checked_padded : checked)(p, record, fragment + before, size - before, length);
         if (verdict != RECORD_OPENED)
             return verdict;
         *start += before;

@@ -1,26 +1,25 @@
-/* The gateway's line on a connection: address, gate, suite, outcome. */
+/* The gateway's lines on connections: address, gate, suite, outcome. */
 #include "report.h"
 
+#include <stdarg.h>
 #include <stdio.h>
 
+#include "log.h"
+
+/* The names of RFC 5246 section 7.2 and of the registry that has grown from it; 115 is RFC 4279's unknown_psk_identity, in the station's word. */
 static const char *alert_name(uint8_t alert)
 {
-    switch (alert) {
-    case 10: return "unexpected_message";
-    case 20: return "bad_record_mac";
-    case 22: return "record_overflow";
-    case 40: return "handshake_failure";
-    case 47: return "illegal_parameter";
-    case 50: return "decode_error";
-    case 51: return "decrypt_error";
-    case 70: return "protocol_version";
-    case 71: return "insufficient_security";
-    case 80: return "internal_error";
-    case 90: return "user_canceled";
-    case 110: return "unsupported_extension";
-    case 115: return "unknown gate";
-    default: return "";
-    }
+    static const char *const names[256] = {
+        [0] = "close_notify", [10] = "unexpected_message", [20] = "bad_record_mac", [21] = "decryption_failed", [22] = "record_overflow",
+        [30] = "decompression_failure", [40] = "handshake_failure", [41] = "no_certificate", [42] = "bad_certificate", [43] = "unsupported_certificate",
+        [44] = "certificate_revoked", [45] = "certificate_expired", [46] = "certificate_unknown", [47] = "illegal_parameter", [48] = "unknown_ca",
+        [49] = "access_denied", [50] = "decode_error", [51] = "decrypt_error", [60] = "export_restriction", [70] = "protocol_version",
+        [71] = "insufficient_security", [80] = "internal_error", [86] = "inappropriate_fallback", [90] = "user_canceled", [100] = "no_renegotiation",
+        [109] = "missing_extension", [110] = "unsupported_extension", [111] = "certificate_unobtainable", [112] = "unrecognized_name",
+        [113] = "bad_certificate_status_response", [114] = "bad_certificate_hash_value", [115] = "unknown gate", [116] = "certificate_required",
+        [120] = "no_application_protocol",
+    };
+    return names[alert] ? names[alert] : "";
 }
 
 /* The character at p, whose bytes are valid UTF-8; *size its length. */
@@ -52,43 +51,95 @@ static bool printable(const uint8_t *bytes, size_t n)
     return true;
 }
 
+/* A line that is being made. */
+struct line {
+    char text[LOG_LINE_LIMIT];
+    size_t n;
+};
+
+static void add(struct line *line, const char *format, ...) __attribute__((format(printf, 2, 3)));
+
+static void add(struct line *line, const char *format, ...)
+{
+    va_list words;
+    va_start(words, format);
+    int n = vsnprintf(line->text + line->n, sizeof line->text - line->n, format, words);
+    va_end(words);
+    line->n += n < 0 ? 0 : (size_t)n < sizeof line->text - line->n ? (size_t)n : sizeof line->text - line->n - 1;
+}
+
 /* As text in quotes where all of it is kept and can be shown, else its length and the first bytes in hex. */
-static void print_identity(const struct connection *c)
+static void add_identity(struct line *line, const struct connection *c)
 {
     size_t n = c->identity_len;
     if (!c->identity_known) {
-        printf("-");
+        add(line, "-");
     } else if (n <= sizeof c->identity && printable(c->identity, n)) {
-        printf("\"%.*s\"", (int)n, (const char *)c->identity);
+        add(line, "\"%.*s\"", (int)n, (const char *)c->identity);
     } else {
-        printf("of %zu bytes 0x", n);
+        add(line, "of %zu bytes 0x", n);
         for (size_t i = 0; i < n && i < 16; i++)
-            printf("%02x", c->identity[i]);
+            add(line, "%02x", c->identity[i]);
         if (n > 16)
-            printf("..");
+            add(line, "..");
     }
 }
 
-static void print_alert(const char *front, uint8_t alert)
+static void add_alert(struct line *line, const char *front, uint8_t alert)
 {
     const char *name = alert_name(alert);
-    printf("%s %u%s%s", front, (unsigned)alert, name[0] ? " " : "", name);
+    add(line, "%s %u%s%s", front, (unsigned)alert, name[0] ? " " : "", name);
 }
 
-void report(const char *address, const struct connection *c, enum outcome outcome)
+/* Under hide the client can't tell a name that is not listed from a wrong key; whoever reads the log may. */
+static bool hidden(const struct connection *c, const struct settings *settings)
 {
-    printf("%s gate ", address);
-    print_identity(c);
-    printf(" suite %s: ", c->suite ? c->suite->name : "-");
-    if (outcome != c->login_outcome)
-        printf("after completion ");
+    return settings->rule == TN_RULE_HIDE && c->alert == TN_ALERT_DECRYPT_ERROR && c->login_outcome == OUTCOME_ALERT_SENT && c->identity_known && c->unlisted;
+}
+
+static void add_outcome(struct line *line, const struct connection *c, enum outcome outcome, const struct settings *settings)
+{
+    bool later = outcome != c->login_outcome;
+    if (later)
+        add(line, "after completion ");
     switch (outcome) {
-    case OUTCOME_COMPLETE: printf("complete"); break;
-    case OUTCOME_ALERT_SENT: print_alert("alert", c->alert); break;
-    case OUTCOME_ALERT_RECEIVED: print_alert("client sent alert", c->alert); break;
-    case OUTCOME_TIME_OUT: printf("time-out"); break;
-    case OUTCOME_STOPPED: printf("stopped"); break;
-    default: printf("closed"); break;
+    case OUTCOME_COMPLETE: add(line, "complete"); break;
+    case OUTCOME_ALERT_SENT: add_alert(line, "alert", c->alert); break;
+    case OUTCOME_ALERT_RECEIVED: add_alert(line, "client sent alert", c->alert); break;
+    case OUTCOME_TIME_OUT: add(line, "time-out"); break;
+    case OUTCOME_STOPPED: add(line, "stopped"); break;
+    case OUTCOME_MADE_ROOM: add(line, "made room for another client"); break;
+    case OUTCOME_REPLACED: add(line, "made room for newer logins of this gate"); break;
+    case OUTCOME_RETIRED: add(line, later ? "retired by the new table" : "ended by the new table"); break;
+    default: add(line, later ? "closed without close_notify" : "closed"); break;
     }
-    printf("\n");
+    if (hidden(c, settings))
+        add(line, ", unknown gate");
+}
+
+static struct pace failed;
+
+int64_t report_rest(bool at_once)
+{
+    if (failed.held_back == 0)
+        return -1;
+    int64_t left = failed.begun + 1000 - milliseconds();
+    if (left > 0 && !at_once)
+        return left;
+    log_line("%lu more logins failed", failed.held_back);
+    failed.held_back = 0;
+    return -1;
+}
+
+void report(const char *address, const struct connection *c, enum outcome outcome, const struct settings *settings, unsigned most)
+{
+    struct line line = {.n = 0};
+    report_rest(false);
+    if (c->login_outcome != OUTCOME_COMPLETE && !pace_allows(&failed, most))
+        return;
+    add(&line, "%s gate ", address);
+    add_identity(&line, c);
+    add(&line, " suite %s: ", c->suite ? c->suite->name : "-");
+    add_outcome(&line, c, outcome, settings);
+    log_line("%s", line.text);
 }

@@ -42,6 +42,9 @@
 extern "C" {
 #endif
 
+/* The version of header and library, as pkg-config has it. */
+#define TN_VERSION "0.1"
+
 /* ==== Sizes ================================================================================================================================== */
 
 #define TN_RANDOM_SIZE 32       /* a hello's random, and the bytes lent to tn_start */
@@ -177,6 +180,15 @@ static inline uint8_t tn_alert_number(int32_t result)
  *   Finished               tn_message                       phase 5    send a change of cipher, then its answer under the server's keys
  *
  * An alert of the client goes to tn_alert whenever it comes before phase 5. Records after phase 5, alerts among them, are the host's alone.
+ *
+ * WHICH SUITE, WHICH GATE. The library keeps neither for the host, which reads both from the messages:
+ *
+ *   - the suite from the answer to the ClientHello, with tn_read_server_hello over exactly its first message. That one is 4 bytes and as many as its bytes 1
+ *     to 3 say, big-endian; with the messages behind it the reader answers alert 50. fields[2] is the suite, for tn_key_block and the records.
+ *   - the identity from the ClientKeyExchange, with tn_read_client_key_exchange before tn_message is called, in phase 2: afterwards a refused connection is
+ *     closed, and the name is wanted most where it was refused. It is what the client says, of any bytes, and nobody's until phase 5.
+ *
+ * The randoms of tn_key_block are the bytes that were lent to tn_start and, of the ClientHello, TN_RANDOM_SIZE bytes from TN_HELLO_RANDOM_AT on.
  *
  * THE FIRST PROTECTED RECORD. Under an unlisted identity, or with a wrong key, the client's Finished does not even decrypt, and tn_message never sees it.
  * The host then sends alert 51 (decrypt_error), clears the connection and closes the transport; in later records a bad MAC is alert 20, as usual. With 20
@@ -378,6 +390,28 @@ int32_t tn_table_lookup(const uint8_t *table, size_t table_len, const uint8_t *i
 
 /* 1 where the bytes are valid UTF-8 (RFC 3629), else 0. */
 int32_t tn_valid_utf8(const uint8_t *bytes, size_t bytes_len);
+
+/* ==== Clearing the stack ===================================================================================================================== */
+
+/*
+ * The library leaves in lent memory what is said at each call, and clears nothing else. What a call has computed with stays on the stack below its caller's
+ * frame until later calls overwrite it: the pre-shared key, the premaster and the master secret after tn_message, and so on for every call that is given a
+ * connection, a table, a key or a secret. Not a byte of it is on the heap or in global memory.
+ *
+ * A host that wants no key to outlive its use clears that part of the stack by tn_clear_stack(TN_STACK_LIMIT) after such a call, in the function that made
+ * the call or in one above it, with more depth for the frames between; and clears its own copies. host/wipe.c and host/connection.c show it.
+ *
+ * TN_STACK_LIMIT is measured, not proved: the deepest call, tn_message with a ClientKeyExchange, reaches less than 10,000 bytes below its caller (`make bench`).
+ */
+#define TN_STACK_LIMIT 16384
+
+/* Overwrites so many bytes of the stack below the caller's frame. They must be there: a thread's stack may be small. */
+static __attribute__((noinline, unused)) void tn_clear_stack(size_t depth)
+{
+    void *space = __builtin_alloca(depth);
+    __builtin_memset(space, 0, depth);
+    __asm__ __volatile__("" : : "r"(space) : "memory"); /* the bytes count as read, so that the compiler keeps the line above */
+}
 
 #ifdef __cplusplus
 }

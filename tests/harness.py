@@ -9,13 +9,17 @@ import sys
 import threading
 import time
 
-GATEWAY = sys.argv[1]
+GATEWAY = sys.argv[1]  # under sanitizers
+FAST_GATEWAY = sys.argv[3] if len(sys.argv) > 3 else GATEWAY  # as it is installed, where time is measured
 TABLE = pathlib.Path(__file__).resolve().parent.parent / "host/gates.psk"
 KEYS = dict(line.split(":") for line in TABLE.read_text().split())
 KEY = KEYS["gate7"]
 LIMIT = 20  # seconds, for anything that is waited for
 NAMES = {10: "unexpected_message", 20: "bad_record_mac", 22: "record_overflow", 40: "handshake_failure", 47: "illegal_parameter", 50: "decode_error",
          51: "decrypt_error", 70: "protocol_version", 115: "unknown gate"}
+STAMP = r"^\d{4}-\d\d-\d\dT\d\d:\d\d:\d\d\.\d{3}Z "  # in front of each line of the gateway
+
+
 def until(holds, what):
     end = time.monotonic() + LIMIT
     while not holds():
@@ -26,8 +30,10 @@ def until(holds, what):
 class Program:
     """A program whose output is read as it comes."""
 
-    def __init__(self, words):
-        self.process = subprocess.Popen([str(w) for w in words], stdin=subprocess.PIPE, stdout=subprocess.PIPE, stderr=subprocess.STDOUT)
+    def __init__(self, words, started=None, **more):
+        self.process = subprocess.Popen([str(w) for w in words], stdin=subprocess.PIPE, stdout=subprocess.PIPE, stderr=subprocess.STDOUT, **more)
+        if started:
+            started(self.process)
         self.text = ""
         self.reader = threading.Thread(target=self.read, daemon=True)
         self.reader.start()
@@ -51,20 +57,25 @@ class Program:
 
 
 class Gateway(Program):
-    def __init__(self, *options):
-        super().__init__([GATEWAY, "--port", 0, *(options if "--table" in options else ("--table", TABLE, *options))])
-        until(lambda: "listening on" in self.text or self.over(), "the gateway")
+    def __init__(self, *options, program=GATEWAY, **more):
+        super().__init__([program, "--port", 0, *(options if "--table" in options else ("--table", TABLE, *options))], **more)
+        until(lambda: re.search(r"listening on .*\n", self.text) or self.over(), "the gateway")
         found = re.search(r"listening on \S+:(\d+),", self.text)
         assert found, self.text
         self.port = int(found[1])
-        self.seen = self.text.index("\n") + 1
+        self.seen = self.text.index("\n", found.end()) + 1
+
+    def next_line(self):
+        """The next line, without its time."""
+        until(lambda: "\n" in self.text[self.seen :], "a line")
+        line, _, _ = self.text[self.seen :].partition("\n")
+        self.seen += len(line) + 1
+        assert re.match(STAMP, line), f"no time in front of '{line}'"
+        return re.sub(STAMP, "", line)
 
     def line(self, outcome, gate=None, suite=None):
         """The next line is of a connection that ended so."""
-        until(lambda: "\n" in self.text[self.seen :], f"a line that ends in '{outcome}'")
-        line, _, _ = self.text[self.seen :].partition("\n")
-        self.seen += len(line) + 1
-        wanted = f"""gate {'-' if gate is None else f'"{gate}"'} suite {suite or '-'}: {outcome}"""
+        line, wanted = self.next_line(), f"""gate {'-' if gate is None else f'"{gate}"'} suite {suite or '-'}: {outcome}"""
         assert re.fullmatch(r"127\.0\.0\.1:\d+ " + re.escape(wanted), line), f"the gateway says '{line}', not '{wanted}'"
 
     def stop(self, number=signal.SIGTERM):
@@ -78,8 +89,8 @@ class Gateway(Program):
 
 
 @contextlib.contextmanager
-def gateway(*options):
-    g = Gateway(*options)
+def gateway(*options, **more):
+    g = Gateway(*options, **more)
     try:
         yield g
     except BaseException:
@@ -89,12 +100,12 @@ def gateway(*options):
     assert rest == "", f"lines that no case asked for: {rest}"
 
 
-# the cases, (name, function), run one after the other
-CASES = []
+# the cases, (name, function); those that measure time are run alone, after the others
+CASES, ALONE = [], []
 
 
-def case(name):
+def case(name, alone=False):
     def keep(function):
-        CASES.append((name, function))
+        (ALONE if alone else CASES).append((name, function))
         return function
     return keep

@@ -96,14 +96,27 @@ static int32_t hello(uint32_t version, uint8_t *answer)
     return result;
 }
 
+/* The suite is read from exactly the first message of the answer, whose length is in its header. */
+static bool suite_is_found(const uint8_t *answer, size_t n)
+{
+    uint32_t fields[7];
+    size_t first = 4 + ((size_t)answer[1] << 16 | (size_t)answer[2] << 8 | answer[3]);
+    return first < n && tn_read_server_hello(answer, n, fields) == TN_ALERT_RESULT(TN_ALERT_DECODE_ERROR) && tn_read_server_hello(answer, first, fields) == 0
+           && fields[2] == TN_SUITE_PSK_NULL_SHA256;
+}
+
 int main(void)
 {
     uint8_t answer[TN_FLIGHT_SIZE];
     secrets();
+    tn_clear_stack(TN_STACK_LIMIT);
     messages();
     table();
+    tn_clear_stack(TN_STACK_LIMIT);
     expect("V12, 0x0302", hello(0x0302, answer) == TN_ALERT_RESULT(TN_ALERT_PROTOCOL_VERSION));
     expect("V12, 0x0304", hello(0x0304, answer) == 46 && answer[4] == 3 && answer[5] == 3);
+    expect("the suite", suite_is_found(answer, 46));
+    expect("the version", strlen(TN_VERSION) >= 3);
     if (failures == 0)
         printf("tests/installed.c: all as expected\n");
     return failures != 0;

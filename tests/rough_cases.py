@@ -10,7 +10,7 @@ import tempfile
 import threading
 import time
 
-from harness import GATEWAY, KEY, LIMIT, NAMES, TABLE, Gateway, Program, case, gateway, until
+from harness import GATEWAY, KEY, LIMIT, NAMES, TABLE, Gateway, Program, case, gateway
 from plain_client import ALERT, CHANGE, DATA, HANDSHAKE, Client, message, record
 
 NULL = "PSK-NULL-SHA256"
@@ -40,7 +40,7 @@ def garbage():
 
 @case("random bytes")
 def noise():
-    with gateway() as g:
+    with gateway("--failed-lines", 40) as g:
         for i in range(40):
             c = plain(g)
             with contextlib.suppress(ConnectionError):
@@ -49,8 +49,7 @@ def noise():
                 while c.socket.recv(4096):
                     pass
             c.socket.close()
-            until(lambda: "\n" in g.text[g.seen :], "a line")
-            g.seen = g.text.index("\n", g.seen) + 1
+            g.next_line()
 
 
 @case("a client that says nothing, and one that stops amid a record: time-out")
@@ -107,24 +106,31 @@ def gone():
         g.line("closed")
 
 
-@case("a client that resets its connection after completion, with answers unread: no second line, and others are served")
-def reset():
+def reset(client):
+    """Breaks the connection off, with a RST."""
+    client.socket.setsockopt(socket.SOL_SOCKET, socket.SO_LINGER, struct.pack("ii", 1, 0))
+    client.socket.close()
+
+
+@case("a client that resets or closes its connection after completion without close_notify, answers unread: a line, and others are served")
+def broken_off():
     with gateway() as g:
-        for sent in (b"", b"cow 1\n", b"\n" * 30000):
-            c = plain(g).handshake()
-            g.line("complete", "gate7", NULL)
-            c.send(DATA, sent)
-            c.socket.setsockopt(socket.SOL_SOCKET, socket.SO_LINGER, struct.pack("ii", 1, 0))
-            c.socket.close()
+        for leave in (reset, lambda client: client.socket.close()):
+            for sent in (b"", b"cow 1\n", b"c\n" * 30000):
+                c = plain(g).handshake()
+                g.line("complete", "gate7", NULL)
+                c.send(DATA, sent)
+                leave(c)
+                g.line("after completion closed without close_notify", "gate7", NULL)
         plain(g).handshake().bye()
         g.line("complete", "gate7", NULL)
 
 
 def send_on(client):
-    """Sends line ends until the other side closes."""
+    """Sends lines until the other side closes."""
     with contextlib.suppress(OSError):
         while True:
-            client.send(DATA, b"\n" * 16384)
+            client.send(DATA, b"c\n" * 8192)
 
 
 @case("a client that never reads its answers: time-out")
@@ -323,9 +329,7 @@ def hidden():
             c.change()
             c.send(HANDSHAKE, c.said(c.finished()))
             assert c.alert() == (2, 51)
-            until(lambda: "\n" in g.text[g.seen :], "a line")
-            assert f"gate {shown} suite {NULL}: alert 51 decrypt_error\n" in g.text[g.seen :], g.text
-            g.seen = len(g.text)
+            assert g.next_line().endswith(f" gate {shown} suite {NULL}: alert 51 decrypt_error, unknown gate"), g.text
 
 
 @case("a bad MAC after completion is alert 20")
@@ -349,27 +353,27 @@ def long_line():
         fatal(g, c, 50, "gate7", NULL, "after completion ")
 
 
-@case("a client that sends a million line ends and reads later")
+@case("a client that sends half a million lines and reads later")
 def slow_reader():
     with gateway() as g:
         c = plain(g).handshake()
         g.line("complete", "gate7", NULL)
-        sender = threading.Thread(target=c.send, args=(DATA, b"\n" * 1000000), daemon=True)
+        sender = threading.Thread(target=c.send, args=(DATA, b"c\n" * 500000), daemon=True)
         sender.start()
         time.sleep(0.5)
-        got = b""
-        while len(got) < 10 * 1000000:
+        got = bytearray()
+        while len(got) < 11 * 500000:
             kind, content = c.receive()
             assert kind == DATA
             got += content
         sender.join(LIMIT)
-        assert got == b"enrolled \n" * 1000000
+        assert got == b"enrolled c\n" * 500000
         c.bye()
 
 
 @case("twenty clients at once, step by step")
 def twenty():
-    with gateway() as g:
+    with gateway("--per-gate", 20) as g:
         clients = [plain(g) for _ in range(20)]
         for c in clients:
             c.send(HANDSHAKE, c.said(c.hello()))
@@ -389,18 +393,6 @@ def twenty():
         assert len({c.master for c in clients}) == 20
         for c in clients:
             c.bye()
-
-
-@case("sixty-four silent clients: the next is served when they time out")
-def crowd():
-    with gateway("--handshake-timeout", 1) as g:
-        silent = [plain(g) for _ in range(64)]
-        c = plain(g).handshake()
-        c.bye()
-        for s in silent:
-            s.socket.close()
-        until(lambda: g.text.count("time-out\n") == 64 and g.text.count(": complete\n") == 1, "all lines")
-        g.seen = len(g.text)
 
 
 @case("a stop by SIGTERM and by SIGINT with clients connected: close_notify, status 0")
@@ -434,31 +426,22 @@ def reload():
     with tempfile.TemporaryDirectory() as folder:
         table = pathlib.Path(folder) / "gates.psk"
         table.write_text(f"gate7:{KEY}\n")
+        table.chmod(0o600)
         with gateway("--table", table) as g:
             plain(g).handshake().bye()
             g.line("complete", "gate7", NULL)
-            for text, said in [(f"gate8:{KEY}\n", f"{table} read again, gates: 1\n"),
-                               (f"gate7:{KEY}", f"gateway: {table}: the last line of the key table has no line end\n")]:
+            for text, said in [(f"gate8:{KEY}\n", f"{table} read again, gates: 1"),
+                               (f"gate7:{KEY}", f"{table}: the last line of the key table has no line end; the old table stays")]:
                 table.write_text(text)
                 g.process.send_signal(signal.SIGHUP)
-                until(lambda: "\n" in g.text[g.seen :], "what it says of the table")
-                assert g.text[g.seen :] == said, g.text
-                g.seen = len(g.text)
+                assert g.next_line() == said, g.text
                 c = plain(g, identity=b"gate8").handshake()
                 c.bye()
                 g.line("complete", "gate8", NULL)
 
 
-@case("a bad table, hint or option is said by name, with status 1 or 2")
+@case("no table, a bad hint, a bad address or a bad option is said by name, with status 1 or 2")
 def bad_start():
-    with tempfile.TemporaryDirectory() as folder:
-        table = pathlib.Path(folder) / "bad.psk"
-        for text, said in [(b"gate7:abc\n", "line 1 "), (b"a:00\nb:00\na:00\nc:00\n", "line 3 "), (b"a:00\n\xc0\x80:00\n", "line 2 "),
-                           (b"a:00\nb:00", "no line end"),
-                           (b"".join(b"g%d:00\n" % i for i in range(257)), "more than 256 lines"), (b"g:" + b"0" * 70000, "more than 65536 bytes")]:
-            table.write_bytes(text)
-            bad = Program([GATEWAY, "--port", 0, "--table", table])
-            assert bad.end() == 1 and f"gateway: {table}: " in bad.text and said in bad.text, (text[:30], bad.text)
     for words, status, said in [(["--table", "/nowhere.psk"], 1, "/nowhere.psk: No such file"), (["--table", TABLE, "--hint", "h" * 129], 1, "--hint"),
                                 (["--table", TABLE, "--hint", b"\xff".decode(errors="surrogateescape")], 1, "--hint"), ([], 2, "--table"),
                                 (["--table", TABLE, "--rule", "loud"], 2, "loud"), (["--table", TABLE, "--port", "65536"], 2, "65536"),

@@ -1,0 +1,11 @@
+/* In place of host/wipe.c in a gateway that has to fail tests/keys_in_memory.py. */
+#include "../host/wipe.h"
+
+void wipe_stack(void)
+{
+}
+
+bool forbid_dumps(void)
+{
+    return true;
+}
