@@ -51,7 +51,7 @@ extern "C" {
 #define TN_STAND_IN_SIZE 32     /* the stand-in key lent to tn_start */
 #define TN_HINT_LIMIT 128       /* a hint has at most so many bytes */
 #define TN_MESSAGE_LIMIT 16384  /* a handshake message has at most so many bytes, its header included */
-#define TN_CONNECTION_SIZE 382  /* a connection, see tn_start */
+#define TN_CONNECTION_SIZE 388  /* a connection, see tn_start */
 #define TN_FLIGHT_SIZE 180      /* the longest answer of tn_message */
 #define TN_FINISHED_SIZE 16     /* a Finished message */
 #define TN_HASH_SIZE 32         /* SHA-256 and HMAC-SHA-256 */
