@@ -5,7 +5,7 @@ use Prim.Native.Nat.{ℕ, _+_, _^_, _<_}
 use native.Mathlib.Omega.{arith}
 use native.Mathlib.Nat.{le-of-eq}
 use mathlib.Core.Bool.{Bool, true, false, _||_}
-use mathlib.Core.List.{List, [], _∷_, map}
+use mathlib.Core.List.{List, [], _∷_, _++_, map, append-nil, append-assoc}
 use lib.ListN.{length, getD, drop, replicate}
 use lib.Seq.{take-all}
 use lib.Dec.{leb, eqb}
@@ -22,6 +22,15 @@ use Rattle.server.specs.Flight.{joined}
 use Rattle.saved.specs.Saved.{phaseByte, ruleByte, listedByte, parts, saved, toPhase, toRule, restored}
 
 -- ---- parts, one behind the other
+
+-- parts that are put behind a front, one by one
+abbrev pub put : List ℕ → List (List ℕ) → List ℕ
+put front [] = front
+put front (x ∷ xs) = put (front ++ x) xs
+
+pub put-joined : (front : List ℕ) (xs : List (List ℕ)) → put front xs ≡ front ++ joined xs
+put-joined front [] = sym (append-nil front)
+put-joined front (x ∷ xs) = put-joined (front ++ x) xs ∙ append-assoc front x (joined xs)
 
 -- the parts of these widths, the first at `at`
 abbrev cut : List ℕ → ℕ → List ℕ → List (List ℕ)
@@ -73,12 +82,12 @@ pub record Fits (c : Connection) : Type 0 where
 pub three-of : (s : List ℕ) → length s ≡ 3 → getD s 0 0 ∷ getD s 1 0 ∷ getD s 2 0 ∷ [] ≡ s
 three-of s size = sym (take-window 3 0 s (omega arith)) ∙ take-all 3 s (le-of-eq size)
 
--- how wide the parts are
-abbrev allWidths : List ℕ
-allWidths = 6 ∷ 6 ∷ 128 ∷ 32 ∷ 32 ∷ 32 ∷ 48 ∷ 104 ∷ []
+-- how wide the parts of a connection are
+abbrev widths : List ℕ
+widths = 6 ∷ 6 ∷ 128 ∷ 32 ∷ 32 ∷ 32 ∷ 48 ∷ 104 ∷ []
 
-widths : (c : Connection) → Fits c → map length (parts c) ≡ allWidths
-widths c fits =
+as-wide : (c : Connection) → Fits c → map length (parts c) ≡ widths
+as-wide c fits =
     rw (
       ← three-of (c .setup .suites) (fits .three),
       fits .hint,
@@ -96,8 +105,8 @@ restored-saved c fits =
     let phase = phase-there (c .phase) in
     let rule = rule-there (c .setup .rule) in
     let listed = listed-there (c .client .listed) in
-    let all = ap (λ (ws : List ℕ). cut ws 0 (saved c)) (sym (widths c fits)) ∙ cut-joined (parts c) 0 (saved c) refl in
-    let found : (i : ℕ) → getD (cut allWidths 0 (saved c)) i [] ≡ getD (parts c) i [] = λ i. ap (λ (xs : List (List ℕ)). getD xs i []) all in
+    let all = ap (λ (ws : List ℕ). cut ws 0 (saved c)) (sym (as-wide c fits)) ∙ cut-joined (parts c) 0 (saved c) refl in
+    let found : (i : ℕ) → getD (cut widths 0 (saved c)) i [] ≡ getD (parts c) i [] = λ i. ap (λ (xs : List (List ℕ)). getD xs i []) all in
     let our : (i : ℕ) → number (be 2 (getD ours i 0)) ≡ getD ours i 0 = λ i. number-be-lt 2 (getD ours i 0) (fits .suites i) in
     let three = three-of ours (fits .three) in
     rw (
