@@ -1,5 +1,5 @@
--- `extensions::count`: the loop keeps that what was counted and what is left make up the block's counts (Flags, `countedWith`), and that no count passes
--- the place; the measure is what is left of the block.
+-- `extensions::count`: the loop keeps that what was counted and what is left make up the block's counts (Flags, `countedWith`),
+-- and that no count passes the place; the measure is what is left of the block.
 -- Assumes nothing.
 use borrow.Author.Needs.{needs}
 use Prim.Native.Nat.{ℕ, _+_, _-_, _/_, _≤_, _<_, zero-le}
@@ -72,11 +72,12 @@ loop-again c =
     let b = block (turn c) in
     let f = found c in
     let g = c .before .kind .given .0 in
+    let here = extAt b (g .0) (g .1 .0) (g .1 .1 .0) in
     let left = extensionsIn (drop (g .1 .0 + g .1 .1 .0) b) in (
       f .inside,
       length-set (l .counts) _ _ ∙ l .inv .1,
       λ p. count-small (l .counts) (g .0) (l .at) (g .1 .0 + g .1 .1 .0) p (in-parts c) (f .ahead) (l .inv .2),
-      λ p. sym (count-next (l .counts) p (extAt b (g .0) (g .1 .0) (g .1 .1 .0)) left (in-parts c)) ∙ sym (ap (countedWith (l .counts) p) (f .left)) ∙ l .inv .3 p,
+      λ p. sym (count-next (l .counts) p here left (in-parts c)) ∙ sym (ap (countedWith (l .counts) p) (f .left)) ∙ l .inv .3 p,
     )
 
 returns : tie.Need-returns Inv-loop μ-loop

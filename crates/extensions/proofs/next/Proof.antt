@@ -21,16 +21,21 @@ returns c = rw (le-leb _ _ (c .if1 .taken))
 returns-2 : tie.Need-returns-2
 returns-2 c =
     let a = c .before .before .before .args in
-    rw (lt-leb (length (a .block .now)) (a .at) (c .before .if1 .left), lt-leb (endAt 2 (a .block .now) (a .at + 2)) (length (a .block .now)) (omega arith))
+    let size = length (a .block .now) in
+    rw (lt-leb size (a .at) (c .before .if1 .left), lt-leb (endAt 2 (a .block .now) (a .at + 2)) size (omega arith))
 
 -- what the first number16 gave is the extension's type
-kind-is : (c : tie.After-number16) → let a = c .before .before .before .before .before .before .args in number (take 2 (drop (a .at) (a .block .now))) ≡ c .number16 .result
+kind-is : (c : tie.After-number16) →
+    let a = c .before .before .before .before .before .before .args in
+    number (take 2 (drop (a .at) (a .block .now))) ≡ c .number16 .result
 kind-is c =
     let a = c .before .before .before .before .before .before .args in
     stated-window 2 (a .at) (a .block .now) (omega arith) ∙ rw (← add-one (a .at)) (sym (c .number16 .ensures))
 
 -- what the second gave is its length
-size-is : (c : tie.After-number162) → let a = c .before .before .before .before .before .before .before .before .before .args in stated 2 (drop (a .at + 2) (a .block .now)) ≡ c .number162 .result
+size-is : (c : tie.After-number162) →
+    let a = c .before .before .before .before .before .before .before .before .before .args in
+    stated 2 (drop (a .at + 2) (a .block .now)) ≡ c .number162 .result
 size-is c =
     let a = c .before .before .before .before .before .before .before .before .before .args in
     stated-window 2 (a .at + 2) (a .block .now) (omega arith) ∙ rw (← add-one (a .at + 2), add-assoc) (sym (c .number162 .ensures))
@@ -40,7 +45,8 @@ returns-3 c =
     let tested = c .before .before .before .before .before .before .before .before in
     let a = tested .before .before .args in
     let e = size-is (c .before) in
-    rw (lt-leb (length (a .block .now)) (a .at) (tested .if1 .left), lt-leb (endAt 2 (a .block .now) (a .at + 2)) (length (a .block .now)) (omega arith))
+    let size = length (a .block .now) in
+    rw (lt-leb size (a .at) (tested .if1 .left), lt-leb (endAt 2 (a .block .now) (a .at + 2)) size (omega arith))
 
 returns-4 : tie.Need-returns-4
 returns-4 c =

@@ -1,4 +1,5 @@
--- `extensions::once_in_part`: the loop keeps what a pass says of the extensions that are left (Flags, `passIn`); the measure is what is left of the block.
+-- `extensions::once_in_part`: the loop keeps what a pass says of the extensions that are left (Flags, `passIn`); the measure is
+-- what is left of the block.
 -- Assumes nothing.
 use borrow.Author.Needs.{needs}
 use Prim.Native.Nat.{ℕ, _+_, _-_, _/_, _%_, _≤_, zero-le}
@@ -55,7 +56,8 @@ returns c =
     let d = c .before .before in
     let l = turn d .loop in
     let p = part (turn d) in
-    sym (sym (l .inv .2) ∙ ap (passIn (l .words) p) (found d .left) ∙ pass-repeat (l .words) p (here d) (behind d) (c .before .if1 .taken) (c .if2 .taken))
+    let twice = pass-repeat (l .words) p (here d) (behind d) (c .before .if1 .taken) (c .if2 .taken) in
+    sym (sym (l .inv .2) ∙ ap (passIn (l .words) p) (found d .left) ∙ twice)
 
 with-bit-requires : tie.Need-with-bit-requires Inv-loop μ-loop
 with-bit-requires c κs = (omega arith, c .if2 .left)

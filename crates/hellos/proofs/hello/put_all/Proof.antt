@@ -23,8 +23,9 @@ abbrev tail : tie.Start → List ℕ
 tail s = let a = s .args in tailBytes (given (a .present) (a .block .now))
 
 -- the parts one behind the other are the message
-whole : (s : tie.Start)
-    → (head s ++ middle s) ++ tail s ≡ message (s .args .kind) (frontBytes (s .args .version) (s .args .random .now) (s .args .session-id .now) (middle s ++ tail s))
+whole : (s : tie.Start) →
+    let a = s .args in
+    (head s ++ middle s) ++ tail s ≡ message (a .kind) (frontBytes (a .version) (a .random .now) (a .session-id .now) (middle s ++ tail s))
 whole s =
     let a = s .args in
     let rest : List ℕ = middle s ++ tail s in

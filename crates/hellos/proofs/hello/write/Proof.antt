@@ -82,7 +82,8 @@ returns-2 c =
 add-body-len-3 : tie.Need-add-body-len-3
 add-body-len-3 c =
     let s = start3 c in
-    record { fits = omega (arith, s .pre, c .tail-len .ensures, front-ok (c .before .before .before), s .good, tail-bound (s .args .present) (s .args .block .now)) }
+    let tail = tail-bound (s .args .present) (s .args .block .now) in
+    record { fits = omega (arith, s .pre, c .tail-len .ensures, front-ok (c .before .before .before), s .good, tail) }
 
 returns-3 : tie.Need-returns-3
 returns-3 c =

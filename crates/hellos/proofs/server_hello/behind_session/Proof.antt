@@ -17,10 +17,16 @@ returns c = rw (lt-leb (42 + c .before .before .args .session-len) (length (c .b
 returns-2 : tie.Need-returns-2
 returns-2 c = rw (lt-leb (42 + c .before .before .before .args .session-len) (length (c .before .before .before .args .message .now)) (omega arith))
 
-version-is : (c : tie.After-number16) → let a = c .before .before .before .before .before .before .args in number (take 2 (drop 4 (a .message .now))) ≡ c .number16 .result
-version-is c = let a = c .before .before .before .before .before .before .args in stated-window 2 4 (a .message .now) (omega arith) ∙ sym (c .number16 .ensures)
+version-is : (c : tie.After-number16) →
+    let a = c .before .before .before .before .before .before .args in
+    number (take 2 (drop 4 (a .message .now))) ≡ c .number16 .result
+version-is c =
+    let a = c .before .before .before .before .before .before .args in
+    stated-window 2 4 (a .message .now) (omega arith) ∙ sym (c .number16 .ensures)
 
-suite-is : (c : tie.After-number162) → let a = c .before .before .before .before .before .before .before .before .before .args in number (take 2 (drop (39 + a .session-len) (a .message .now))) ≡ c .number162 .result
+suite-is : (c : tie.After-number162) →
+    let a = c .before .before .before .before .before .before .before .before .before .args in
+    number (take 2 (drop (39 + a .session-len) (a .message .now))) ≡ c .number162 .result
 suite-is c =
     let a = c .before .before .before .before .before .before .before .before .before .args in
     let next : suc (39 + a .session-len) ≡ 40 + a .session-len = omega arith in

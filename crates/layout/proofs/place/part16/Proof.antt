@@ -23,7 +23,9 @@ returns-2 c =
     rw (lt-leb (endAt 2 (a .message .now) (a .at)) (length (a .message .now)) (omega arith))
 
 -- what number16 gave is the vector's length
-said : (c : tie.After-number16) → let a = c .before .before .before .before .before .before .args in stated 2 (drop (a .at) (a .message .now)) ≡ c .number16 .result
+said : (c : tie.After-number16) →
+    let a = c .before .before .before .before .before .before .args in
+    stated 2 (drop (a .at) (a .message .now)) ≡ c .number16 .result
 said c =
     let a = c .before .before .before .before .before .before .args in
     stated-window 2 (a .at) (a .message .now) (omega arith) ∙ rw (← add-one (a .at)) (sym (c .number16 .ensures))
