@@ -79,9 +79,8 @@ premaster-small psk =
     let most : length psk ≤ 64 = leb-true (length psk) 64 (and-eq-true-iff (leb 1 (length psk)) (leb (length psk) 64) .0 ok .1) in
     rw (length-premaster psk) (omega arith))
 
--- the master secret: the PRF where both randoms have their length
-pub master-small : (t : Bool) (secret : List ℕ) (label : Label) (seed : List ℕ) (n : ℕ) → Small (cond t (prf secret label seed n) (refuses BadValue))
-master-small t secret label seed n = allowed t _ BadValue (prf-small secret label seed n)
+pub master-small : (secret client server : List ℕ) → Small (master secret client server)
+master-small secret client server = allowed (isRandom client && isRandom server) _ BadValue (prf-small secret _ (client ++ server) 48)
 
 pub keys-small : (secret server client : List ℕ) (suite : ℕ) → Small (keys secret server client suite)
 unfolding keys

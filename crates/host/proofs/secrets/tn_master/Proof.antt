@@ -7,7 +7,9 @@ use Rattle.host.proofs.secrets.tn_master.Statement.{statement}
 use Rattle.host.proofs.secrets.tn_master.Tie as tie
 
 of-answer-requires : tie.Need-of-answer-requires
-of-answer-requires c κs = few (c .before .before .master .ensures) (master-small _ _ _ _ _)
+of-answer-requires c κs =
+    let args = c .before .before .before .before .before .before .before .before .args in
+    few (c .before .before .master .ensures) (master-small (args .premaster .now) (args .client .now) (args .server .now))
 
 returns : tie.Need-returns
 returns c = codes (c .before .before .before .master .ensures) (c .of-answer .ok) (c .of-answer .ensures)
