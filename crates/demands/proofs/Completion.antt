@@ -1,5 +1,5 @@
--- Demand 3, second half: a connection completes exactly where the right messages came in order. One way, a series that ends complete stands at `complete`
--- (Progress.antt); the other way, each call of the record leaves the connection at its stage or takes it to the next.
+-- Demand 3, second half: a connection completes exactly where the right messages came in order. One way, a series that ends complete stands at
+-- `complete` (Progress.antt); the other way, each call of the record leaves the connection at its stage or takes it to the next.
 -- Assumes nothing.
 use mathlib.Core.Path.{_≡_, refl, ap, _∙_}
 use mathlib.Core.Logic.{_↔_}
@@ -14,11 +14,14 @@ use Rattle.server.specs.declared.Connection.{Connection}
 use Rattle.server.specs.Connection.{Settings, ruleOf, acceptable, started, ended}
 use Rattle.server.specs.KeyExchange.{View, viewOf}
 use Rattle.demands.specs.Series.{Call, message, changeOfCipher, call, run}
-use Rattle.demands.specs.Terms.{IgnoredWarning, Aside, ShortHello, BadTableCall, HelloCame, KeyExchangeCame, ChangeCame, named, ShortFinished, AwaitsFinished}
+use Rattle.demands.specs.Terms.{IgnoredWarning, Aside, ShortHello, BadTableCall, HelloCame, KeyExchangeCame, ChangeCame, named}
+use Rattle.demands.specs.Terms.{ShortFinished, AwaitsFinished}
 use Rattle.demands.specs.Demand3.{CameRight, CompletesExactly}
-use Rattle.demands.proofs.Stages.{helloed, unknown, hello-stays, hello-comes, exchange-stays, exchange-comes, change-stays, change-comes, complete-stays}
+use Rattle.demands.proofs.Stages.{helloed, unknown, hello-stays, hello-comes, exchange-stays, exchange-comes, change-stays}
+use Rattle.demands.proofs.Stages.{change-comes, complete-stays}
 use Rattle.demands.proofs.Finishing.{awaiting, finished-stays, finished-comes}
-use Rattle.demands.proofs.Progress.{exchanged, Stands, awaits-hello, awaits-exchange, awaits-change, awaits-finished, complete, closed, stands-on}
+use Rattle.demands.proofs.Progress.{exchanged, Stands, awaits-hello, awaits-exchange, awaits-change, awaits-finished, complete}
+use Rattle.demands.proofs.Progress.{closed, stands-on}
 
 -- ---- runs
 
@@ -85,7 +88,8 @@ module _ (s : Settings) (v : View) (ok : acceptable s ≡ true) where
       (run-comes v (exchanged s v (came .came)) IgnoredWarning (change-stays s v legal exchange found) (came .between) (came .aside) changeOfCipher
       ∙ change-comes s v legal exchange found)
 
-  finished-awaited : {calls : List Call} (awaits : AwaitsFinished s v calls) → unknown (ruleOf (s .named)) (v .lookup (named s v (awaits .came))) ≡ false
+  finished-awaited : {calls : List Call} (awaits : AwaitsFinished s v calls)
+      → unknown (ruleOf (s .named)) (v .lookup (named s v (awaits .came))) ≡ false
       → from-start calls ≡ awaiting s v (awaits .came)
   finished-awaited awaits known =
       let came = awaits .came in
@@ -103,7 +107,8 @@ module _ (s : Settings) (v : View) (ok : acceptable s ≡ true) where
       let x : Call = message (right .finished) (right .out) in
       let came = right .awaits .came in
       let known = listed-known (ruleOf (s .named)) (v .lookup (named s v came)) (right .right .key) (right .right .listed) in
-      let comes = finished-comes s v ok came x (record { finished = right .finished; out = right .out; is = refl; right = right .right; room = right .room }) in
+      let comes = finished-comes s v ok came x
+      (record { finished = right .finished; out = right .out; is = refl; right = right .right; room = right .room }) in
       ap from-start (right .is)
       ∙ run-append v (started s) (right .before) (x ∷ right .rest)
       ∙ rw (finished-awaited (right .awaits) known, comes) (complete-kept (right .rest))

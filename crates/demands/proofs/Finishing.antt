@@ -39,13 +39,16 @@ use Rattle.server.specs.Message.{messageStep}
 use Rattle.server.specs.Flight.{Flight, flightBytes}
 use Rattle.server.proofs.Hellos.{flight-most}
 use Rattle.demands.specs.Series.{Call, message, changeOfCipher, alert, call}
-use Rattle.demands.specs.Terms.{LegalHello, LegalKeyExchange, LegalFinished, flightTo, valueUnder, Aside, ChangeCame, named, RightFinished, ShortFinished}
+use Rattle.demands.specs.Terms.{LegalHello, LegalKeyExchange, LegalFinished, flightTo, valueUnder, Aside, ChangeCame, named}
+use Rattle.demands.specs.Terms.{RightFinished, ShortFinished}
 use Rattle.demands.proofs.Values.{is-value, value-is, compared, servers-value}
-use Rattle.demands.proofs.Settling.{refused-closes, accepted-next, short-stays, Fate, warning-stays, alert-fate, unread, unread-alerts, orRefuse, step-read, read-size}
+use Rattle.demands.proofs.Settling.{refused-closes, accepted-next, short-stays, Fate, warning-stays, alert-fate, unread}
+use Rattle.demands.proofs.Settling.{unread-alerts, orRefuse, step-read, read-size}
 use Rattle.demands.proofs.Stages.{helloed, keyed, changed, flight-is}
 
 -- a legal Finished that is right under the key that was found
-pub record Right (s : Settings) {hello : List ℕ} (legal : LegalHello (s .suites) hello) (exchange : List ℕ) (found : Option (List ℕ)) (m : List ℕ) : Type 0 where
+pub record Right (s : Settings) {hello : List ℕ} (legal : LegalHello (s .suites) hello) (exchange : List ℕ) (found : Option (List ℕ))
+    (m : List ℕ) : Type 0 where
   pub finished : LegalFinished m
   pub key : List ℕ
   pub listed : found ≡ some key
@@ -108,14 +111,17 @@ module _ (s : Settings) (v : View) {hello : List ℕ} (legal : LegalHello (s .su
   unfolding started
   judged-right ok legal-exchange m key value fits right =
       let last : length exchange ≤ messageLimit =
-      read-size (λ h. contents exchange (afterHeader h (lastAt 2 exchange 4))) (λ r. refl) 16 exchange (legal-exchange .identity) (legal-exchange .read) in
-      let first : length hello ≤ messageLimit = read-size (λ h. clientFields hello (clientHeader hello h)) (λ r. refl) 1 hello (legal .fields) (legal .read) in
+      read-size (λ h. contents exchange (afterHeader h (lastAt 2 exchange 4))) (λ r. refl) 16 exchange (legal-exchange .identity)
+      (legal-exchange .read) in
+      let first : length hello ≤ messageLimit =
+      read-size (λ h. clientFields hello (clientHeader hello h)) (λ r. refl) 1 hello (legal .fields) (legal .read) in
       let middle : length (flightTo s legal) ≤ 180 = flight-short s ok (legal .suite) in
       let few : length messages + length m ≤ 65536 =
       rw (length-append hello (flightTo s legal ++ exchange), length-append (flightTo s legal) exchange) (omega arith) in
       let secret = masterUnder key (legal .fields .random) (s .random) in
       let own = servers-value secret (keyed s legal exchange (some key) .transcript) messages transcript-is value m few right in
-      let same : isValue value (finishedOf Client (keyed s legal exchange (some key) .secrets .master) (keyed s legal exchange (some key) .transcript)) ≡ true =
+      let same : isValue value (finishedOf Client (keyed s legal exchange (some key) .secrets .master)
+      (keyed s legal exchange (some key) .transcript)) ≡ true =
       value-compared key value ∙ value-is value (valueUnder s legal exchange key) right in
       (own .0, own .1, rw (same, own .2))
 
@@ -146,7 +152,8 @@ module _ (s : Settings) (v : View) {hello : List ℕ} (legal : LegalHello (s .su
     finished-right : acceptable s ≡ true → LegalKeyExchange exchange → (m : List ℕ) → Right s legal exchange found m
         → (own : List ℕ) × (length own ≡ 12) × (finishedStep m ≡ accept (finishedFlight own) (ended Phase.Complete))
     finished-right ok legal-exchange m r =
-        let fits : length m ≤ messageLimit = read-size (λ h. contents m (afterHeader h (filledBy 12 m))) (λ r. refl) 20 m (r .finished .value) (r .finished .read) in
+        let fits : length m ≤ messageLimit =
+        read-size (λ h. contents m (afterHeader h (filledBy 12 m))) (λ r. refl) 20 m (r .finished .value) (r .finished .read) in
         let own = judged-right ok legal-exchange m (r .key) (r .finished .value) fits (r .right) in
         (own .0, own .1, finished-read m ∙ rw (r .finished .read, r .listed) (own .2))
 

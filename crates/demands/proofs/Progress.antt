@@ -11,10 +11,13 @@ use Rattle.server.specs.declared.Connection.{Connection}
 use Rattle.server.specs.Connection.{Settings, ruleOf, acceptable, started, ended}
 use Rattle.server.specs.KeyExchange.{View}
 use Rattle.demands.specs.Series.{Call, message, changeOfCipher, call}
-use Rattle.demands.specs.Terms.{IgnoredWarning, Aside, ShortHello, BadTableCall, HelloCame, KeyExchangeCame, ChangeCame, ShortFinished, AwaitsFinished}
+use Rattle.demands.specs.Terms.{IgnoredWarning, Aside, ShortHello, BadTableCall, HelloCame, KeyExchangeCame, ChangeCame}
+use Rattle.demands.specs.Terms.{ShortFinished, AwaitsFinished}
 use Rattle.demands.specs.Demand3.{CameRight}
 use Rattle.demands.proofs.Settling.{Fate}
-use Rattle.demands.proofs.Stages.{helloed, keyed, unknown, HelloComes, hello-fate, hello-stays, hello-comes, ExchangeComes, exchange-fate, exchange-stays, exchange-comes, change-fate, change-stays, change-comes, closed-stays, complete-stays}
+use Rattle.demands.proofs.Stages.{helloed, keyed, unknown, HelloComes, hello-fate, hello-stays, hello-comes, ExchangeComes}
+use Rattle.demands.proofs.Stages.{exchange-fate, exchange-stays, exchange-comes, change-fate, change-stays, change-comes}
+use Rattle.demands.proofs.Stages.{closed-stays, complete-stays}
 use Rattle.demands.proofs.Finishing.{awaiting, FinishedComes, finished-fate, finished-stays, finished-comes}
 
 -- what the connection is when it awaits the change of cipher of a series
@@ -89,7 +92,8 @@ module _ (s : Settings) (v : View) (ok : acceptable s ≡ true) (calls : List Ca
       → Each (Aside (BadTableCall v)) between → Fate v (helloed s (came .legal)) (Aside (BadTableCall v)) (ExchangeComes v) x
       → Stands s v then (call v (helloed s (came .legal)) x .next)
   after-exchange first came between is aside (inl stays) =
-      awaits-exchange first came (between ++ (x ∷ [])) (more first between x is) (every-append (Aside (BadTableCall v)) between (x ∷ []) aside (stays, tt))
+      awaits-exchange first came (between ++ (x ∷ [])) (more first between x is)
+      (every-append (Aside (BadTableCall v)) between (x ∷ []) aside (stays, tt))
       (exchange-stays s v (came .legal) x stays)
   after-exchange first came between is aside (inr (inl comes)) =
       go (unknown (ruleOf (s .named)) (v .lookup (comes .legal .identity))) (exchange-comes s v (came .legal) x comes)

@@ -1,5 +1,5 @@
--- The first half of demand 3: the two servers' connections are the same until a ClientKeyExchange names an identity that their tables differ in, and from
--- there differ only in what a right Finished would show.
+-- The first half of demand 3: the two servers' connections are the same until a ClientKeyExchange names an identity that their tables differ in, and
+-- from there differ only in what a right Finished would show.
 -- Assumes nothing.
 use mathlib.Core.Path.{_≡_, refl, sym, ap, ap₂, _∙_}
 use mathlib.Core.Logic.{_⊎_, inl, inr}
@@ -27,13 +27,15 @@ use Rattle.server.specs.Flight.{silence}
 use Rattle.server.specs.Message.{messageStep}
 use Rattle.server.specs.Alert.{alertStep, alertCall}
 use Rattle.demands.specs.Series.{Call, message, changeOfCipher, alert, call, Seen, seen, answers}
-use Rattle.demands.specs.Terms.{LegalKeyExchange, IgnoredWarning, Aside, BadTableCall, HelloCame, KeyExchangeCame, ChangeCame, named, ShortFinished}
+use Rattle.demands.specs.Terms.{LegalKeyExchange, IgnoredWarning, Aside, BadTableCall, HelloCame, KeyExchangeCame, ChangeCame, named}
+use Rattle.demands.specs.Terms.{ShortFinished}
 use Rattle.demands.specs.Demand3.{JudgedRight, Sameness}
 use Rattle.demands.specs.Agreeing.{AgreeOutside, NoneJudgedRightOf, SamenessOfLookups}
 use Rattle.demands.proofs.Settling.{refused-closes, accepted-next, Closes, Fate, warning-stays, alert-fate, unread, orRefuse}
 use Rattle.demands.proofs.Stages.{helloed, keyed, exchange-read, exchange-legal, changed, change-stays, change-fate}
 use Rattle.demands.proofs.Finishing.{Right, wrong, wrong-alerts, finished-other, awaiting}
-use Rattle.demands.proofs.Progress.{exchanged, Stands, awaits-hello, awaits-exchange, awaits-change, awaits-finished, complete, closed, more, exchange-now, change-now, stands-on}
+use Rattle.demands.proofs.Progress.{exchanged, Stands, awaits-hello, awaits-exchange, awaits-change, awaits-finished, complete}
+use Rattle.demands.proofs.Progress.{closed, more, exchange-now, change-now, stands-on}
 
 -- ---- two servers at one call
 
@@ -66,8 +68,8 @@ both-fates v v' c c' Stays Comes x (inr (inr closes)) (inr (inr closes')) = inr 
 
 -- ---- the two connections after the same calls
 
--- They are the same; or a ClientKeyExchange named an identity of the set, nothing but warnings stood aside since, and the second connection is what its own
--- table's answer for that identity makes of it.
+-- They are the same; or a ClientKeyExchange named an identity of the set, nothing but warnings stood aside since, and the second connection is what
+-- its own table's answer for that identity makes of it.
 data Together (s : Settings) (v v' : View) (Set : List ℕ → Type 0) (calls : List Call) (c c' : Connection) : Type 0 where
   same-yet : c ≡ c' → Together s v v' Set calls c c'
   changing : (first : List Call) (came : KeyExchangeCame s v first) (between : List Call) → calls ≡ first ++ between → Each IgnoredWarning between
@@ -77,7 +79,8 @@ data Together (s : Settings) (v v' : View) (Set : List ℕ → Type 0) (calls : 
       → Set (named s v came) → c ≡ awaiting s v came → c' ≡ changed s (came .came .came .legal) (came .came .exchange) (v' .lookup (named s v came))
       → Together s v v' Set calls c c'
 
-module _ (s : Settings) (ok : acceptable s ≡ true) (hide : ruleOf (s .named) ≡ Rule.Hide) (Set : List ℕ → Type 0) (v v' : View) (good : v .refusal ≡ none)
+module _ (s : Settings) (ok : acceptable s ≡ true) (hide : ruleOf (s .named) ≡ Rule.Hide) (Set : List ℕ → Type 0) (v v' : View)
+    (good : v .refusal ≡ none)
     (good' : v' .refusal ≡ none) (agree : AgreeOutside Set v v') where
   -- ---- what came is the same for both
 
@@ -210,9 +213,11 @@ module _ (s : Settings) (ok : acceptable s ≡ true) (hide : ruleOf (s .named) �
         go : IgnoredWarning x ⊎ ((x ≡ changeOfCipher) ⊎ (Closes v (keyedBy v) x × Closes v' (keyedBy v') x))
             → Together s v v' Set (calls ++ (x ∷ [])) (call v (keyedBy v) x .next) (call v' (keyedBy v') x .next)
         go (inl warning) =
-            changing first came (between ++ (x ∷ [])) (more first between x split) (every-append IgnoredWarning between (x ∷ []) aside (warning, tt)) set
+            changing first came (between ++ (x ∷ [])) (more first between x split)
+            (every-append IgnoredWarning between (x ∷ []) aside (warning, tt)) set
             (stays v warning) (stays v' warning)
-        go (inr (inl comes)) = finishing (calls ++ (x ∷ [])) (change-now s v first came between split aside comes) [] (sym (append-nil _)) tt set (rw comes) (rw comes)
+        go (inr (inl comes)) =
+            finishing (calls ++ (x ∷ [])) (change-now s v first came between split aside comes) [] (sym (append-nil _)) tt set (rw comes) (rw comes)
         go (inr (inr closes)) = same-yet (closes .0 ∙ sym (closes .1))
 
   -- ---- awaiting the Finished, on connections that differ
@@ -257,7 +262,8 @@ module _ (s : Settings) (ok : acceptable s ≡ true) (hide : ruleOf (s .named) �
       warned-on : (x : Call) → IgnoredWarning x ⊎ (⊥ ⊎ (Closes v (changedBy v) x × Closes v' (changedBy v') x))
           → Together s v v' Set (calls ++ (x ∷ [])) (call v (changedBy v) x .next) (call v' (changedBy v') x .next)
       warned-on x (inl warning) =
-          finishing first came (between ++ (x ∷ [])) (more first between x split) (every-append IgnoredWarning between (x ∷ []) aside (warning, tt)) set
+          finishing first came (between ++ (x ∷ [])) (more first between x split)
+          (every-append IgnoredWarning between (x ∷ []) aside (warning, tt)) set
           (warning-stays v (changedBy v) refl x warning) (warning-stays v' (changedBy v') refl x warning)
       warned-on x (inr (inl comes)) = absurd comes
       warned-on x (inr (inr closes)) = same-yet (closes .0 ∙ sym (closes .1))
@@ -290,9 +296,11 @@ module _ (s : Settings) (ok : acceptable s ≡ true) (hide : ruleOf (s .named) �
   stage-on calls x (complete came is) = rw is (elsewhere-on calls x (ended Phase.Complete) tt)
   stage-on calls x (closed is) = rw is (elsewhere-on calls x (ended Phase.Closed) tt)
 
-  together-on : (calls : List Call) (x : Call) {c c' : Connection} → Stands s v calls c → Together s v v' Set calls c c' → NotJudged calls x → Goes calls x c c'
+  together-on : (calls : List Call) (x : Call) {c c' : Connection} → Stands s v calls c → Together s v v' Set calls c c' → NotJudged calls x
+      → Goes calls x c c'
   together-on calls x stands (same-yet is) never = rw (← is) (stage-on calls x stands)
-  together-on calls x stands (changing first came between split aside set is is') never = rw (is, is') (change-on calls first came between split aside set x)
+  together-on calls x stands (changing first came between split aside set is is') never =
+      rw (is, is') (change-on calls first came between split aside set x)
   together-on calls x stands (finishing first came between split aside set is is') never =
       rw (is, is') (finish-on calls first between split aside came set x never)
 

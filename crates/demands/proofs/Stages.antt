@@ -1,5 +1,5 @@
--- The stages of a connection, from a start on, as far as the change of cipher, and those where it is over: what it is there, and what every call makes of it.
--- Finishing.antt has the stage between.
+-- The stages of a connection, from a start on, as far as the change of cipher, and those where it is over: what it is there, and what every call
+-- makes of it. Finishing.antt has the stage between.
 -- Assumes nothing.
 use mathlib.Core.Path.{_≡_, refl, ap, _∙_}
 use mathlib.Core.Logic.{_⊎_, inl, inr}
@@ -14,7 +14,8 @@ use lib.Seq.{take-append-seam}
 use lib.Dec.{ltb}
 use Rattle.refusal.specs.declared.Refusal.{Refusal}
 use Rattle.refusal.specs.Table.{toClient}
-use Rattle.refusal.specs.declared.Refusal.the-variants.{UnexpectedMessage, HandshakeFailure, IllegalParameter, DecodeError, ProtocolVersion, UnknownPskIdentity}
+use Rattle.refusal.specs.declared.Refusal.the-variants.{UnexpectedMessage, HandshakeFailure, IllegalParameter, DecodeError, ProtocolVersion}
+use Rattle.refusal.specs.declared.Refusal.the-variants.{UnknownPskIdentity}
 use Rattle.layout.specs.declared.Verdict.{Verdict}
 use Rattle.layout.specs.Header.{header}
 use Rattle.layout.specs.Place.{lastAt, afterHeader, contents}
@@ -33,7 +34,8 @@ use Rattle.server.specs.Change.{afterChange}
 use Rattle.server.proofs.Hellos.{version-old, null-missing, null-there}
 use Rattle.demands.specs.Series.{Call, message, changeOfCipher, alert, call}
 use Rattle.demands.specs.Terms.{LegalHello, LegalKeyExchange, answerTo, flightTo, IgnoredWarning, Aside, ShortHello, BadTableCall}
-use Rattle.demands.proofs.Settling.{refused-closes, refused-stays, accepted-next, short-stays, Alerts, Fate, warning-stays, alert-fate, Tested, header-tested, unread, unread-alerts, orRefuse, step-read}
+use Rattle.demands.proofs.Settling.{refused-closes, refused-stays, accepted-next, short-stays, Alerts, Fate, warning-stays}
+use Rattle.demands.proofs.Settling.{alert-fate, Tested, header-tested, unread, unread-alerts, orRefuse, step-read}
 
 -- ---- awaiting the ClientHello
 
@@ -88,13 +90,15 @@ module _ (s : Settings) (v : View) where
 
       of-read : (o : Option ClientHello) → readClientHello m ≡ o → LegalHello (s .suites) m ⊎ Alerts (helloStep m)
       of-read none read = inr (unread 1 m, hello-read m ∙ rw read, unread-alerts 1 m)
-      of-read (some f) read = of-fields f read (decLe 0x0303 (f .version)) (offersNull (f .methods)) refl (chosen (started s .setup .suites) (f .suites)) refl
+      of-read (some f) read =
+          of-fields f read (decLe 0x0303 (f .version)) (offersNull (f .methods)) refl (chosen (started s .setup .suites) (f .suites)) refl
 
   pub hello-stays : (x : Call) → Aside (ShortHello s) x → call v (started s) x .next ≡ started s
   unfolding started
   hello-stays x (inl warning) = warning-stays v (started s) refl x warning
   hello-stays x (inr short) =
-      rw (short .is) (short-stays (started s) (short .out) _ (answerTo s (short .legal)) (helloed s (short .legal)) (hello-legal (short .legal)) (short .short))
+      rw (short .is) (short-stays (started s) (short .out) _ (answerTo s (short .legal)) (helloed s (short .legal)) (hello-legal (short .legal))
+      (short .short))
 
   pub hello-comes : (x : Call) (comes : HelloComes s x) → call v (started s) x .next ≡ helloed s (comes .legal)
   unfolding started
@@ -106,7 +110,8 @@ module _ (s : Settings) (v : View) where
   unfolding started
   hello-fate (message m out) = go (hello-other m)
     where
-      legally : (legal : LegalHello (s .suites) m) → Dec (length (flightTo s legal) ≤ length out) → Fate v (started s) (Aside (ShortHello s)) (HelloComes s) (message m out)
+      legally : (legal : LegalHello (s .suites) m) → Dec (length (flightTo s legal) ≤ length out)
+          → Fate v (started s) (Aside (ShortHello s)) (HelloComes s) (message m out)
       legally legal (yes room) = inr (inl (record { hello = m; out = out; is = refl; legal = legal; room = room }))
       legally legal (no short) = inl (inr (record { hello = m; out = out; is = refl; legal = legal; short = omega arith }))
 
@@ -152,7 +157,8 @@ module _ (s : Settings) (v : View) {hello : List ℕ} (legal : LegalHello (s .su
   pub exchange-read : (m : List ℕ) → v .refusal ≡ none
       → exchangeStep m ≡ orRefuse (unread 16 m) (λ identity. keyFound (helloed s legal) m (v .lookup identity)) (readVector 16 m)
   exchange-read m good =
-      rw good (step-read (λ h. contents m (afterHeader h (lastAt 2 m 4))) (λ r. refl) (keyIdentity (v .lookup) (helloed s legal) m) refl (header 16 m))
+      rw good (step-read (λ h. contents m (afterHeader h (lastAt 2 m 4))) (λ r. refl) (keyIdentity (v .lookup) (helloed s legal) m) refl
+      (header 16 m))
 
   found-step : (m : List ℕ) (found : Option (List ℕ)) → keyFound (helloed s legal) m found
       ≡ cond (unknown (ruleOf (s .named)) found) (refuse UnknownPskIdentity) (accept silence (keyed s legal m found))

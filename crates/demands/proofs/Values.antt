@@ -1,5 +1,5 @@
--- The Finished values of a connection: the one that the server compares with is the one that specs/Terms.antt names, and where there is a client's value
--- there is one of the server's, 12 bytes, since a transcript stays far below the hash's limit.
+-- The Finished values of a connection: the one that the server compares with is the one that specs/Terms.antt names, and where there is a client's
+-- value there is one of the server's, 12 bytes, since a transcript stays far below the hash's limit.
 -- Assumes nothing.
 use mathlib.Core.Path.{_≡_, refl, sym, ap}
 use Prim.Native.Nat.{ℕ, _+_, _≤_}

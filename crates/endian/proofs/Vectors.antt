@@ -100,7 +100,8 @@ split-none w bs h = (there, back)
 
     back : ((xs rest : List ℕ) → writable w xs ≡ true → bs ≡ vector w xs ++ rest → ⊥) → split w bs ≡ none
     back never = elim (decLe (w + stated w bs) (length bs)) [
-      | yes fits ↦ let parts = vector-parts w bs h fits in absurd (never (take (stated w bs) (drop w bs)) (drop (w + stated w bs) bs) (parts .1) (parts .0))
+      | yes fits ↦ let parts =
+          vector-parts w bs h fits in absurd (never (take (stated w bs) (drop w bs)) (drop (w + stated w bs) bs) (parts .1) (parts .0))
       | no short ↦ split-cut w bs (omega arith)
     ]
 

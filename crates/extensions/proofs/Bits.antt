@@ -23,7 +23,8 @@ set-above x j k d e = rw (e, pow-add 2 j (1 + d), pow-add 2 1 d, add-mul-div-lef
 set-below : (x j k d : ℕ) → j ≡ k + (1 + d) → x / 2 ^ k % 2 ≡ 0 → (x + 2 ^ k) / 2 ^ j % 2 ≡ x / 2 ^ j % 2
 set-below x j k d e clear =
     let half : (x + 2 ^ k) / 2 ^ k / 2 ≡ x / 2 ^ k / 2 = rw (add-div-right x (pow-pos k)) (omega arith) in
-    let shifted : (y : ℕ) → y / 2 ^ j ≡ y / 2 ^ k / 2 / 2 ^ d = λ y. ap (λ (i : ℕ). y / 2 ^ i) e ∙ sym (shr-shr y k (1 + d)) ∙ sym (shr-shr (y / 2 ^ k) 1 d) in
+    let shifted : (y : ℕ) → y / 2 ^ j ≡ y / 2 ^ k / 2 / 2 ^ d =
+    λ y. ap (λ (i : ℕ). y / 2 ^ i) e ∙ sym (shr-shr y k (1 + d)) ∙ sym (shr-shr (y / 2 ^ k) 1 d) in
     ap (λ (y : ℕ). y % 2) (shifted (x + 2 ^ k) ∙ ap (λ (y : ℕ). y / 2 ^ d) half ∙ sym (shifted x))
 
 pub set-other : (x k j : ℕ) → j ≢ k → x / 2 ^ k % 2 ≡ 0 → (x + 2 ^ k) / 2 ^ j % 2 ≡ x / 2 ^ j % 2

@@ -18,7 +18,8 @@ use Rattle.endian.proofs.Numbers.{number-be-lt, number-lt, be-number-at, bytes-
 use Rattle.extensions.specs.declared.Step.{Step}
 use Rattle.extensions.specs.declared.Step.the-variants.{Extension, End, Refused}
 use Rattle.layout.specs.Place.{endAt}
-use Rattle.extensions.specs.Extensions.{Ext, extensionBytes, blockBytes, first, firstEnd, adding, extensionsUpTo, extensionsIn, ticketShape, ticketsShaped, stepAt}
+use Rattle.extensions.specs.Extensions.{Ext, extensionBytes, blockBytes, first, firstEnd, adding, extensionsUpTo, extensionsIn}
+use Rattle.extensions.specs.Extensions.{ticketShape, ticketsShaped, stepAt}
 use Rattle.layout.proofs.Places.{vector-at, vector-last}
 
 -- ---- how many are asked for does not matter, once they are no fewer than the bytes
@@ -42,7 +43,8 @@ in-first [] h fits = absurd (omega arith)
 in-first (x ∷ xs) h fits =
     let b : List ℕ = x ∷ xs in
     let rest : length (drop (firstEnd b) b) ≤ length xs = simp length-drop (omega arith) in
-    rw (le-leb (firstEnd b) (length b) fits) (ap (adding (first b)) (enough (length xs) (length (drop (firstEnd b) b)) (drop (firstEnd b) b) rest (omega arith)))
+    rw (le-leb (firstEnd b) (length b) fits)
+    (ap (adding (first b)) (enough (length xs) (length (drop (firstEnd b) b)) (drop (firstEnd b) b) rest (omega arith)))
 
 in-cut : (b : List ℕ) → 0 < length b → length b < firstEnd b → extensionsIn b ≡ none
 in-cut [] h cut = absurd (omega arith)
@@ -164,7 +166,8 @@ in-block (e ∷ es) h =
     let says : stated 2 (drop 2 b) ≡ length (e .contents) = number-be-lt 2 (length (e .contents)) (ltb-true _ _ (own .1)) in
     let size : length b ≡ 4 + length (e .contents) + length (blockBytes es) = simp length-append (omega arith) in
     let kind : number (take 2 b) ≡ e .kind = number-be-lt 2 (e .kind) (ltb-true _ _ (own .0)) in
-    let contents : take (stated 2 (drop 2 b)) (drop 4 b) ≡ e .contents = ap (λ (n : ℕ). take n (drop 4 b)) says ∙ take-append-seam (e .contents) (blockBytes es) in
+    let contents : take (stated 2 (drop 2 b)) (drop 4 b) ≡ e .contents =
+    ap (λ (n : ℕ). take n (drop 4 b)) says ∙ take-append-seam (e .contents) (blockBytes es) in
     let named : first b ≡ e = λ i. record { kind = kind i; contents = contents i } in
     let rest : drop (firstEnd b) b ≡ blockBytes es =
     sym (drop-drop (stated 2 (drop 2 b)) 4 b) ∙ ap (λ (n : ℕ). drop n (drop 4 b)) says ∙ drop-append-seam (e .contents) (blockBytes es) in
@@ -182,7 +185,8 @@ first-is b h fits =
     let kind : be 2 (number (take 2 b)) ≡ take 2 b = be-number-at 2 (take 2 b) (bytes-take 2 b h) two in
     let small : number (take 2 b) < 256 ^ 2 = rw two at (number-lt (take 2 b) (bytes-take 2 b h)) in
     let read = vector-at 2 b 2 h fits in (
-      sym (take-append-drop 2 b) ∙ ap₂ _++_ (sym kind) (read .0) ∙ sym (append-assoc (be 2 (number (take 2 b))) (vector 2 (first b .contents)) (drop (firstEnd b) b)),
+      sym (take-append-drop 2 b) ∙ ap₂ _++_ (sym kind)
+          (read .0) ∙ sym (append-assoc (be 2 (number (take 2 b))) (vector 2 (first b .contents)) (drop (firstEnd b) b)),
       rw (lt-ltb (number (take 2 b)) 65536 small) (read .1),
     )
 
@@ -199,8 +203,11 @@ block-first b o es h written e = go (decLe (firstEnd b) (length b))
     go (yes fits) =
         let parts = added (first b) o es (rw (le-leb (firstEnd b) (length b) fits) at e) in
         let own = first-is b h fits in
-        let rest = written (parts .0) (parts .1) in
-        (own .0 ∙ ap (λ (l : List ℕ). extensionBytes (first b) ++ l) (rest .0) ∙ ap blockBytes (sym (parts .2)), ap allWritable (parts .2) ∙ rw (own .1) (rest .1))
+        let rest = written (parts .0) (parts .1) in (
+          own .0 ∙ ap (λ (l : List ℕ). extensionBytes (first b) ++ l) (rest .0) ∙ ap blockBytes (sym (parts .2)),
+          ap allWritable (parts .2)
+              ∙ rw (own .1) (rest .1),
+        )
     go (no cut) = absurd (Option·none-ne-some es (rw (lt-leb (firstEnd b) (length b) (omega arith)) at e))
 
 block-up-to : (n : ℕ) (b : List ℕ) (es : List Ext) → Bytes b → extensionsUpTo n b ≡ some es → Written b es

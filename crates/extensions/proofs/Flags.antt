@@ -230,7 +230,8 @@ distinct-parts (t ∷ ts) b h =
 kinds-small : (es : List Ext) → allWritable es ≡ true → (i : ℕ) → getD (kinds es) i 0 < 65536
 kinds-small [] h i = omega arith
 kinds-small (e ∷ es) h zero =
-    ltb-true (e .kind) 65536 (and-eq-true-iff (ltb (e .kind) 65536) (writable 2 (e .contents)) .0 (and-eq-true-iff (writableExt e) (allWritable es) .0 h .0) .0)
+    ltb-true (e .kind) 65536 (and-eq-true-iff (ltb (e .kind) 65536) (writable 2 (e .contents)) .0
+    (and-eq-true-iff (writableExt e) (allWritable es) .0 h .0) .0)
 kinds-small (e ∷ es) h (suc i) = kinds-small es (and-eq-true-iff (writableExt e) (allWritable es) .0 h .1) i
 
 pub once-parts : (b : List ℕ) (o : Option (List Ext)) → Bytes b → extensionsIn b ≡ o → ((p : ℕ) → p < 8 → partOnce p o ≡ true) → eachOnce o ≡ true

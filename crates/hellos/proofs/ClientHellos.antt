@@ -26,7 +26,8 @@ use Rattle.layout.specs.Header.{header}
 use Rattle.layout.specs.Place.{endAt, partAt, ruled}
 use Rattle.hellos.specs.Hello.{frontRules, frontBytes, sessionAt, blockRules, tailBytes, blockAt, blockContents}
 use Rattle.hellos.specs.ClientHello.{ClientHello, clientHello, suitesLength, methodsLength}
-use Rattle.hellos.specs.ClientHello.{clientBlock, clientMethods, clientSuites, clientSession, clientBody, clientHeader, clientPlace, clientFields, readClientHello}
+use Rattle.hellos.specs.ClientHello.{clientBlock, clientMethods, clientSuites, clientSession, clientBody, clientHeader, clientPlace}
+use Rattle.hellos.specs.ClientHello.{clientFields, readClientHello}
 use Rattle.layout.proofs.Layouts.{valid-within, valid-parts}
 use Rattle.layout.proofs.Headers.{header-message, header-read}
 use Rattle.layout.proofs.Places.{part-there, ruled-there, ruled-inside, vector-at, part-written}
@@ -43,7 +44,8 @@ pub record Parts (m : List ℕ) (x n s k t j : ℕ) (b : Block) : Type 0 where
 
 -- how a ClientHello is read, by cases: what holds of a refusal, and wherever the parts stand so, holds of what is read
 module _ (m : List ℕ) (Holds : Client → Type 0) (refused : Holds Client.Refused) where
-  pub by-parts : ((x n s k t j : ℕ) (b : Block) → Parts m x n s k t j b → Holds (Read (number (take 2 (drop 4 m))) n s k t j b)) → Holds (clientBody m)
+  pub by-parts : ((x n s k t j : ℕ) (b : Block) → Parts m x n s k t j b → Holds (Read (number (take 2 (drop 4 m))) n s k t j b))
+      → Holds (clientBody m)
   by-parts read = by-session (sessionAt m) refl
     where
       by-block : (x n s k t j : ℕ) (o : BlockFound) → sessionAt m ≡ At x n → ruled suitesLength (partAt 2 m (x + n)) ≡ At s k
@@ -125,7 +127,14 @@ at-least-45 f h =
     let front = front-rules (f .version) (f .random) (f .sessionId) (ok .0) in
     let two = and-eq-true-iff (leb 2 (length (f .suites))) (eqb (length (f .suites) % 2) 0) .0 (ok .1 .1) .0 in
     let total : length rest ≡ 3 + length (f .suites) + length (f .methods) + length (tailBytes (f .extensions)) = simp length-append (omega arith) in
-    omega (arith, leb-true 2 (length (f .suites)) two, leb-true 1 (length (f .methods)) (ok .2 .1), total, length-body (f .version) (f .random) (f .sessionId) rest (front .1))
+    omega (
+      arith,
+      leb-true 2 (length (f .suites)) two,
+      leb-true 1 (length (f .methods)) (ok .2 .1),
+      total,
+      length-body (f .version) (f .random)
+          (f .sessionId) rest (front .1),
+    )
 
 -- ---- reading what was written
 
@@ -138,7 +147,8 @@ reads f h =
     let tail : List ℕ = tailBytes (f .extensions) in
     let ok = valid-parts clientHello f h in
     let rules = rules-of f h in
-    let front = front-written clientHelloType (f .version) (f .random) (f .sessionId) (vector 2 (f .suites) ++ (vector 1 (f .methods) ++ tail)) (rules .0) in
+    let front = front-written clientHelloType (f .version) (f .random) (f .sessionId) (vector 2 (f .suites) ++ (vector 1 (f .methods) ++ tail))
+    (rules .0) in
     let suites = part-written 2 m (39 + n) (f .suites) (vector 1 (f .methods) ++ tail) (omega arith) (rules .1 .0) (front .4) in
     let methods = part-written 1 m (39 + n + 2 + k) (f .methods) tail (omega arith) (rules .2 .0) (suites .3) in
     let block = block-written true m (39 + n + 2 + k + 1 + j) (f .extensions) (omega arith) (rules .3) (methods .3) in
@@ -165,7 +175,8 @@ Wrote m f = (valid clientHello f ≡ true) × (m ≡ bytes clientHello f)
 
 -- a vector with a rule on its length, as the message has it
 vector-read : (rule : ℕ → Bool) (w : ℕ) (m : List ℕ) (at s n : ℕ) → Bytes m → ruled rule (partAt w m at) ≡ At s n
-    → (drop at m ≡ vector w (take n (drop s m)) ++ drop (s + n) m) × (writable w (take n (drop s m)) ≡ true) × (rule (length (take n (drop s m))) ≡ true)
+    → (drop at m ≡ vector w (take n (drop s m)) ++ drop (s + n) m) × (writable w (take n (drop s m)) ≡ true)
+    × (rule (length (take n (drop s m))) ≡ true)
 vector-read rule w m at s n b e =
     let r = ruled-there rule (partAt w m at) s n e in
     let there = part-there w m at s n (r .0) in
@@ -195,7 +206,8 @@ module _ (m : List ℕ) (f : ClientHello) (b : Bytes m) where
       let third = vector-read methodsLength 1 m (s + k) t j b (p .methods) in
       let block = block-read true m (t + j) c b (p .block) in
       let rest : drop (39 + n) m ≡ vector 2 (read .suites) ++ (vector 1 (read .methods) ++ tailBytes (read .extensions)) =
-      rw (front .0) at (second .0) ∙ ap (λ (l : List ℕ). vector 2 (read .suites) ++ l) (third .0 ∙ ap (λ (l : List ℕ). vector 1 (read .methods) ++ l) (block .0)) in
+      rw (front .0) at (second .0) ∙ ap (λ (l : List ℕ). vector 2 (read .suites) ++ l)
+      (third .0 ∙ ap (λ (l : List ℕ). vector 1 (read .methods) ++ l) (block .0)) in
       let body : drop 4 m ≡ clientHello .body read = front .2 ∙ ap (frontBytes (read .version) (read .random) (read .sessionId)) rest in
       let rules : clientHello .rules read ≡ true = rw (front .3, second .1, second .2, third .1, third .2) (block .1) in
       rw same (valid-within clientHello read rules (rw body at (head .1)), rw body at (head .0))

@@ -111,7 +111,8 @@ block-there client m at b s n true h l r e =
     rw same (read .0 ∙ ap (vector 2) (sym contents), rw (contents, read .1) (rw contents at r))
 block-there client m at b s n false h l r e = absurd (let z : _≡_ {A = ℕ} 0 1 = cc e in omega arith)
 
-block-in-part : (client : Bool) (m : List ℕ) (at : ℕ) (b : Block) (p : Part) → Bytes m → lastAt 2 m at ≡ p → blockIn client m p ≡ Found b → Tail client m at b
+block-in-part : (client : Bool) (m : List ℕ) (at : ℕ) (b : Block) (p : Part) → Bytes m → lastAt 2 m at ≡ p → blockIn client m p ≡ Found b
+    → Tail client m at b
 block-in-part client m at b (At s n) h l e = block-there client m at b s n (blockRule client (take n (drop s m))) h l refl e
 block-in-part client m at b Part.Refused h l e = absurd (let z : _≡_ {A = ℕ} 0 1 = cc e in omega arith)
 

@@ -25,7 +25,8 @@ use Rattle.layout.specs.Types.{serverHelloType}
 use Rattle.layout.specs.Layout.{bytes, valid, Inverse}
 use Rattle.layout.specs.Header.{header}
 use Rattle.hellos.specs.Hello.{frontRules, frontBytes, sessionAt, blockRules, tailBytes, blockAt, blockContents}
-use Rattle.hellos.specs.ServerHello.{ServerHello, serverHello, serverBlock, serverSession, serverHeader, serverPlace, serverFields, readServerHello}
+use Rattle.hellos.specs.ServerHello.{ServerHello, serverHello, serverBlock, serverSession, serverHeader, serverPlace, serverFields}
+use Rattle.hellos.specs.ServerHello.{readServerHello}
 use Rattle.layout.proofs.Layouts.{valid-within, valid-parts}
 use Rattle.layout.proofs.Headers.{header-message, header-read}
 use Rattle.hellos.proofs.Hellos.{front-written, front-read, block-written, block-read, length-body, front-rules}
@@ -77,8 +78,10 @@ reads f h =
     let rest : List ℕ = be 2 (f .suite) ++ (f .compression ∷ tail) in
     let n : ℕ = length (f .sessionId) in
     let front = front-written serverHelloType (f .version) (f .random) (f .sessionId) rest (two .0) in
-    let size : length m ≡ 42 + n + length tail = omega (arith, length-body (f .version) (f .random) (f .sessionId) rest (front-rules (f .version) (f .random) (f .sessionId) (two .0) .1)) in
-    let suite : number (take 2 (drop (39 + n) m)) ≡ f .suite = ap (λ (l : List ℕ). number (take 2 l)) (front .4) ∙ number-be-lt 2 (f .suite) (ltb-true _ _ (three .0)) in
+    let size : length m ≡ 42 + n + length tail =
+    omega (arith, length-body (f .version) (f .random) (f .sessionId) rest (front-rules (f .version) (f .random) (f .sessionId) (two .0) .1)) in
+    let suite : number (take 2 (drop (39 + n) m)) ≡ f .suite =
+    ap (λ (l : List ℕ). number (take 2 l)) (front .4) ∙ number-be-lt 2 (f .suite) (ltb-true _ _ (three .0)) in
     let compressed : getD m (41 + n) 0 ≡ f .compression =
     ap (λ (k : ℕ). getD m k 0) plus-two ∙ sym (getD-drop (39 + n) m 2 0) ∙ ap (λ (l : List ℕ). getD l 2 0) (front .4) in
     let behind : drop (42 + n) m ≡ tail = ap (λ (k : ℕ). drop k m) plus-three ∙ sym (drop-drop 3 (39 + n) m) ∙ ap (drop 3) (front .4) in
@@ -111,7 +114,8 @@ chosen-read m n b fits =
     let two : length (take 2 d) ≡ 2 = length-take-le 2 d (simp length-drop (omega arith)) in
     let front : Bytes (take 2 d) = bytes-take 2 d (bytes-drop (39 + n) m b) in
     let third : drop 2 d ≡ getD m (41 + n) 0 ∷ drop (42 + n) m =
-    drop-drop 2 (39 + n) m ∙ ap (λ (k : ℕ). drop k m) plus-two ∙ drop-cons m (41 + n) 0 (omega arith) ∙ ap (λ (k : ℕ). getD m (41 + n) 0 ∷ drop k m) plus-one in
+    drop-drop 2 (39 + n) m ∙ ap (λ (k : ℕ). drop k m) plus-two ∙ drop-cons m (41 + n) 0 (omega arith)
+    ∙ ap (λ (k : ℕ). getD m (41 + n) 0 ∷ drop k m) plus-one in
     (sym (take-append-drop 2 d) ∙ ap₂ _++_ (sym (be-number-at 2 (take 2 d) front two)) third, rw two at (number-lt (take 2 d) front))
   where
     plus-two : 39 + n + 2 ≡ 41 + n

@@ -7,7 +7,9 @@ use mathlib.Core.Bool.{cond}
 use lib.Dec.{eqb}
 use lib.IntN.{ℤ, pos, negsuc}
 use Rattle.refusal.specs.declared.Refusal.{Refusal}
-use Rattle.refusal.specs.declared.Refusal.the-variants.{ShortOutput, BadTable, BadSetting, ConnectionOver, BadValue, UnexpectedMessage, HandshakeFailure, IllegalParameter, DecodeError, DecryptError, ProtocolVersion, UnknownPskIdentity}
+use Rattle.refusal.specs.declared.Refusal.the-variants.{ShortOutput, BadTable, BadSetting, ConnectionOver, BadValue, UnexpectedMessage}
+use Rattle.refusal.specs.declared.Refusal.the-variants.{HandshakeFailure, IllegalParameter, DecodeError, DecryptError, ProtocolVersion}
+use Rattle.refusal.specs.declared.Refusal.the-variants.{UnknownPskIdentity}
 use Rattle.refusal.specs.declared.Written.{Written}
 use Rattle.refusal.specs.declared.Written.the-variants.{Wrote, Refused}
 use Rattle.host.specs.Codes.{refusalCode, coded}

@@ -59,7 +59,8 @@ sha256-small m = tested (leb (length m) limit) (digest m) BadValue (λ _. rw (le
 
 pub hmac-small : (key text : List ℕ) → Small (hmac key text)
 unfolding hmac mac keyed
-hmac-small key text = tested (leb (length text) (limit - 64) && leb (length key) limit) (mac key text) BadValue (λ _. rw (length-digest _) (omega arith))
+hmac-small key text =
+    tested (leb (length text) (limit - 64) && leb (length key) limit) (mac key text) BadValue (λ _. rw (length-digest _) (omega arith))
 
 expanded-most : (secret seed : List ℕ) (n : ℕ) → length (expanded secret seed n) ≤ n
 unfolding expanded
@@ -105,12 +106,14 @@ verify-small side secret hash = allowed (eqb (length secret) 48 && eqb (length h
 
 pub written-small : {F : Type 0} (l : Layout F) (f : F) → Small (written l f)
 written-small l f = tested (valid l f) (bytes l f) BadValue (λ ok.
-    let most : length (bytes l f) ≤ 16384 = leb-true (length (bytes l f)) 16384 (and-eq-true-iff (l .rules f) (leb (length (bytes l f)) 16384) .0 ok .1) in
+    let most : length (bytes l f) ≤ 16384 =
+    leb-true (length (bytes l f)) 16384 (and-eq-true-iff (l .rules f) (leb (length (bytes l f)) 16384) .0 ok .1) in
     omega arith)
 
 pub extension-small : (e : Ext) → Small (extensionWritten e)
 extension-small e = tested (ltb (e .kind) 65536 && writable 2 (e .contents)) (extensionBytes e) BadValue (λ ok.
-    let most : length (e .contents) < 65536 = ltb-true (length (e .contents)) 65536 (and-eq-true-iff (ltb (e .kind) 65536) (writable 2 (e .contents)) .0 ok .1) in
+    let most : length (e .contents) < 65536 =
+    ltb-true (length (e .contents)) 65536 (and-eq-true-iff (ltb (e .kind) 65536) (writable 2 (e .contents)) .0 ok .1) in
     omega arith)
 
 -- ---- the table

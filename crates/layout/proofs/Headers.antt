@@ -23,7 +23,13 @@ pub header-message : (kind : ℕ) (body : List ℕ) → length body ≤ 16380 �
 header-message kind body h =
     let m : List ℕ = message kind body in
     let says : stated 3 (drop 1 m) ≡ length m - 4 = number-be-lt 3 (length body) (omega arith) ∙ (omega arith) in
-    rw (le-ltb (length m) 4 (omega arith), eq-eqb kind kind refl, eq-eqb (stated 3 (drop 1 m)) (length m - 4) says, le-leb (length m) 16384 (omega arith))
+    rw (
+      le-ltb (length m) 4 (omega arith),
+      eq-eqb kind kind refl,
+      eq-eqb (stated 3 (drop 1 m)) (length m - 4) says,
+      le-leb (length m) 16384
+          (omega arith),
+    )
 
 -- a test that led to `Accepted` held
 passed : (t : Bool) (v : Verdict) (r : Refusal) → cond t v (Refused r) ≡ Accepted → (t ≡ true) × (v ≡ Accepted)

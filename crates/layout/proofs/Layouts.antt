@@ -32,7 +32,8 @@ module _ {F : Type 0} (l : Layout F) (f : F) where
 
   -- ---- for a writer
 
-  pub writes : (out left : List ℕ) (said : Written) → valid l f ≡ true → Answers (gives (bytes l f)) out said left → Answers (written l f) out said left
+  pub writes : (out left : List ℕ) (said : Written) → valid l f ≡ true → Answers (gives (bytes l f)) out said left
+      → Answers (written l f) out said left
   writes out left said h a = rw h a
 
   pub writes-none : (out : List ℕ) → valid l f ≡ false → Answers (written l f) out (Refused BadValue) out

@@ -95,13 +95,15 @@ vector-at w m at b fits =
 
 -- a vector that was written at `at`
 pub part-written : (w : ℕ) (m : List ℕ) (at : ℕ) (xs rest : List ℕ) → 0 < w → writable w xs ≡ true → drop at m ≡ vector w xs ++ rest
-    → (endAt w m at + length rest ≡ length m) × (stated w (drop at m) ≡ length xs) × (take (length xs) (drop (at + w) m) ≡ xs) × (drop (at + w + length xs) m ≡ rest)
+    → (endAt w m at + length rest ≡ length m) × (stated w (drop at m) ≡ length xs) × (take (length xs) (drop (at + w) m) ≡ xs)
+    × (drop (at + w + length xs) m ≡ rest)
 part-written w m at xs rest pos ok e =
     let says : stated w (drop at m) ≡ length xs = rw e (stated-vector w xs rest ok) in
     let size : length (drop at m) ≡ w + length xs + length rest = rw e (length-append (vector w xs) rest ∙ rw (length-vector w xs)) in
     let left : length (drop at m) ≡ length m - at = length-drop at m in
     let behind : drop (at + w) m ≡ xs ++ rest =
-    sym (drop-drop w at m) ∙ ap (drop w) (e ∙ append-assoc (be w (length xs)) xs rest) ∙ drop-at (be w (length xs)) (xs ++ rest) w (length-be w (length xs)) in (
+    sym (drop-drop w at m) ∙ ap (drop w) (e ∙ append-assoc (be w (length xs)) xs rest)
+    ∙ drop-at (be w (length xs)) (xs ++ rest) w (length-be w (length xs)) in (
       omega arith,
       says,
       ap (take (length xs)) behind ∙ take-append-seam xs rest,

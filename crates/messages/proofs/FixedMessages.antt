@@ -43,7 +43,8 @@ fixed-inverse kind size = record { reads-written = there; writes-read = back }
         let long : length xs ≡ size = eqb-true _ _ (ok .0) in
         rw (header-message kind xs (ok .1), eq-eqb (length m) (4 + size) (omega arith), take-all size xs (omega arith))
 
-    back : (m xs : List ℕ) → Bytes m → readFixed kind size m ≡ some xs → (valid (fixedMessage kind size) xs ≡ true) × (m ≡ bytes (fixedMessage kind size) xs)
+    back : (m xs : List ℕ) → Bytes m → readFixed kind size m ≡ some xs
+        → (valid (fixedMessage kind size) xs ≡ true) × (m ≡ bytes (fixedMessage kind size) xs)
     back m xs b e =
         let place = contents-at m (fixedPlace kind size m) xs e in
         let s : ℕ = place .0 in

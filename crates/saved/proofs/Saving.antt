@@ -64,8 +64,8 @@ listed-there true = (refl, refl)
 
 -- ---- all of it
 
--- What the types say of a connection's fields, as far as the law asks for it (bytes are kept as they stand, whatever they are), and what saving a hash
--- promises of the transcript.
+-- What the types say of a connection's fields, as far as the law asks for it (bytes are kept as they stand, whatever they are), and what saving a
+-- hash promises of the transcript.
 pub record Fits (c : Connection) : Type 0 where
   pub suite : c .client .suite < 2 ^ 16
   pub three : length (c .setup .suites) ≡ 3

@@ -33,8 +33,20 @@ refused-does c out r e = record { answers = e; leaves = refl; brief = rw e (omeg
 module _ (c next : Connection) (flight : Flight) (few : length (flightBytes flight) ≤ longest) {out left : List ℕ} {said : Written}
     (a : Answers (gives (flightBytes flight)) out said left) where
   pub sent : {n : ℕ} → said ≡ Wrote n → Does c out (accept flight next) (record { said = said; next = next }) left
-  sent e = record { answers = rw (a .told, le-leb (length (flightBytes flight)) (length out) (wrote-all a e .0)); leaves = a .left; brief = rw e (omega (arith, wrote-all a e .1)) }
+  sent e =
+      record {
+        answers = rw (a .told, le-leb (length (flightBytes flight)) (length out) (wrote-all a e .0));
+        leaves = a .left;
+        brief = rw e
+            (omega (arith, wrote-all a e .1));
+      }
 
   -- R1: the connection itself comes back
   pub not-sent : {r : Refusal} → said ≡ Refused r → Does c out (accept flight next) (record { said = said; next = c }) left
-  not-sent e = record { answers = rw (a .told, lt-leb (length (flightBytes flight)) (length out) (refused-short a e)); leaves = a .left; brief = rw e (omega arith) }
+  not-sent e =
+      record {
+        answers = rw (a .told, lt-leb (length (flightBytes flight)) (length out) (refused-short a e));
+        leaves = a .left;
+        brief = rw e
+            (omega arith);
+      }

@@ -49,7 +49,8 @@ pub flight-bytes : (o : Outgoing) → flightBytes (flightOf o) ≡ take (total (
 flight-bytes o =
     let first : List ℕ = take (o .plain) (o .lengths) in
     let second : List ℕ = drop (o .plain) (o .lengths) in
-    let all : total first + total second ≡ total (o .lengths) = sym (total-append first second) ∙ ap total (take-append-drop (o .plain) (o .lengths)) in
+    let all : total first + total second ≡ total (o .lengths) =
+    sym (total-append first second) ∙ ap total (take-append-drop (o .plain) (o .lengths)) in
     rw (joined-cut first (o .bytes), joined-cut second (drop (total first) (o .bytes)), ← all, take-add)
 
 abbrev protectedly : List (List ℕ) → Flight

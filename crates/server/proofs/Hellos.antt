@@ -55,7 +55,8 @@ pub chosen-one : (ours : List ℕ) (i : ℕ) (offered : List ℕ) → i < length
     → chosen (drop i ours) offered ≡ cond (offers offered (getD ours i 0)) (some (getD ours i 0)) (chosen (drop (i + 1) ours) offered)
 chosen-one ours i offered h = rw (left-cons ours i h)
 
-pub null-one : (methods : List ℕ) (i : ℕ) → i < length methods → offersNull (drop i methods) ≡ (eqb (getD methods i 0) 0 || offersNull (drop (i + 1) methods))
+pub null-one : (methods : List ℕ) (i : ℕ) → i < length methods
+    → offersNull (drop i methods) ≡ (eqb (getD methods i 0) 0 || offersNull (drop (i + 1) methods))
 null-one methods i h = rw (left-cons methods i h)
 
 -- the choice as the code has it
@@ -126,7 +127,8 @@ hint-most hint h = rw (hint-length hint) (go (eqb (length hint) 0))
     go false = omega arith
 
 -- the messages behind the first, by their lengths
-cut-rest : (hint rest : List ℕ) → cut (hintMessageLength (length hint) ∷ 4 ∷ []) (restOf hint ++ rest) ≡ hintMessage hint ++ (bytes serverHelloDone [] ∷ [])
+cut-rest : (hint rest : List ℕ)
+    → cut (hintMessageLength (length hint) ∷ 4 ∷ []) (restOf hint ++ rest) ≡ hintMessage hint ++ (bytes serverHelloDone [] ∷ [])
 cut-rest [] rest = refl
 cut-rest (b ∷ hint) rest =
     let some-hint : ¬ (length (b ∷ hint) ≡ 0) = λ e. absurd (omega arith) in

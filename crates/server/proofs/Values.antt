@@ -36,7 +36,8 @@ judged-right c m {s} {n} e f =
 -- ---- the key exchange
 
 -- the key that a lookup put at the front of a buffer
-pub key-put : (table identity out : List ℕ) {said : Written} {left : List ℕ} {n : ℕ} → Answers (found (keyOf table identity)) out said left → said ≡ Wrote n
+pub key-put : (table identity out : List ℕ) {said : Written} {left : List ℕ} {n : ℕ} → Answers (found (keyOf table identity)) out said left
+    → said ≡ Wrote n
     → (n ≤ length out) × (keyOf table identity ≡ some (take n left))
 key-put table identity out {left = left} {n = n} a e = go (keyOf table identity) (wrote-gives (found (keyOf table identity)) a e)
   where

@@ -1,16 +1,14 @@
--- What the walks by hand share. A function over a lent `Transcript` takes it apart, calls a function that takes the hash by value, and puts it together
--- again; a function above it, with plain parameters, lends it a transcript of its own. A later one of the same kind is a copy of `add` (`&mut`) or
--- `handshake_hash` (`&`), and of `with_message` or `hash_of` above them, with other names, positions and callee.
---     hash-value, value     the machine values of a hash, and of the transcript with it.        IsHash    the machine can hold the hash
---     lent-args, lent-values, own-values, token, tokens     the arguments and values of either kind of function, and the tokens of its lifetimes
---     opened, closed        a `&mut Transcript` is opened, which gives the cell that it points to, and closed at another hash
---     looked, shut          a `&Transcript` is looked into, which gives a share of the cell, and shut again
---     lent, back            a local is lent by `&mut` for a lifetime of one call, and comes back as the call left it
---     shared, unshared      a local is lent by `&` for a lifetime of one call, and comes back as it was
---     copies                an operand that copies a local
---     asks-nothing, with-hash   what a callee without `requires` is handed.        returned, left, filled     what is had of it
---     proved                a walk, taken to the statement of a function without `requires`
--- Assumes nothing: the rules that the steps use, `Given`, are handed to every proof.
+-- What the walks by hand share. A function over a lent `Transcript` takes it apart, calls a function that takes the hash by value, and puts it
+-- together again; a function above it, with plain parameters, lends it a transcript of its own. A later one of the same kind is a copy of `add`
+-- (`&mut`) or `handshake_hash` (`&`), and of `with_message` or `hash_of` above them, with other names, positions and callee.     hash-value, value
+--  the machine values of a hash, and of the transcript with it.        IsHash    the machine can hold the hash     lent-args, lent-values,
+-- own-values, token, tokens     the arguments and values of either kind of function, and the tokens of its lifetimes     opened, closed        a
+-- `&mut Transcript` is opened, which gives the cell that it points to, and closed at another hash     looked, shut          a `&Transcript` is looked
+-- into, which gives a share of the cell, and shut again     lent, back            a local is lent by `&mut` for a lifetime of one call, and comes
+-- back as the call left it     shared, unshared      a local is lent by `&` for a lifetime of one call, and comes back as it was     copies
+--      an operand that copies a local     asks-nothing, with-hash   what a callee without `requires` is handed.        returned, left, filled
+-- what is had of it     proved                a walk, taken to the statement of a function without `requires` Assumes nothing: the rules that the
+-- steps use, `Given`, are handed to every proof.
 use mathlib.Core.Path.{_≡_, refl, ap}
 use Prim.Native.Nat.{ℕ, _+_, _-_, _*_}
 use mathlib.Core.List.{[], _∷_, List}

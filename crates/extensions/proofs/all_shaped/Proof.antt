@@ -55,7 +55,8 @@ shapes c =
     let d = c .before .before in
     let g = d .before .kind .given .0 in
     let own : ticketShape (here d) ≡ c .shaped .result = same-shape (block (turn d)) (g .0) (g .1 .0) (g .1 .1 .0) ∙ sym (c .shaped .ensures) in
-    sym (turn d .loop .inv .1) ∙ ap ticketsShaped (found d .left) ∙ shaped-adding (here d) (behind d) ∙ ap (λ (t : Bool). t && ticketsShaped (behind d)) own
+    sym (turn d .loop .inv .1) ∙ ap ticketsShaped (found d .left) ∙ shaped-adding (here d) (behind d)
+    ∙ ap (λ (t : Bool). t && ticketsShaped (behind d)) own
 
 add-behind : tie.Need-add-behind Inv-loop μ-loop
 add-behind c = record { fits = omega (arith, found c) }

@@ -10,7 +10,10 @@ use Rattle.extensions.proofs.with_bit.Tie as tie
 
 add-result : tie.Need-add-result
 add-result c =
-    record { fits = rw (shifted-one (c .args .bit) 64 (c .pre .0)) (set-fits (c .args .word) (c .args .bit) 64 (c .pre .0) (omega arith) (c .pre .1)) }
+    record {
+      fits = rw (shifted-one (c .args .bit) 64 (c .pre .0))
+          (set-fits (c .args .word) (c .args .bit) 64 (c .pre .0) (omega arith) (c .pre .1));
+    }
 
 returns : tie.Need-returns
 returns c = ap (λ (y : ℕ). c .args .word + y) (shifted-one (c .args .bit) 64 (c .pre .0))

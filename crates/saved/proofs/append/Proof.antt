@@ -12,7 +12,8 @@ returns : tie.Need-returns
 returns c =
     let start = c .before .before .before .before in
     let size : length (start .args .bytes) ≡ 388 = search (needs, start .good) in
-    copied-behind (start .args .bytes) (start .args .part .now) (c .before .copy .last .1 .0) (start .args .at) (omega arith) (c .before .copy .ensures .1)
+    copied-behind (start .args .bytes) (start .args .part .now) (c .before .copy .last .1 .0) (start .args .at) (omega arith)
+    (c .before .copy .ensures .1)
 
 pub append-spec : {M : Type 1} → statement M
 append-spec =

@@ -1,5 +1,5 @@
--- `transcript::add` meets its contract: a walk of its MIR, by hand. The borrow is opened, the hash is read and passed to `update`, what that gives back
--- is stored, and the borrow is closed at it. All that the proof knows of `update` is that it meets its contract.
+-- `transcript::add` meets its contract: a walk of its MIR, by hand. The borrow is opened, the hash is read and passed to `update`, what that gives
+-- back is stored, and the borrow is closed at it. All that the proof knows of `update` is that it meets its contract.
 -- Assumes nothing.
 use mathlib.Core.Path.{refl, ap}
 use Prim.Native.Nat.{ℕ}

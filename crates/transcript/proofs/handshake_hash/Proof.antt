@@ -1,6 +1,6 @@
--- `transcript::handshake_hash` meets its contract: a walk of its MIR, by hand. The borrow is looked into for the hash and shut again, and the hash and
--- the output are passed to `finish`, of which the proof knows only that it meets its contract. The output is given up to it for good: what it says of
--- the last bytes is what is said here.
+-- `transcript::handshake_hash` meets its contract: a walk of its MIR, by hand. The borrow is looked into for the hash and shut again, and the hash
+-- and the output are passed to `finish`, of which the proof knows only that it meets its contract. The output is given up to it for good: what it
+-- says of the last bytes is what is said here.
 -- Assumes nothing.
 use mathlib.Core.Path.{refl}
 use Prim.Native.Nat.{ℕ}

@@ -1,5 +1,5 @@
--- `transcript::hash_of` meets its contract: a walk of its MIR, by hand. The transcript is made in a local and lent to `handshake_hash` for a lifetime of
--- the call, with the output, which is given up to it for good. All that the proof knows of `handshake_hash` is that it meets its contract.
+-- `transcript::hash_of` meets its contract: a walk of its MIR, by hand. The transcript is made in a local and lent to `handshake_hash` for a lifetime
+-- of the call, with the output, which is given up to it for good. All that the proof knows of `handshake_hash` is that it meets its contract.
 -- Assumes nothing.
 use mathlib.Core.Path.{refl}
 use Prim.Native.Nat.{ℕ}
@@ -133,6 +133,7 @@ hash-of-spec 𝓤 H 𝓜 𝓖 𝓡 =
     (λ κs. (LL.vals S.the-type S′.the-laws, (slice-vals, tt))) (λ κs. (LL.tells S.the-type S′.the-laws, (mut-slice-tells (named 0) (κs .0) u8, tt)))
     (λ fm κs qs bounds a g are. walk 𝓤 H (𝓖 .A) W (𝓜 .mem) (𝓡 .run) (κs .0) (qs .0) (a .0) (a .1 .0)
     (tables 𝓤 H 𝓜 𝓡 code.env .C) (tables 𝓤 H 𝓜 𝓡 code.env .Λ) fm
-    (cited 𝓤 H (HandshakeHash 𝓤 H (𝓖 .A) (𝓜 .mem) (𝓡 .run)) 𝓜 𝓡 code.env #handshake-hash handshake-hash-def.routine code.calls-transcript·handshake-hash
+    (cited 𝓤 H (HandshakeHash 𝓤 H (𝓖 .A) (𝓜 .mem)
+    (𝓡 .run)) 𝓜 𝓡 code.env #handshake-hash handshake-hash-def.routine code.calls-transcript·handshake-hash
     (handshake-hash-thm.met 𝓤 H 𝓜 𝓖 𝓡))
     (are .0) (are .1 .0))

@@ -1,5 +1,5 @@
--- `transcript::with_message` meets its contract: a walk of its MIR, by hand. The transcript is made in a local and lent to `add` for a lifetime of the
--- call; when it has come back, the hash in it is the result. All that the proof knows of `add` is that it meets its contract.
+-- `transcript::with_message` meets its contract: a walk of its MIR, by hand. The transcript is made in a local and lent to `add` for a lifetime of
+-- the call; when it has come back, the hash in it is the result. All that the proof knows of `add` is that it meets its contract.
 -- Assumes nothing.
 use mathlib.Core.Path.{_≡_, refl, sym, subst}
 use Prim.Native.Nat.{ℕ}

@@ -45,7 +45,8 @@ four-parts : (ss ms tail size : List ℕ) → size ≡ be 2 (length ss) → leng
 four-parts ss ms tail size e small =
     let n : List ℕ = length ms ∷ [] in
     let one : vector 1 ms ≡ length ms ∷ ms = rw (div-one (length ms), mod-eq-of-lt small) in
-    ap (λ (l : List ℕ). vector 2 ss ++ (l ++ tail)) one ∙ sym (append-assoc (vector 2 ss) n (ms ++ tail)) ∙ sym (append-assoc (vector 2 ss ++ n) ms tail)
+    ap (λ (l : List ℕ). vector 2 ss ++ (l ++ tail)) one ∙ sym (append-assoc (vector 2 ss) n (ms ++ tail))
+    ∙ sym (append-assoc (vector 2 ss ++ n) ms tail)
     ∙ ap (λ (l : List ℕ). between l ss n ms ++ tail) (sym e)
 
 -- the entry, from behind the test, and what the test has shown

@@ -112,7 +112,8 @@ returns-5 c =
     let s = start3 behind in
     let a = s .args in
     let n = sized behind in
-    let size : 4 + (35 + length (a .session-id .now) + (length (a .a .now) + length (a .b .now) + length (a .c .now) + length (a .d .now)) + behind .tail-len .result)
+    let size : 4 + (35 + length (a .session-id .now) +
+    (length (a .a .now) + length (a .b .now) + length (a .c .now) + length (a .d .now)) + behind .tail-len .result)
     ≡ length (bytes (layout s) (fields s)) = omega arith in
     let put = at .put-all .ensures .1 ∙ ap (λ (k : ℕ). bytes (layout s) (fields s) ++ drop k (out s)) size in
     writes (layout s) (fields s) (out s) _ _ (ok (at .before .before .before))

@@ -63,12 +63,14 @@ returns c =
     let abx = length-append (a ++ b) x in
     let all = length-append ((a ++ b) ++ x) d in
     let both : two .last .1 .0 ≡ paste out p (a ++ b) (length (a ++ b)) =
-    put-two out (one .last .1 .0) (two .last .1 .0) a b p (one .result) (omega (arith, s .pre)) (one .ensures .1) (one .ensures .0) (two .ensures .1) in
+    put-two out (one .last .1 .0) (two .last .1 .0) a b p (one .result) (omega (arith, s .pre)) (one .ensures .1) (one .ensures .0)
+    (two .ensures .1) in
     let place : two .result ≡ p + length (a ++ b) = omega (arith, one .ensures .0, two .ensures .0) in
     let more : three .last .1 .0 ≡ paste out p ((a ++ b) ++ x) (length ((a ++ b) ++ x)) =
     put-two out (two .last .1 .0) (three .last .1 .0) (a ++ b) x p (two .result) (omega (arith, s .pre)) both place (three .ensures .1) in
     let next : three .result ≡ p + length ((a ++ b) ++ x) = omega (arith, place, three .ensures .0) in
-    let whole = put-two out (three .last .1 .0) (four .last .1 .0) ((a ++ b) ++ x) d p (three .result) (omega (arith, s .pre)) more next (four .ensures .1) in
+    let whole = put-two out (three .last .1 .0) (four .last .1 .0) ((a ++ b) ++ x) d p (three .result) (omega (arith, s .pre)) more next
+    (four .ensures .1) in
     (omega (arith, next, four .ensures .0, all), whole)
 
 pub four-spec : {M : Type 1} → statement M

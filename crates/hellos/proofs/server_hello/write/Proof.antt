@@ -34,7 +34,8 @@ returns c =
     let s = c .before .before .before .before .before in
     let a = s .args in
     let front = frontRules (a .version) (a .random .now) (a .session-id .now) in
-    writes-none serverHello (fields s) (a .out .now) (valid-rules serverHello (fields s) (rw (le-ltb (a .suite) 65536 (omega arith)) (and-false front)))
+    writes-none serverHello (fields s) (a .out .now)
+    (valid-rules serverHello (fields s) (rw (le-ltb (a .suite) 65536 (omega arith)) (and-false front)))
 
 returns-2 : tie.Need-returns-2
 returns-2 c =

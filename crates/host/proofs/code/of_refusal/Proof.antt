@@ -9,12 +9,20 @@ use Rattle.host.proofs.code.of_refusal.Tie as tie
 returns : tie.Need-returns
 returns c =
     let r = c .before .before .for-client in
-    handed-on _ (c .below-zero .ok) ∙ c .below-zero .ensures ∙ rw (c .before .before .before .number .ensures, sym (r .ensures) ∙ c .before .if1 .taken)
+    handed-on _ (c .below-zero .ok) ∙ c .below-zero .ensures ∙ rw (
+      c .before .before .before .number .ensures,
+      sym (r .ensures)
+          ∙ c .before .if1 .taken,
+    )
 
 returns-2 : tie.Need-returns-2
 returns-2 c =
     let r = c .before .before .for-client in
-    handed-on _ (c .below-zero2 .ok) ∙ c .below-zero2 .ensures ∙ rw (c .before .before .before .number .ensures, sym (r .ensures) ∙ c .before .if1 .left)
+    handed-on _ (c .below-zero2 .ok) ∙ c .below-zero2 .ensures ∙ rw (
+      c .before .before .before .number .ensures,
+      sym (r .ensures)
+          ∙ c .before .if1 .left,
+    )
 
 pub of-refusal-spec : {M : Type 1} → statement M
 of-refusal-spec =

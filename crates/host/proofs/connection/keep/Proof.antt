@@ -13,7 +13,8 @@ use Rattle.host.proofs.connection.keep.Tie as tie
 
 -- where the ways meet
 met : (c : tie.At-match-came)
-    → (c .match .said ≡ c .before .args .said) × Kept (c .before .args .said) (c .before .args .next) (c .before .args .connection .now) (c .match .connection)
+    → (c .match .said ≡ c .before .args .said) × Kept (c .before .args .said) (c .before .args .next) (c .before .args .connection .now)
+    (c .match .connection)
 met c =
     ⊎-elim (λ w. (w .3, kept-wrote (w .1 .given .1) (w .4 ∙ w .2 .ensures .0) (ap restored (w .4) ∙ w .2 .ensures .1)))
     (⊎-elim

@@ -55,7 +55,8 @@ returns c =
     let master = a .master .now in
     let secret = ⊎-elim (λ w. w .2 ∙ master-handed (replied m) (over m (was m)) master (m .message .ensures .0 .0) (w .0 .taken))
     (λ w. w .1 ∙ master-kept (replied m) (over m (was m)) master (m .message .ensures .0 .0) (w .0 .left)) (c .before .before .before .if1 .came) in (
-      keeps (a .connection .now) (a .out .now) (stepOn m) (restored-as m) (parts m .0) (parts m .1) (c .keep .ok) (c .keep .ensures .0) (c .keep .ensures .1),
+      keeps (a .connection .now) (a .out .now) (stepOn m) (restored-as m) (parts m .0) (parts m .1) (c .keep .ok) (c .keep .ensures .0)
+          (c .keep .ensures .1),
       record {
         left = m .message .ensures .0 .1 ∙ ap (λ (x : Connection). settled x (a .out .now) (stepOn m x) .out) (restored-as m);
         handed = secret ∙ ap (λ (x : Connection). masterAfter (over m x) master) (restored-as m);

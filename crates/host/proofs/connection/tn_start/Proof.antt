@@ -19,7 +19,8 @@ keep-requires : tie.Need-keep-requires
 keep-requires c κs =
     let n = c .before .before .before in
     let a = n .before .before .before .before .before .args in
-    let settings : Settings = record { random = a .random .now; hint = a .hint .now; standIn = a .stand-in .now; named = n .named .result; suites = suites } in
+    let settings : Settings =
+    record { random = a .random .now; hint = a .hint .now; standIn = a .stand-in .now; named = n .named .result; suites = suites } in
     start-count settings (c .before .before .start .ensures)
 
 returns-2 : tie.Need-returns-2

@@ -23,7 +23,8 @@ abbrev said : tie.After-known-told → Step
 said c = let given = c .before .kind .given .0 in Step.Extension (given .0) (given .1 .0) (given .1 .1 .0)
 
 found : (c : tie.After-known-told)
-    → stepAt (c .before .before .before .before .before .before .args .block .now) (c .before .before .before .before .before .before .args .at) ≡ said c
+    → stepAt (c .before .before .before .before .before .before .args .block .now)
+    (c .before .before .before .before .before .before .args .at) ≡ said c
 found c = sym (c .before .before .before .next .ensures) ∙ c .before .kind .given .1
 
 fits : (c : tie.After-known-told) → StepFits (said c)

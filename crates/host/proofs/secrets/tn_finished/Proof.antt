@@ -1,4 +1,5 @@
--- `host::secrets::tn_finished` meets its contract: a number that names no side is refused, and of any other it is the code of what `keys::finished` said.
+-- `host::secrets::tn_finished` meets its contract: a number that names no side is refused, and of any other it is the code of what `keys::finished`
+-- said.
 -- Assumes nothing.
 use borrow.Author.Needs.{needs}
 use native.Mathlib.Omega.{arith}

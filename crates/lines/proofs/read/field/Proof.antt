@@ -19,7 +19,8 @@ loop-again c =
     let out = at-loop .loop .out in
     let at = at-loop .loop .at in
     let piece = c .before .before .piece in
-    let more = front-lent (at-loop .before .before .args .out .now) out (piece .last .1 .0) at (piece .result) (at-loop .loop .inv .1) (piece .ensures) in
+    let more = front-lent (at-loop .before .before .args .out .now) out (piece .last .1 .0) at (piece .result) (at-loop .loop .inv .1)
+    (piece .ensures) in
     (search needs, more)
 
 pub field-spec : {M : Type 1} → statement M

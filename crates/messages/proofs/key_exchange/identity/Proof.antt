@@ -18,7 +18,8 @@ abbrev message : tie.After-known-told → List ℕ
 message c = c .before .before .before .before .before .args .message .now
 
 -- where the identity stands
-found : (c : tie.After-known-told) → vectorPlace clientKeyExchangeType (message c) ≡ At (c .before .start .given .0 .0) (c .before .start .given .0 .1 .0)
+found : (c : tie.After-known-told)
+    → vectorPlace clientKeyExchangeType (message c) ≡ At (c .before .start .given .0 .0) (c .before .start .given .0 .1 .0)
 found c = sym (c .before .before .before .read-identity .ensures) ∙ c .before .start .given .1
 
 -- it ends where the message does

@@ -20,7 +20,8 @@ message c = c .before .before .before .before .before .args .message .now
 
 -- where the ticket stands
 found : (c : tie.After-known-told)
-    → afterHeader (header newSessionTicketType (message c)) (lastAt 2 (message c) 8) ≡ At (c .before .start .given .0 .0) (c .before .start .given .0 .1 .0)
+    → afterHeader (header newSessionTicketType (message c)) (lastAt 2 (message c) 8) ≡ At (c .before .start .given .0 .0)
+    (c .before .start .given .0 .1 .0)
 found c = sym (c .before .before .before .last16-of .ensures) ∙ c .before .start .given .1
 
 -- it starts behind the lifetime hint

@@ -14,15 +14,33 @@ returns-2 c = rw (← c .before .before .before .is-over .ensures, c .before .be
 returns-3 : tie.Need-returns-3
 returns-3 c =
     let level = c .before .before .before .before .before .args .level in
-    rw (← c .before .before .before .before .is-over .ensures, c .before .before .before .if1 .left, ne-eqb level 1 (c .before .if3 .taken), ne-eqb level 2 (c .before .before .if2 .left)) (c .refuse2 .ensures)
+    rw (
+      ← c .before .before .before .before .is-over .ensures,
+      c .before .before .before .if1 .left,
+      ne-eqb level 1 (c .before .if3 .taken),
+      ne-eqb level 2 (c .before .before .if2 .left),
+    ) (c .refuse2 .ensures)
 
 returns-4 : tie.Need-returns-4
-returns-4 c = rw (← c .before .before .before .before .before .is-over .ensures, c .before .before .before .before .if1 .left, c .before .before .if3 .left, c .before .if4 .taken, c .ended2 .ensures)
+returns-4 c =
+    rw (
+      ← c .before .before .before .before .before .is-over .ensures,
+      c .before .before .before .before .if1 .left,
+      c .before .before .if3 .left,
+      c .before .if4 .taken,
+      c .ended2 .ensures,
+    )
 
 returns-5 : tie.Need-returns-5
 returns-5 c =
     let description = c .before .before .before .before .before .args .description in
-    rw (← c .before .before .before .before .is-over .ensures, c .before .before .before .if1 .left, c .before .if3 .left, ne-eqb description 0 (c .if4 .left))
+    rw (
+      ← c .before .before .before .before .is-over .ensures,
+      c .before .before .before .if1 .left,
+      c .before .if3 .left,
+      ne-eqb description 0
+          (c .if4 .left),
+    )
 
 pub alert-spec : {M : Type 1} → statement M
 alert-spec =

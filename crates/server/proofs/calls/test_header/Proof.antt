@@ -12,7 +12,8 @@ use Rattle.server.proofs.calls.test_header.Statement.{statement}
 use Rattle.server.proofs.calls.test_header.Tie as tie
 
 nothing : (c : tie.After-enum-told) → awaited (c .before .before .before .before .args .phase) ≡ none
-nothing c = none-awaited (awaited (c .before .before .before .before .args .phase)) (sym (c .before .before .awaited-in .ensures) ∙ c .enum-told .given .1)
+nothing c =
+    none-awaited (awaited (c .before .before .before .before .args .phase)) (sym (c .before .before .awaited-in .ensures) ∙ c .enum-told .given .1)
 
 returns : tie.Need-returns
 returns c =

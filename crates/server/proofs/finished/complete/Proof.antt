@@ -40,7 +40,8 @@ returns c =
     let at-value = told .before .before .before in
     let conn = entry (at-value .before .before .before) .args .c in
     let made = at-value .before .before .before .with-message .result in
-    let value = sized-gives _ (finished-of-sized Server (conn .secrets .master) made) refl (at-value .finished-of .ensures) (told .enum-told .given .1) in
+    let value = sized-gives _ (finished-of-sized Server (conn .secrets .master) made) refl (at-value .finished-of .ensures)
+    (told .enum-told .given .1) in
     let sent = c .before .answer .ensures in
     same-step (ap completed (wanted at-value value)) (rw (c .ended .ensures) (record { means = rw (sent .means); fits = sent .fits }))
 

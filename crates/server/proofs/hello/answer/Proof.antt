@@ -44,7 +44,8 @@ returns c =
     let put = c .before .before .put-flight in
     let message : c .hint-message-length .result ≡ hintMessageLength (length (take (at-field .in-field .result) (setup .hint))) =
     c .hint-message-length .ensures ∙ ap hintMessageLength (sym size) in
-    let all = flight-sent (setup .random) (take (at-field .in-field .result) (setup .hint)) (start .args .suite) (put .last .1 .1 .1 .0) _ (random start)
+    let all = flight-sent (setup .random) (take (at-field .in-field .result) (setup .hint)) (start .args .suite) (put .last .1 .1 .1 .0) _
+    (random start)
     (omega (arith, size)) (put .ensures) in
     rw (message, ← at-field .in-field .ensures .1 (setup .hint) (field start)) all
 

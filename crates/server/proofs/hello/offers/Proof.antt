@@ -1,4 +1,5 @@
--- `server::hello::offers` meets its contract: whether the suite is offered is whether it is offered from `at` on; the measure is what is left of the list.
+-- `server::hello::offers` meets its contract: whether the suite is offered is whether it is offered from `at` on; the measure is what is left of the
+-- list.
 -- Assumes nothing.
 use mathlib.Core.Path.{_≡_, refl, sym, _∙_}
 use Prim.Native.Nat.{_-_, _≤_, zero-le}

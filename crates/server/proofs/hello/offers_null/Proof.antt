@@ -1,4 +1,5 @@
--- `server::hello::offers_null` meets its contract: whether null is among them is whether it is among those from `i` on; the measure is what is left of them.
+-- `server::hello::offers_null` meets its contract: whether null is among them is whether it is among those from `i` on; the measure is what is left
+-- of them.
 -- Assumes nothing.
 use mathlib.Core.Path.{_≡_, refl}
 use Prim.Native.Nat.{_-_, _≤_, zero-le}

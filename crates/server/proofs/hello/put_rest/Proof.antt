@@ -27,10 +27,12 @@ returns c =
     (at-front serverHelloDone [] refl (omega arith) (c .before .before .write-done .ensures))
 
 -- there is a hint
-present : (c : tie.Else1) → hintMessage (c .before .before .before .args .hint .now) ≡ bytes serverKeyExchange (c .before .before .before .args .hint .now) ∷ []
+present : (c : tie.Else1)
+    → hintMessage (c .before .before .before .args .hint .now) ≡ bytes serverKeyExchange (c .before .before .before .args .hint .now) ∷ []
 present c = hint-present (c .before .before .before .args .hint .now) (c .if1 .left)
 
-size : (c : tie.Else1) → length (joined (hintMessage (c .before .before .before .args .hint .now))) ≡ 6 + length (c .before .before .before .args .hint .now)
+size : (c : tie.Else1)
+    → length (joined (hintMessage (c .before .before .before .args .hint .now))) ≡ 6 + length (c .before .before .before .args .hint .now)
 size c = hint-size (c .before .before .before .args .hint .now) (c .if1 .left)
 
 sub-write-done : tie.Need-sub-write-done

@@ -18,7 +18,8 @@ returns-2 c =
 
 returns-3 : tie.Need-returns-3
 returns-3 c =
-    rw (← c .before .before .valid-utf8 .ensures, not-true (c .before .before .valid-utf8 .result) (c .before .if3 .taken), and-false) (c .bad-setting3 .ensures)
+    rw (← c .before .before .valid-utf8 .ensures, not-true (c .before .before .valid-utf8 .result) (c .before .if3 .taken), and-false)
+    (c .bad-setting3 .ensures)
 
 returns-4 : tie.Need-returns-4
 returns-4 c =
@@ -31,7 +32,16 @@ returns-5 c =
     let at-utf8 = c .before .before .before .before in
     let tests = at-utf8 .before in
     let args = tests .before .before .before .before .before .args in
-    rw (eq-eqb (length (args .random .now)) 32 (tests .before .if1 .left), le-leb (length (args .hint .now)) 128 (tests .if2 .left), ← at-utf8 .valid-utf8 .ensures, not-false (at-utf8 .valid-utf8 .result) (c .before .before .before .if3 .left), eq-eqb (length (args .stand-in .now)) 32 (c .before .before .if4 .left), c .started .ensures, c .before .setup .ensures)
+    rw (
+      eq-eqb (length (args .random .now)) 32 (tests .before .if1 .left),
+      le-leb (length (args .hint .now)) 128 (tests .if2 .left),
+      ← at-utf8 .valid-utf8 .ensures,
+      not-false (at-utf8 .valid-utf8 .result) (c .before .before .before .if3 .left),
+      eq-eqb
+          (length (args .stand-in .now)) 32 (c .before .before .if4 .left),
+      c .started .ensures,
+      c .before .setup .ensures,
+    )
 
 pub start-spec : {M : Type 1} → statement M
 start-spec =
