@@ -184,6 +184,12 @@ def made(copy, *words, path):
                             start_new_session=True)
 
 
+def below(name):
+    """The crate and all of ours that it depends on."""
+    needs = dict(line.split(":") for line in (ROOT / "crates.txt").read_text().splitlines() if ":" in line and not line.startswith("#"))
+    return {name}.union(*(below(other) for other in needs[name].split() if other in needs))
+
+
 @case("make run says which crate of how many it proves, and the port that it listens on")
 def make_run():
     with tempfile.TemporaryDirectory() as folder:
@@ -200,9 +206,9 @@ def make_run():
                 said = "".join(text)
                 assert f"  openssl s_client -connect {address} " in said and "listening on " + address.partition("PORT")[0] in said, said
                 if arguments == "--port 0":
-                    crates = re.findall(r"^crate (\d+) of 9: (\w+)$", said, re.M)
-                    assert [int(n) for n, _ in crates] == [*range(1, 10)] and crates[-1][1] == "host" and {c for _, c in crates} == {
-                        "refusal", "endian", "sha256", "transcript", "keys", "keytable", "messages", "server", "host"}, said
+                    wanted = below("host")
+                    crates = re.findall(rf"^crate (\d+) of {len(wanted)}: (\w+)$", said, re.M)
+                    assert [int(n) for n, _ in crates] == [*range(1, len(wanted) + 1)] and crates[-1][1] == "host" and {c for _, c in crates} == wanted, said
             finally:
                 os.killpg(run.pid, signal.SIGTERM)
                 run.communicate(timeout=LIMIT)

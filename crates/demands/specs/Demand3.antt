@@ -11,6 +11,7 @@ use Rattle.keytable.specs.WellFormed.{LineRemoved}
 use Rattle.server.specs.declared.Rule.{Rule}
 use Rattle.server.specs.declared.Phase.{Phase}
 use Rattle.server.specs.Connection.{Settings, ruleOf, acceptable, startAnswer}
+use Rattle.server.specs.Finished.{finishedLength}
 use Rattle.server.specs.KeyExchange.{View, viewOf}
 use Rattle.demands.specs.Series.{Call, message, run, answers}
 use Rattle.demands.specs.Terms.{AwaitsFinished, RightFinished, named}
@@ -56,7 +57,7 @@ pub record CameRight (s : Settings) (v : View) (calls : List Call) : Type 0 wher
   pub is : calls ≡ before ++ (message finished out ∷ rest)
   pub right : RightFinished s v (awaits .came) finished
   -- with less room it is refused to the host, and counts as not come
-  pub room : 16 ≤ length out
+  pub room : finishedLength ≤ length out
 
 -- Nothing is assumed of the connection's state or of the table: with a table that has to be well formed the statement would leave out R2, and with the
 -- state in the assumption it would say nothing of how a server gets there.

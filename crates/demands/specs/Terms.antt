@@ -24,7 +24,9 @@ use Rattle.server.specs.Flight.{Flight, flightBytes}
 use Rattle.server.specs.KeyExchange.{View}
 use Rattle.keys.specs.Secrets.{masterUnder}
 use Rattle.refusal.specs.Lent.{andThen}
-use Rattle.server.specs.Hello.{chosen, offersNull, flight}
+use Rattle.layout.specs.Types.{clientKeyExchangeType, finishedType}
+use Rattle.server.specs.Finished.{verifyDataLength, finishedLength}
+use Rattle.server.specs.Hello.{tls12, chosen, offersNull, flight}
 use Rattle.demands.specs.Series.{Call, message, changeOfCipher, alert}
 
 -- ---- "Legal: a ClientHello, ClientKeyExchange or Finished that meets the tests on its header and limit and, of its step, all that answer with an alert,
@@ -34,18 +36,18 @@ use Rattle.demands.specs.Series.{Call, message, changeOfCipher, alert}
 pub record LegalHello (ours m : List ℕ) : Type 0 where
   pub fields : ClientHello
   pub read : readClientHello m ≡ some fields
-  pub version : 0x0303 ≤ fields .version
+  pub version : tls12 ≤ fields .version
   pub null : offersNull (fields .methods) ≡ true
   pub suite : ℕ
   pub common : chosen ours (fields .suites) ≡ some suite
 
 pub record LegalKeyExchange (m : List ℕ) : Type 0 where
   pub identity : List ℕ
-  pub read : readVector 16 m ≡ some identity
+  pub read : readVector clientKeyExchangeType m ≡ some identity
 
 pub record LegalFinished (m : List ℕ) : Type 0 where
   pub value : List ℕ
-  pub read : readFixed 20 12 m ≡ some value
+  pub read : readFixed finishedType verifyDataLength m ≡ some value
 
 -- ---- what a connection's messages are, and what is right
 
@@ -88,7 +90,7 @@ pub record BadTableCall (v : View) (x : Call) : Type 0 where
   pub exchange : List ℕ
   pub out : List ℕ
   pub is : x ≡ message exchange out
-  pub fits : header 16 exchange ≡ Accepted
+  pub fits : header clientKeyExchangeType exchange ≡ Accepted
   pub refusal : Refusal
   pub bad : v .refusal ≡ some refusal
   pub toHost : toClient refusal ≡ false
@@ -142,7 +144,7 @@ module _ (s : Settings) (v : View) {calls : List Call} (came : ChangeCame s v ca
     pub out : List ℕ
     pub is : x ≡ message finished out
     pub right : RightFinished finished
-    pub short : length out < 16
+    pub short : length out < finishedLength
 
 -- "In its place", of a Finished: what came before it
 pub record AwaitsFinished (s : Settings) (v : View) (calls : List Call) : Type 0 where

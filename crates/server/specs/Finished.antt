@@ -17,6 +17,13 @@ use Rattle.server.specs.Connection.{ended}
 use Rattle.server.specs.Flight.{Flight}
 use Rattle.server.specs.Step.{Step, refuse, accept}
 
+-- the bytes of a Finished value, and of the message that carries it
+abbrev pub verifyDataLength : ℕ
+verifyDataLength = 12
+
+abbrev pub finishedLength : ℕ
+finishedLength = 16
+
 -- the value is that one; none is where the transcript is past the hash's limit, which no series of calls reaches
 abbrev pub isValue : List ℕ → Outcome → Bool
 isValue value (gives b) = same value b
@@ -37,7 +44,7 @@ judged c m value =
     (completed (finishedOf Server (c .secrets .master) (absorb (c .transcript) m)))
     (refuse DecryptError)
 
--- 50 for a length other than 12
+-- 50 for another length
 abbrev pub finishedValue : Connection → List ℕ → Option (List ℕ) → Step
 finishedValue c m none = refuse DecodeError
 finishedValue c m (some value) = judged c m value

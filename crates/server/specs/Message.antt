@@ -19,7 +19,7 @@ use Rattle.server.specs.Connection.{isOver}
 use Rattle.server.specs.Step.{Step, refuse, accept, afterTests, unlessRefused, Settled, settled, answered}
 use Rattle.server.specs.Hello.{helloFields}
 use Rattle.server.specs.KeyExchange.{View, keyIdentity}
-use Rattle.server.specs.Finished.{finishedValue}
+use Rattle.server.specs.Finished.{verifyDataLength, finishedValue}
 
 -- the type of the message that is awaited in each phase, if one is
 abbrev pub awaited : Phase → Option ℕ
@@ -41,7 +41,7 @@ abbrev pub bodyStep : View → Connection → List ℕ → Phase → Step
 bodyStep v c m Phase.Hello = helloFields c m (clientFields m (clientBody m))
 bodyStep v c m Phase.KeyExchange = unlessRefused (v .refusal) (keyIdentity (v .lookup) c m (contents m (lastAt 2 m 4)))
 bodyStep v c m Phase.Change = refuse UnexpectedMessage
-bodyStep v c m Phase.Finished = finishedValue c m (contents m (filledBy 12 m))
+bodyStep v c m Phase.Finished = finishedValue c m (contents m (filledBy verifyDataLength m))
 bodyStep v c m Phase.Complete = refuse UnexpectedMessage
 bodyStep v c m Phase.Closed = refuse UnexpectedMessage
 
