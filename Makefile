@@ -7,14 +7,14 @@
 SHELL := /bin/bash
 .SHELLFLAGS := -eu -o pipefail -c
 
-.PHONY: test vectors
+.PHONY: test vectors claims
 
 include host/host.mk
 include bench/bench.mk
 include tests/fuzz/fuzz.mk
 
 # rt ci comes before the edits and the C side, which start from what it has just proved.
-test: vectors
+test: vectors claims
 	@mkdir -p build
 	@rt ci | tee build/ci.log
 	@tests/edits
@@ -23,3 +23,6 @@ test: vectors
 
 vectors:
 	@tests/vectors
+
+claims:
+	@tests/claims

@@ -166,7 +166,8 @@ static inline uint8_t tn_alert_number(int32_t result)
 /*
  * A connection is TN_CONNECTION_SIZE bytes of the host's, which the calls read and write whole. Their meaning is the library's own; no alignment is needed.
  *
- *   - Cleared bytes are a closed connection, and so are bytes that no call has written: they are answered with TN_R4.
+ *   - Cleared bytes are a closed connection, and so are bytes whose first three name no phase, rule or flag: they are answered with TN_R4. Other bytes that
+ *     no call has written stand for some connection, and get its answers.
  *     A connection that a call closed is not all zeros: ask tn_phase, and do not compare bytes.
  *   - Bytes may be moved and copied between calls. They hold secrets until the connection is complete or closed; then they hold no secret and no trace of
  *     the client. A host that drops a connection earlier clears them.
@@ -255,7 +256,7 @@ int32_t tn_change_of_cipher(uint8_t connection[TN_CONNECTION_SIZE]);
  */
 int32_t tn_alert(uint8_t connection[TN_CONNECTION_SIZE], uint8_t level, uint8_t description);
 
-/* What the connection awaits, or how it ended: one of the TN_PHASE_ numbers. TN_PHASE_CLOSED also for bytes that no call has written. */
+/* What the connection awaits, or how it ended: one of the TN_PHASE_ numbers. TN_PHASE_CLOSED also for cleared bytes. */
 int32_t tn_phase(const uint8_t connection[TN_CONNECTION_SIZE]);
 
 /* ==== Secrets ================================================================================================================================ */

@@ -6,3 +6,7 @@ pub mod Progress
 pub mod Completion
 pub mod Sameness
 pub mod Worked
+pub mod Rules
+pub mod Over
+pub mod FromC
+pub mod Claims

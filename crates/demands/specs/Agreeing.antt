@@ -6,8 +6,8 @@ use Prim.Native.Nat.{ℕ}
 use mathlib.Core.Bool.{true}
 use mathlib.Core.List.{List}
 use mathlib.Core.Option.{none}
-use Rattle.server.specs.declared.Rule.{Rule}
-use Rattle.server.specs.Connection.{Settings, ruleOf, acceptable, startAnswer}
+use Rattle.server.specs.declared.Named.{Named}
+use Rattle.server.specs.Connection.{Settings, acceptable, startAnswer}
 use Rattle.server.specs.KeyExchange.{View}
 use Rattle.demands.specs.Series.{Call, answers}
 use Rattle.demands.specs.Demand3.{NoneJudgedRight}
@@ -22,7 +22,7 @@ NoneJudgedRightOf Set s v v' calls = (identity : List ℕ) → Set identity → 
 
 abbrev pub SamenessOfLookups : Type 1
 SamenessOfLookups =
-    (s : Settings) → acceptable s ≡ true → ruleOf (s .named) ≡ Rule.Hide
+    (s : Settings) → acceptable s ≡ true → s .named ≡ Named.Hide
     → (Set : List ℕ → Type 0) (v v' : View) → v .refusal ≡ none → v' .refusal ≡ none → AgreeOutside Set v v'
     → (calls : List Call) → NoneJudgedRightOf Set s v v' calls
     → answers v (startAnswer s .next) calls ≡ answers v' (startAnswer s .next) calls

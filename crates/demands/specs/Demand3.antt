@@ -8,9 +8,9 @@ use mathlib.Core.List.{List, _∷_, _++_}
 use lib.ListN.{length}
 use Rattle.keytable.specs.Table.{wellFormed}
 use Rattle.keytable.specs.WellFormed.{LineRemoved}
-use Rattle.server.specs.declared.Rule.{Rule}
+use Rattle.server.specs.declared.Named.{Named}
 use Rattle.server.specs.declared.Phase.{Phase}
-use Rattle.server.specs.Connection.{Settings, ruleOf, acceptable, startAnswer}
+use Rattle.server.specs.Connection.{Settings, acceptable, startAnswer}
 use Rattle.server.specs.Finished.{finishedLength}
 use Rattle.server.specs.KeyExchange.{View, viewOf}
 use Rattle.demands.specs.Series.{Call, message, run, answers}
@@ -39,7 +39,7 @@ NoneJudgedRight s v identity calls =
 -- connections, it would say nothing of a difference that a call leaves behind for a later one to show.
 abbrev pub Sameness : Type 0
 Sameness =
-    (s : Settings) → acceptable s ≡ true → ruleOf (s .named) ≡ Rule.Hide
+    (s : Settings) → acceptable s ≡ true → s .named ≡ Named.Hide
     → (identity table without : List ℕ) → LineRemoved identity table without → wellFormed table ≡ true → wellFormed without ≡ true
     → (calls : List Call) → NoneJudgedRight s (viewOf table) identity calls
     → answers (viewOf table) (startAnswer s .next) calls ≡ answers (viewOf without) (startAnswer s .next) calls

@@ -2,4 +2,8 @@ pub mod Series
 pub mod Terms
 pub mod Demand3
 pub mod Agreeing
+pub mod Rules
+pub mod Over
 pub mod Worked
+pub mod FromC
+pub mod Claims

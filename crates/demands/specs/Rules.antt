@@ -1,0 +1,15 @@
+-- Which rule a start leads to (document 01, "The server's steps"): the one that is named, and tell where none is. proofs/Rules.antt proves it.
+use mathlib.Core.Path.{_≡_}
+use mathlib.Core.Bool.{true}
+use Rattle.server.specs.declared.Rule.{Rule}
+use Rattle.server.specs.declared.Named.{Named}
+use Rattle.server.specs.Connection.{Settings, acceptable, startAnswer}
+
+abbrev pub LeadsTo : Named → Rule → Type 0
+LeadsTo named rule = (s : Settings) → acceptable s ≡ true → s .named ≡ named → startAnswer s .next .setup .rule ≡ rule
+
+pub record RulesApply : Type 0 where
+  pub tell : LeadsTo Named.Tell Rule.Tell
+  pub hide : LeadsTo Named.Hide Rule.Hide
+  -- a claim of its own: the sameness of demand 3 says nothing of a start that names no rule
+  pub none : LeadsTo Named.Nothing Rule.Tell
