@@ -18,8 +18,8 @@ use Rattle.demands.specs.Terms.{AwaitsFinished, RightFinished, named}
 
 -- ---- first half: under the hiding rule, nothing tells which identities are listed
 
--- "a call in which a Finished right under that identity's key is judged after a ClientKeyExchange that named it"; judged is "a legal Finished in its
--- place, also where R1 follows", so nothing is asked of the output
+-- The call that ends the sameness: a Finished that is right under the identity's key is judged in its place, after a ClientKeyExchange that named the
+-- identity. It is judged also where R1 follows, so nothing is asked of the output.
 pub record JudgedRight (s : Settings) (v : View) (identity : List ℕ) (calls : List Call) (x : Call) : Type 0 where
   pub awaits : AwaitsFinished s v calls
   pub names : named s v (awaits .came) ≡ identity
@@ -28,15 +28,14 @@ pub record JudgedRight (s : Settings) (v : View) (identity : List ℕ) (calls : 
   pub is : x ≡ message finished out
   pub right : RightFinished s v (awaits .came) finished
 
--- no call of the series is such a one. "The call that ends the sameness is itself not compared": a series that has one is compared as far as the
--- call before it.
+-- No call of the series is such a one. A series that has one is compared as far as the call before it: that call itself is not.
 abbrev pub NoneJudgedRight : Settings → View → List ℕ → List Call → Type 0
 NoneJudgedRight s v identity calls =
     (before : List Call) (x : Call) (after : List Call) → calls ≡ before ++ (x ∷ after) → ¬ JudgedRight s v identity before x
 
--- "two servers under the hiding rule, alike in random, hint and stand-in key, each with an unchanging well-formed table, the second's being the
--- first's without one identity's line and otherwise the same". The answers are compared over the whole series: said of one call at a time, from alike
--- connections, it would say nothing of a difference that a call leaves behind for a later one to show.
+-- Two servers whose setting is hide, with the same random, hint and stand-in key, and well-formed tables that no call changes, of which the second is the
+-- first without the line of one identity. The answers are compared over the whole series: said of one call at a time, from alike connections, it would
+-- say nothing of a difference that a call leaves behind for a later one to show.
 abbrev pub Sameness : Type 0
 Sameness =
     (s : Settings) → acceptable s ≡ true → s .named ≡ Named.Hide
@@ -46,8 +45,8 @@ Sameness =
 
 -- ---- second half: completes exactly when, under either rule, with a table well formed or not
 
--- "A legal ClientHello, ClientKeyExchange, change of cipher and Finished came in that order. Until then nothing else came, apart from ignored warnings
--- and calls refused to the host .. The identity is listed, and the Finished value is demand 2's under its key."
+-- Legal messages and a change of cipher came in their order, with nothing else before their end but ignored warnings and calls refused to the host; the
+-- identity is listed, and the Finished value is the one under its key.
 pub record CameRight (s : Settings) (v : View) (calls : List Call) : Type 0 where
   pub before : List Call
   pub awaits : AwaitsFinished s v before

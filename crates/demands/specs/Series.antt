@@ -1,5 +1,5 @@
--- A series of calls on one connection (document 01, "The series of demand 3"): "Its calls are handshake messages of any bytes, changes of cipher and
--- received alerts, in any number and order."
+-- A series of calls on one connection (document 01, "The series of demand 3"): messages of any bytes, changes of cipher and received alerts, as many and
+-- in whatever order.
 use Prim.Native.Nat.{ℕ}
 use mathlib.Core.List.{List, [], _∷_}
 use Rattle.refusal.specs.declared.Written.{Written}
@@ -22,12 +22,12 @@ call v c (message bytes out) = messageCall v c bytes out
 call v c changeOfCipher = changeCall c
 call v c (alert level description) = alertCall c level description
 
--- "Each gets the connection as the call before left it, refused or not; nobody else writes it or the table meanwhile."
+-- each call is made on the connection as the one before left it, also where that was refused, and with the same table
 abbrev pub run : View → Connection → List Call → Connection
 run v c [] = c
 run v c (x ∷ xs) = run v (call v c x .next) xs
 
--- "Compared at each call: the alert or refusal, the answer's length and the whole output afterwards." The length is in what is said.
+-- what is compared of a call: the alert or refusal or the answer's length, which are in what is said, and all of the output afterwards
 pub record Seen : Type 0 where
   pub said : Written
   pub out : List ℕ

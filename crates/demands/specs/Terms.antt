@@ -29,8 +29,8 @@ use Rattle.server.specs.Finished.{verifyDataLength, finishedLength}
 use Rattle.server.specs.Hello.{tls12, chosen, offersNull, flight}
 use Rattle.demands.specs.Series.{Call, message, changeOfCipher, alert}
 
--- ---- "Legal: a ClientHello, ClientKeyExchange or Finished that meets the tests on its header and limit and, of its step, all that answer with an alert,
--- except whether the identity is listed and the Finished value right. A change of cipher always is." The readers make the tests on header, limit and layout.
+-- ---- Legal: what meets the tests on header and limit, which the readers make, and those of its step that answer with an alert, apart from two: whether
+-- the identity is listed and the Finished value right. A change of cipher always is legal.
 
 -- of a server that chooses from these suites
 pub record LegalHello (ours m : List ℕ) : Type 0 where
@@ -58,8 +58,8 @@ answerTo s legal = flight (s .random) (s .hint) (legal .suite)
 abbrev pub flightTo : (s : Settings) → {hello : List ℕ} → LegalHello (s .suites) hello → List ℕ
 flightTo s legal = flightBytes (answerTo s legal)
 
--- "the value that "Secrets" gives from that key's master and the connection's messages before the Finished": the ClientHello, the server's answer and the
--- ClientKeyExchange, headers included
+-- The Finished value that is right under a key: by the key's master secret, over the messages before the Finished, which are the ClientHello, the server's
+-- answer and the ClientKeyExchange, headers included.
 abbrev pub valueUnder : (s : Settings) → {hello : List ℕ} → LegalHello (s .suites) hello → (exchange key : List ℕ) → Outcome
 valueUnder s {hello} legal exchange key =
     andThen (masterUnder key (legal .fields .random) (s .random))
@@ -67,17 +67,17 @@ valueUnder s {hello} legal exchange key =
 
 -- ---- what leaves a series where it was
 
--- "an alert of level 1 whose description isn't 0"
+-- an ignored warning: level 1, and not close_notify
 abbrev pub IgnoredWarning : Call → Type 0
 IgnoredWarning (message m out) = ⊥
 IgnoredWarning changeOfCipher = ⊥
 IgnoredWarning (alert level description) = (level ≡ 1) × ¬ (description ≡ 0)
 
--- "ignored warnings and calls refused to the host apart"; which calls are refused to the host depends on what came before
+-- what counts as not come: an ignored warning, or a call refused to the host; which calls those are depends on what came before
 abbrev pub Aside : (Call → Type 0) → Call → Type 0
 Aside RefusedToHost x = IgnoredWarning x ⊎ RefusedToHost x
 
--- "R1: it meets every other test, but its output is shorter than the answer", of a ClientHello
+-- R1 of a ClientHello: it is legal, and the output is shorter than the answer
 pub record ShortHello (s : Settings) (x : Call) : Type 0 where
   pub hello : List ℕ
   pub out : List ℕ
@@ -146,7 +146,7 @@ module _ (s : Settings) (v : View) {calls : List Call} (came : ChangeCame s v ca
     pub right : RightFinished finished
     pub short : length out < finishedLength
 
--- "In its place", of a Finished: what came before it
+-- a Finished in its place: what came before it
 pub record AwaitsFinished (s : Settings) (v : View) (calls : List Call) : Type 0 where
   pub first : List Call
   pub came : ChangeCame s v first
