@@ -1,4 +1,4 @@
-# make run    the gateway on 127.0.0.1:4433, over the proved library (host/host.mk has the targets of the C side)
+# make run    the gateway on 127.0.0.1:4433, over the proved library (gateway/gateway.mk has the targets of the C side)
 # make bench  speed against OpenSSL, mbed TLS and GnuTLS, as ratios; docs/BENCHMARKS.md has the figures
 # make test   every test: outside vectors made again by an independent program, every proof, every must-fail edit
 #             and every program (rt ci), the edits that the edit loop tries, then the C side; the last line is rt ci's
@@ -9,7 +9,7 @@ SHELL := /bin/bash
 
 .PHONY: test vectors claims
 
-include host/host.mk
+include gateway/gateway.mk
 include bench/bench.mk
 include tests/fuzz/fuzz.mk
 

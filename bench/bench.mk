@@ -1,10 +1,10 @@
-# The benchmark; included by the top Makefile after host/host.mk, which says where the library is.
+# The benchmark; included by the top Makefile after gateway/gateway.mk, which says where the library is.
 #
 # make bench                 every case; CASES='hash logins' only these
 
 BENCH_FLAGS := -std=c11 -D_GNU_SOURCE -Wall -Wextra -Werror -O2 -Iinclude -Ihost
-BENCH_PARTS := $(filter-out bench/footprint.c,$(wildcard bench/*.c)) host/connection.c host/records.c host/entropy.c host/wipe.c
-BENCH_HEADERS := $(wildcard bench/*.h) $(wildcard host/*.h) include/turretnail.h
+BENCH_PARTS := $(filter-out bench/footprint.c,$(wildcard bench/*.c)) gateway/connection.c gateway/records.c gateway/entropy.c gateway/wipe.c
+BENCH_HEADERS := $(wildcard bench/*.h) $(wildcard gateway/*.h) include/turretnail.h
 BENCH_PACKAGES := libmbedtls-dev libssl-dev libgnutls28-dev
 BENCH_LIBRARIES := -lmbedtls -lmbedx509 -lmbedcrypto -lgnutls -lssl -lcrypto -lpthread
 

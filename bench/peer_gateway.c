@@ -1,4 +1,4 @@
-/* The gateway's connection of host/, without its socket, with OpenSSL's client. */
+/* The gateway's connection of gateway/, without its socket, with OpenSSL's client. */
 #include <openssl/ssl.h>
 #include <string.h>
 

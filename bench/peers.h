@@ -20,7 +20,7 @@ void start_ours(void);
 double sample_ours(void *state);
 double sample_ours_bare(void *state);
 
-/* The library in the gateway of host/: records by libcrypto, randomness from the system. */
+/* The library in the gateway of gateway/: records by libcrypto, randomness from the system. */
 void start_gateway(void);
 double sample_gateway(void *state);
 

@@ -11,7 +11,7 @@ import time
 
 GATEWAY = sys.argv[1]  # under sanitizers
 FAST_GATEWAY = sys.argv[3] if len(sys.argv) > 3 else GATEWAY  # as it is installed, where time is measured
-TABLE = pathlib.Path(__file__).resolve().parent.parent / "host/gates.psk"
+TABLE = pathlib.Path(__file__).resolve().parent.parent / "gateway/gates.psk"
 KEYS = dict(line.split(":") for line in TABLE.read_text().split())
 KEY = KEYS["gate7"]
 LIMIT = 20  # seconds, for anything that is waited for

@@ -158,7 +158,7 @@ STAND_IN = """#!/bin/sh
 # stands in for rt, whose proofs take minutes
 case $1 in
 check) shift; for c; do echo failed >target/log/$c.res; sleep 0.6; echo proved >target/log/$c.res; done ;;
-staticlib) mkdir -p target/staticlib; cp "$LIBRARY_OF_TEST" target/staticlib/libhost.a ;;
+staticlib) mkdir -p target/staticlib; cp "$LIBRARY_OF_TEST" target/staticlib/libc_interface.a ;;
 esac
 """
 
@@ -166,7 +166,7 @@ esac
 def copied(folder):
     """A copy of what make needs, without the crates' contents, and a stand-in for rt."""
     copy, tools = pathlib.Path(folder) / "copy", pathlib.Path(folder) / "tools"
-    for part in ("host", "include", "bench", "tests"):
+    for part in ("gateway", "include", "bench", "tests"):
         shutil.copytree(ROOT / part, copy / part, ignore=shutil.ignore_patterns("__pycache__"))
     for part in ("Makefile", "crates.txt"):
         shutil.copy(ROOT / part, copy / part)
@@ -206,9 +206,9 @@ def make_run():
                 said = "".join(text)
                 assert f"  openssl s_client -connect {address} " in said and "listening on " + address.partition("PORT")[0] in said, said
                 if arguments == "--port 0":
-                    wanted = below("host")
+                    wanted = below("c_interface")
                     crates = re.findall(rf"^crate (\d+) of {len(wanted)}: (\w+)$", said, re.M)
-                    assert [int(n) for n, _ in crates] == [*range(1, len(wanted) + 1)] and crates[-1][1] == "host" and {c for _, c in crates} == wanted, said
+                    assert [int(n) for n, _ in crates] == [*range(1, len(wanted) + 1)] and crates[-1][1] == "c_interface" and {c for _, c in crates} == wanted, said
             finally:
                 os.killpg(run.pid, signal.SIGTERM)
                 run.communicate(timeout=LIMIT)
@@ -227,14 +227,14 @@ def nothing_there():
         (few / "id").write_text("#!/bin/sh\necho 1000\n")
         (few / "id").chmod(0o755)
         text, _ = made(copy, "run", path=str(few)).communicate(timeout=LIMIT)
-        assert text.startswith("host/needs: packages are missing and only root can install them: sudo apt-get install gcc libc6-dev libssl-dev\nmake: "), text
+        assert text.startswith("gateway/needs: packages are missing and only root can install them: sudo apt-get install gcc libc6-dev libssl-dev\nmake: "), text
         (few / "apt-get").unlink()
         text, _ = made(copy, "run", path=str(few)).communicate(timeout=LIMIT)
-        assert text.startswith("host/needs: this machine lacks what Debian has in the packages gcc libc6-dev libssl-dev, and has no apt-get: "), text
+        assert text.startswith("gateway/needs: this machine lacks what Debian has in the packages gcc libc6-dev libssl-dev, and has no apt-get: "), text
         for name in ("cc", "as", "ld"):
             (few / name).symlink_to(shutil.which(name))
         text, _ = made(copy, "run", path=str(few)).communicate(timeout=LIMIT)
-        assert text.startswith("host/prove: the library is proved by rt of the Rattle toolchain, which is not on the PATH: ") and text.count("\n") == 2, text
+        assert text.startswith("gateway/prove: the library is proved by rt of the Rattle toolchain, which is not on the PATH: ") and text.count("\n") == 2, text
 
 
 @case("make install puts the gateway in place too, pkg-config has the header's version, and make uninstall leaves nothing")

@@ -1,5 +1,5 @@
-/* In place of host/wipe.c in a gateway that has to fail tests/keys_in_memory.py. */
-#include "../host/wipe.h"
+/* In place of gateway/wipe.c in a gateway that has to fail tests/keys_in_memory.py. */
+#include "../gateway/wipe.h"
 
 void wipe_stack(void)
 {

@@ -1,8 +1,8 @@
 /*
- * Tests of the gateway's records (host/records.c) alone, beside what interop shows: what it sends is taken apart here by libcrypto's own functions, and what it
+ * Tests of the gateway's records (gateway/records.c) alone, beside what interop shows: what it sends is taken apart here by libcrypto's own functions, and what it
  * must refuse is made here: every damaged byte, wrong paddings, short fragments, content over the limit.
  */
-#include "../host/records.h"
+#include "../gateway/records.h"
 
 #include <openssl/evp.h>
 #include <openssl/hmac.h>
@@ -10,7 +10,7 @@
 #include <stdlib.h>
 #include <string.h>
 
-#include "../host/entropy.h"
+#include "../gateway/entropy.h"
 
 static unsigned long checks;
 

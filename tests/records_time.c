@@ -5,7 +5,7 @@
 #include <stdio.h>
 
 #include "../bench/records_time.h"
-#include "../host/records.h"
+#include "../gateway/records.h"
 #include "turretnail.h"
 
 enum { ROUNDS = 2001, TRIES = 5, LIMIT = 60 };

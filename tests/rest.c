@@ -1,5 +1,5 @@
-/* The tick at which a login that rests (host/rest.c) goes on: the first whole one since its message came that is not past. */
-#include "../host/rest.h"
+/* The tick at which a login that rests (gateway/rest.c) goes on: the first whole one since its message came that is not past. */
+#include "../gateway/rest.h"
 
 #include <stdio.h>
 #include <stdlib.h>

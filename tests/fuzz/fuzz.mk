@@ -17,7 +17,7 @@ FUZZ_HEADERS := $(wildcard tests/fuzz/*.h) include/turretnail.h
 .PHONY: differential planted fuzz fuzz-replay
 
 build/differential: tests/fuzz/main.c tests/fuzz/secrets.c $(FUZZ_MODELS) $(FUZZ_HEADERS) $(LIBRARY)
-	@host/needs build
+	@gateway/needs build
 	@mkdir -p build
 	@$(CC) $(FUZZ_FLAGS) -fsanitize=address,undefined $(filter %.c,$^) $(LIBRARY) -lcrypto -o $@
 
@@ -25,18 +25,18 @@ differential: build/differential
 	@build/differential $(FUZZ_ROUNDS) $(FUZZ_SEED)
 
 planted: $(LIBRARY)
-	@host/needs build
+	@gateway/needs build
 	@python3 tests/fuzz/planted.py $(LIBRARY)
 
 build/fuzz/target: tests/fuzz/target.c $(FUZZ_MODELS) $(FUZZ_HEADERS) $(LIBRARY)
-	@host/needs build
+	@gateway/needs build
 	@mkdir -p build/fuzz
 	@test -f "$$($(FUZZ_CLANG) -print-file-name=libclang_rt.fuzzer-$$(uname -m).a)" || \
 		{ apt-get update -q && apt-get install -qy --no-install-recommends clang libclang-rt-14-dev; } >/dev/null
 	@$(FUZZ_CLANG) $(FUZZ_FLAGS) -DLIBFUZZER -fsanitize=fuzzer,address,undefined $(filter %.c,$^) $(LIBRARY) -lcrypto -o $@
 
 build/fuzz/replay: tests/fuzz/target.c $(FUZZ_MODELS) $(FUZZ_HEADERS) $(LIBRARY)
-	@host/needs build
+	@gateway/needs build
 	@mkdir -p build/fuzz
 	@$(CC) $(FUZZ_FLAGS) -fsanitize=address,undefined $(filter %.c,$^) $(LIBRARY) -lcrypto -o $@
 

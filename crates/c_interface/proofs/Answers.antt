@@ -1,0 +1,46 @@
+-- From what a call below said to the code that comes back.
+-- Assumes nothing.
+use mathlib.Core.Path.{_≡_, refl, ap, _∙_}
+use Prim.Native.Nat.{ℕ, _≤_, _<_, _^_, zero-le}
+use native.Mathlib.Omega.{arith}
+use mathlib.Core.Bool.{Bool, true, false, cond}
+use mathlib.Core.List.{List}
+use lib.ListN.{length}
+use lib.Dec.{leb}
+use lib.IntN.{ℤ}
+use lib.Signed.{mag}
+use mir.Syntax.{w32}
+use mir.Val.{toZ, ofZ}
+use Rattle.refusal.specs.declared.Refusal.{Refusal}
+use Rattle.refusal.specs.declared.Refusal.the-variants.{ShortOutput}
+use Rattle.refusal.specs.declared.Written.{Written}
+use Rattle.refusal.specs.Lent.{Outcome, gives, refuses, within, answer, Answers}
+use Rattle.c_interface.specs.Codes.{coded, refusalCode, Codes}
+use Rattle.c_interface.specs.Inner.{count}
+use Rattle.c_interface.proofs.Signed.{handed-on}
+
+pub codes : {wanted : Outcome} {out out' : List ℕ} {said : Written} {result : ℤ} → Answers wanted out said out'
+    → mag result < 2 ^ 31 → result ≡ coded said → Codes wanted out (toZ w32 (ofZ w32 result)) out'
+codes {result = result} a fits e = record { told = handed-on result fits ∙ e ∙ ap coded (a .told); left = a .left }
+
+pub refusal-codes : {r : Refusal} {out : List ℕ} {result : ℤ} → mag result < 2 ^ 31 → result ≡ refusalCode r
+    → Codes (refuses r) out (toZ w32 (ofZ w32 result)) out
+refusal-codes {result = result} fits e = record { told = handed-on result fits ∙ e; left = refl }
+
+-- ---- a count that 31 bits hold
+
+-- the bytes that there are to be written
+abbrev pub size : Outcome → ℕ
+size (gives bytes) = length bytes
+size (refuses r) = 0
+
+answered : (room : ℕ) (wanted : Outcome) → count (answer (within room wanted)) ≤ size wanted
+answered room (refuses r) = zero-le
+answered room (gives bytes) = go (leb (length bytes) room)
+  where
+    go : (t : Bool) → count (answer (cond t (gives bytes) (refuses ShortOutput))) ≤ length bytes
+    go true = omega arith
+    go false = zero-le
+
+pub few : {wanted : Outcome} {out out' : List ℕ} {said : Written} → Answers wanted out said out' → size wanted < 2 ^ 31 → count said < 2 ^ 31
+few {wanted} {out} a h = rw (a .told) (let n = answered (length out) wanted in omega arith)

@@ -1,0 +1,112 @@
+-- From what the server said to the code that comes back, to the connection's bytes and to what the next call reads there.
+-- Assumes nothing.
+use mathlib.Core.Path.{_≡_, refl, sym, ap, subst, _∙_}
+use Prim.Native.Nat.{ℕ, _≤_, _<_, _^_}
+use native.Mathlib.Omega.{arith}
+use mathlib.Core.Bool.{Bool, true, false, cond, true≢false}
+use mathlib.Core.List.{List}
+use mathlib.Core.Option.{Option, none, some}
+use lib.ListN.{length}
+use lib.IntN.{ℤ}
+use lib.Signed.{mag}
+use mir.Syntax.{w32}
+use mir.Val.{toZ, ofZ}
+use Rattle.refusal.specs.declared.Refusal.{Refusal}
+use Rattle.refusal.specs.declared.Written.{Written}
+use Rattle.refusal.specs.declared.Written.the-variants.{Wrote, Refused}
+use Rattle.refusal.specs.Table.{toClient}
+use Rattle.refusal.specs.Lent.{Outcome, gives, refuses, within, answer}
+use Rattle.server.specs.declared.Phase.{Phase}
+use Rattle.server.specs.declared.Connection.{Connection}
+use Rattle.server.specs.declared.Answer.{Answer}
+use Rattle.server.specs.declared.Reply.{Reply}
+use Rattle.server.specs.Connection.{Settings, ended, acceptable, badSetting, started, startAnswer}
+use Rattle.server.specs.Flight.{longest, counted}
+use Rattle.server.specs.Step.{Step, Settled, outcome, nextAfter, settled, answered}
+use Rattle.server.specs.Message.{withMaster}
+use Rattle.saved.specs.Saved.{saved, restored}
+use Rattle.server.proofs.Refusals.{alerts-close}
+use Rattle.c_interface.specs.Codes.{coded}
+use Rattle.c_interface.specs.Connections.{Keeps, Starts, masterAfter}
+use Rattle.c_interface.specs.Inner.{count, readAfter, Kept}
+use Rattle.c_interface.proofs.Signed.{handed-on}
+use Rattle.c_interface.proofs.Answers.{few}
+use Rattle.c_interface.proofs.Sizes.{Brief}
+
+-- ---- the connection's bytes
+
+module _ {said : Written} {next : Connection} {bytes bytes' : List ℕ} where
+  pub kept-wrote : {n : ℕ} → said ≡ Wrote n → bytes' ≡ saved next → restored bytes' ≡ next → Kept said next bytes bytes'
+  kept-wrote e left read = record { left = rw e left; read = rw e read }
+
+  pub kept-alert : {r : Refusal} → said ≡ Refused r → toClient r ≡ true → bytes' ≡ saved next → restored bytes' ≡ next → Kept said next bytes bytes'
+  kept-alert e t left read = record { left = rw (e, t) left; read = rw (e, t) read }
+
+  -- an R number
+  pub kept-same : {r : Refusal} → said ≡ Refused r → toClient r ≡ false → bytes' ≡ bytes → Kept said next bytes bytes'
+  kept-same e t same = record { left = rw (e, t) same; read = rw (e, t) (ap restored same) }
+
+-- an alert's connection is written, and an R number's is the one that the bytes stand for
+next-read : (c : Connection) (step : Step) (o : Outcome) → readAfter (answer o) (nextAfter c step o) c ≡ nextAfter c step o
+next-read c step (gives b) = refl
+next-read c step (refuses r) = subst (λ (n : Connection). cond (toClient r) n c ≡ n) (sym (alerts-close r c)) (twice (toClient r))
+  where
+    twice : (t : Bool) → cond t (cond t (ended Phase.Closed) c) c ≡ cond t (ended Phase.Closed) c
+    twice true = refl
+    twice false = refl
+
+-- ---- a call
+
+pub step-count : (c : Connection) (out : List ℕ) (step : Step) {said : Written} → said ≡ settled c out step .said → Brief step → count said < 2 ^ 31
+step-count c out step e brief = few {wanted = outcome step} {out = out} (record { told = e; left = refl }) brief
+
+-- a message's answer is never long, as the server promises
+pub brief : (said : Written) → counted said ≤ longest → count said < 2 ^ 31
+brief (Wrote n) h = omega arith
+brief (Refused r) h = omega arith
+
+-- of a step on the connection that was restored
+pub keeps : (bytes out : List ℕ) (step : Connection → Step) {c : Connection} {said : Written} {next : Connection} {bytes' : List ℕ} {result : ℤ}
+    → c ≡ restored bytes → said ≡ settled c out (step c) .said → next ≡ settled c out (step c) .next
+    → mag result < 2 ^ 31 → result ≡ coded said → Kept said next bytes bytes'
+    → Keeps (settled (restored bytes) out (step (restored bytes))) bytes (toZ w32 (ofZ w32 result)) bytes'
+keeps bytes out step {result = result} same e f fits told kept =
+    let now = restored bytes in
+    let said-now = e ∙ ap (λ (x : Connection). settled x out (step x) .said) same in
+    let next-now = f ∙ ap (λ (x : Connection). settled x out (step x) .next) same in
+    record {
+      told = handed-on result fits ∙ told ∙ ap coded said-now;
+      left = kept .left ∙ rw (said-now, next-now);
+      reads = kept .read ∙ rw (said-now, next-now) (next-read now (step now) (within (length out) (outcome (step now))));
+    }
+
+-- ---- start
+
+pub start-count : (s : Settings) {a : Answer} → a ≡ startAnswer s → count (a .said) < 2 ^ 31
+start-count s e = rw e (go (acceptable s))
+  where
+    go : (t : Bool) → count (cond t (record { said = Wrote 0; next = started s }) badSetting .said) < 2 ^ 31
+    go true = omega arith
+    go false = omega arith
+
+pub starts : {a wanted : Answer} {bytes bytes' : List ℕ} {result : ℤ} → a ≡ wanted → mag result < 2 ^ 31 → result ≡ coded (a .said)
+    → Kept (a .said) (a .next) bytes bytes' → Starts wanted bytes (toZ w32 (ofZ w32 result)) bytes'
+starts {bytes = bytes} {bytes' = bytes'} {result = result} e fits told kept =
+    subst (λ (w : Answer). Starts w bytes (toZ w32 (ofZ w32 result)) bytes') e
+    (record { told = handed-on result fits ∙ told; left = kept .left; reads = λ wrote. kept .read ∙ rw wrote })
+
+-- ---- a message's reply
+
+pub reply-parts : (s : Settled) (o : Option (List ℕ)) {r : Reply} → r ≡ withMaster (answered s) o → (r .said ≡ s .said) × (r .next ≡ s .next)
+reply-parts s none e = rw e (refl, refl)
+reply-parts s (some secret) e = rw e (refl, refl)
+
+pub master-handed : (s : Settled) (o : Option (List ℕ)) {r : Reply} (master : List ℕ) → r ≡ withMaster (answered s) o → r .handed ≡ true
+    → r .master ≡ masterAfter o master
+master-handed s none master e t = absurd (true≢false (sym t ∙ ap (λ (x : Reply). x .handed) e))
+master-handed s (some secret) master e t = rw e
+
+pub master-kept : (s : Settled) (o : Option (List ℕ)) {r : Reply} (master : List ℕ) → r ≡ withMaster (answered s) o → r .handed ≡ false
+    → master ≡ masterAfter o master
+master-kept s none master e t = refl
+master-kept s (some secret) master e t = absurd (true≢false (sym (ap (λ (x : Reply). x .handed) e) ∙ t))

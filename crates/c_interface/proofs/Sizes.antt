@@ -1,0 +1,149 @@
+-- Every outcome of the layers below has fewer than 2 ^ 31 bytes: digests and secrets by their lengths, messages by their limit; of a message's answer
+-- the server promises it.
+-- Assumes nothing.
+use mathlib.Core.Path.{_≡_, refl}
+use Prim.Native.Nat.{ℕ, _+_, _-_, _≤_, _<_, _^_}
+use native.Mathlib.Omega.{arith}
+use mathlib.Core.Bool.{Bool, true, false, cond, not, _&&_, _||_, and-eq-true-iff}
+use mathlib.Core.List.{List, _++_}
+use mathlib.Core.Option.{Option, none, some}
+use lib.ListN.{length, length-take}
+use lib.Dec.{leb, ltb, eqb}
+use borrow.Author.Tests.{leb-true, ltb-true}
+use Rattle.refusal.specs.declared.Refusal.{Refusal}
+use Rattle.refusal.specs.declared.Refusal.the-variants.{BadValue, ConnectionOver, IllegalParameter}
+use Rattle.refusal.specs.Lent.{Outcome, gives, refuses}
+use Rattle.endian.specs.Vector.{writable}
+use Rattle.sha256.specs.Hash.{limit, sha256, digest}
+use Rattle.sha256.proofs.Finish.{length-digest}
+use Rattle.keys.specs.declared.Label.{Label}
+use Rattle.keys.specs.declared.Side.{Side}
+use Rattle.keys.specs.Hmac.{hmac, mac, keyed}
+use Rattle.keys.specs.Prf.{prf, expanded, text}
+use Rattle.keys.specs.Secrets.{premaster, premasterBytes, master, keys, verifyData, isRandom, keyBlockLength, finishedLabel}
+use Rattle.keys.proofs.Lengths.{length-premaster}
+use Rattle.layout.specs.Layout.{Layout, bytes, written, valid}
+use Rattle.layout.specs.Place.{contents}
+use Rattle.extensions.specs.Extensions.{Ext, extensionBytes, extensionWritten}
+use Rattle.keytable.specs.Table.{keyOf, found}
+use Rattle.keytable.proofs.Lookups.{key-size}
+use Rattle.server.specs.declared.Phase.{Phase}
+use Rattle.server.specs.declared.Connection.{Connection}
+use Rattle.server.specs.Connection.{ended}
+use Rattle.server.specs.Flight.{silence}
+use Rattle.server.specs.Step.{Step, refuse, accept}
+use Rattle.server.specs.Change.{changeStep}
+use Rattle.server.specs.Connection.{isOver}
+use Rattle.server.specs.Alert.{alertStep}
+use Rattle.server.specs.Step.{outcome}
+use Rattle.c_interface.proofs.Answers.{size}
+
+abbrev pub Small : Outcome → Type 0
+Small o = size o < 2 ^ 31
+
+-- bytes that are given only where a test holds
+tested : (t : Bool) (bytes : List ℕ) (r : Refusal) → (t ≡ true → length bytes < 2 ^ 31) → Small (cond t (gives bytes) (refuses r))
+tested true bytes r h = h refl
+tested false bytes r h = omega arith
+
+-- an outcome that is wanted only where a test holds
+allowed : (t : Bool) (o : Outcome) (r : Refusal) → Small o → Small (cond t o (refuses r))
+allowed true o r h = h
+allowed false o r h = omega arith
+
+-- ---- the secrets
+
+pub sha256-small : (m : List ℕ) → Small (sha256 m)
+unfolding sha256
+sha256-small m = tested (leb (length m) limit) (digest m) BadValue (λ _. rw (length-digest m) (omega arith))
+
+pub hmac-small : (key text : List ℕ) → Small (hmac key text)
+unfolding hmac mac keyed
+hmac-small key text =
+    tested (leb (length text) (limit - 64) && leb (length key) limit) (mac key text) BadValue (λ _. rw (length-digest _) (omega arith))
+
+expanded-most : (secret seed : List ℕ) (n : ℕ) → length (expanded secret seed n) ≤ n
+unfolding expanded
+expanded-most secret seed n = simp length-take (omega arith)
+
+pub prf-small : (secret : List ℕ) (label : Label) (seed : List ℕ) (n : ℕ) → Small (prf secret label seed n)
+unfolding prf
+prf-small secret label seed n =
+    tested (leb (length secret) 65536 && leb (length seed) 65536 && leb n 256) (expanded secret (text label ++ seed) n) BadValue (λ ok.
+    let most : n ≤ 256 = leb-true n 256 (and-eq-true-iff (leb (length secret) 65536 && leb (length seed) 65536) (leb n 256) .0 ok .1) in
+    omega (arith, expanded-most secret (text label ++ seed) n))
+
+pub premaster-small : (psk : List ℕ) → Small (premaster psk)
+unfolding premaster
+premaster-small psk =
+    tested (leb 1 (length psk) && leb (length psk) 64) (premasterBytes psk) BadValue (λ ok.
+    let most : length psk ≤ 64 = leb-true (length psk) 64 (and-eq-true-iff (leb 1 (length psk)) (leb (length psk) 64) .0 ok .1) in
+    rw (length-premaster psk) (omega arith))
+
+pub master-small : (secret client server : List ℕ) → Small (master secret client server)
+master-small secret client server = allowed (isRandom client && isRandom server) _ BadValue (prf-small secret _ (client ++ server) 48)
+
+pub keys-small : (secret server client : List ℕ) (suite : ℕ) → Small (keys secret server client suite)
+unfolding keys
+keys-small secret server client suite =
+    allowed (eqb (length secret) 48 && isRandom server && isRandom client && leb 1 (keyBlockLength suite)) _ BadValue
+    (prf-small secret _ (server ++ client) (keyBlockLength suite))
+
+pub key-block-few : (suite : ℕ) → keyBlockLength suite < 2 ^ 31
+key-block-few suite = one (eqb suite 0x00ae) (eqb suite 0x008c) (eqb suite 0x00b0)
+  where
+    one : (a b c : Bool) → cond a 96 (cond b 72 (cond c 64 0)) < 2 ^ 31
+    one true b c = omega arith
+    one false true c = omega arith
+    one false false true = omega arith
+    one false false false = omega arith
+
+pub verify-small : (side : Side) (secret hash : List ℕ) → Small (verifyData side secret hash)
+unfolding verifyData
+verify-small side secret hash = allowed (eqb (length secret) 48 && eqb (length hash) 32) _ BadValue (prf-small secret (finishedLabel side) hash 12)
+
+-- ---- the messages
+
+pub written-small : {F : Type 0} (l : Layout F) (f : F) → Small (written l f)
+written-small l f = tested (valid l f) (bytes l f) BadValue (λ ok.
+    let most : length (bytes l f) ≤ 16384 =
+    leb-true (length (bytes l f)) 16384 (and-eq-true-iff (l .rules f) (leb (length (bytes l f)) 16384) .0 ok .1) in
+    omega arith)
+
+pub extension-small : (e : Ext) → Small (extensionWritten e)
+extension-small e = tested (ltb (e .kind) 65536 && writable 2 (e .contents)) (extensionBytes e) BadValue (λ ok.
+    let most : length (e .contents) < 65536 =
+    ltb-true (length (e .contents)) 65536 (and-eq-true-iff (ltb (e .kind) 65536) (writable 2 (e .contents)) .0 ok .1) in
+    omega arith)
+
+-- ---- the table
+
+pub lookup-small : (table identity : List ℕ) → Small (found (keyOf table identity))
+lookup-small table identity = go (keyOf table identity) refl
+  where
+    go : (o : Option (List ℕ)) → keyOf table identity ≡ o → Small (found o)
+    go none e = omega arith
+    go (some key) e = let n = key-size table identity key e in omega arith
+
+-- ---- the server's steps
+
+abbrev pub Brief : Step → Type 0
+Brief step = Small (outcome step)
+
+either : (t : Bool) (a b : Step) → Brief a → Brief b → Brief (cond t a b)
+either true a b p q = p
+either false a b p q = q
+
+pub change-brief : (c : Connection) (p : Phase) → Brief (changeStep c p)
+change-brief c Phase.Hello = omega arith
+change-brief c Phase.KeyExchange = omega arith
+change-brief c Phase.Change = omega arith
+change-brief c Phase.Finished = omega arith
+change-brief c Phase.Complete = omega arith
+change-brief c Phase.Closed = omega arith
+
+pub alert-brief : (c : Connection) (level description : ℕ) → Brief (alertStep c level description)
+alert-brief c level description =
+    either (isOver (c .phase)) (refuse ConnectionOver) _ (omega arith)
+    (either (not (eqb level 1 || eqb level 2)) (refuse IllegalParameter) _ (omega arith)
+    (either (eqb level 2 || eqb description 0) (accept silence (ended Phase.Closed)) (accept silence c) (omega arith) (omega arith)))

@@ -1,0 +1,20 @@
+-- `c_interface::writing::tn_write_server_key_exchange` meets its contract: the code of what the writer said, whose bytes are within the limit.
+-- Assumes nothing.
+use borrow.Author.Needs.{needs}
+use Rattle.messages.specs.KeyExchange.{serverKeyExchange}
+use Rattle.c_interface.proofs.Answers.{few, codes}
+use Rattle.c_interface.proofs.Sizes.{written-small}
+use Rattle.c_interface.proofs.writing.tn_write_server_key_exchange.Statement.{statement}
+use Rattle.c_interface.proofs.writing.tn_write_server_key_exchange.Tie as tie
+
+of-answer-requires : tie.Need-of-answer-requires
+of-answer-requires c κs =
+    let a = c .before .before .before .before .before .before .args in
+    few (c .before .before .write-hint .ensures) (written-small serverKeyExchange (a .hint .now))
+
+returns : tie.Need-returns
+returns c = codes (c .before .before .before .write-hint .ensures) (c .of-answer .ok) (c .of-answer .ensures)
+
+pub tn-write-server-key-exchange-spec : {M : Type 1} → statement M
+tn-write-server-key-exchange-spec =
+    tie.close (tie.spec (λ c κs. search needs) of-answer-requires (λ c. search needs) returns)

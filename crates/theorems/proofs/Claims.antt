@@ -1,0 +1,53 @@
+-- Every claim, by the theorem that proves it.
+-- Assumes nothing.
+use Rattle.refusal.proofs.Laws.{refusal-keeps, answer-keeps-rest, short-exactly}
+use Rattle.sha256.proofs.Padding.{zeros-fill, zeros-least}
+use Rattle.sha256.proofs.Finish.{finish-absorbed}
+use Rattle.layout.specs.Types.{serverKeyExchangeType, serverHelloDoneType, clientKeyExchangeType, finishedType}
+use Rattle.hellos.proofs.ClientHellos.{client-inverse}
+use Rattle.hellos.proofs.ServerHellos.{server-inverse}
+use Rattle.messages.proofs.KeyExchanges.{vector-inverse}
+use Rattle.messages.proofs.FixedMessages.{fixed-inverse}
+use Rattle.messages.proofs.NewSessionTickets.{ticket-inverse}
+use Rattle.keytable.proofs.Agreement.{sound, complete}
+use Rattle.keytable.proofs.Lookups.{exactly, malformed-unlisted}
+use Rattle.server.specs.Finished.{verifyDataLength}
+use Rattle.c_interface.proofs.Apart.{codes-apart}
+use Rattle.theorems.specs.Claims.{Claims}
+use Rattle.theorems.proofs.Over.{over-stays}
+use Rattle.theorems.proofs.Rules.{rules-apply}
+use Rattle.theorems.proofs.Sameness.{sameness, sameness-of-lookups}
+use Rattle.theorems.proofs.Completion.{completes-exactly}
+use Rattle.theorems.proofs.FromC.{sameness-from-c, completes-exactly-from-c}
+use Rattle.theorems.proofs.Worked as Worked
+
+pub claims : Claims
+claims =
+    record {
+      refusalKeeps = refusal-keeps;
+      answerKeepsRest = answer-keeps-rest;
+      shortExactly = short-exactly;
+      codesApart = codes-apart;
+      overStays = over-stays;
+      hashedInParts = finish-absorbed;
+      paddingFills = zeros-fill;
+      paddingLeast = zeros-least;
+      clientHelloInverse = client-inverse;
+      serverHelloInverse = server-inverse;
+      serverKeyExchangeInverse = vector-inverse serverKeyExchangeType;
+      serverHelloDoneInverse = fixed-inverse serverHelloDoneType 0;
+      clientKeyExchangeInverse = vector-inverse clientKeyExchangeType;
+      finishedInverse = fixed-inverse finishedType verifyDataLength;
+      newSessionTicketInverse = ticket-inverse;
+      testedSoundly = sound;
+      testedCompletely = complete;
+      lookupExact = exactly;
+      malformedUnlisted = malformed-unlisted;
+      worked = Worked.worked;
+      rulesApply = rules-apply;
+      sameness = sameness;
+      samenessOfLookups = sameness-of-lookups;
+      completesExactly = completes-exactly;
+      samenessFromC = sameness-from-c;
+      completesExactlyFromC = completes-exactly-from-c;
+    }

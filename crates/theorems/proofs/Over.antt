@@ -1,0 +1,27 @@
+-- A connection that is over answers R4 to every call and stays as it was.
+-- Assumes nothing.
+use mathlib.Core.Path.{_≡_, refl, ap, _∙_}
+use Prim.Native.Nat.{ℕ}
+use mathlib.Core.Bool.{true, false, false≢true}
+use mathlib.Core.List.{List, []}
+use Rattle.refusal.specs.declared.Refusal.the-variants.{ConnectionOver}
+use Rattle.server.specs.declared.Phase.{Phase}
+use Rattle.server.specs.declared.Connection.{Connection}
+use Rattle.server.specs.Connection.{isOver}
+use Rattle.server.specs.Step.{Step, refuse, settled}
+use Rattle.server.specs.Change.{changeStep}
+use Rattle.theorems.specs.Series.{Call, message, changeOfCipher, alert}
+use Rattle.theorems.specs.Over.{OverStays}
+
+change-over : (c : Connection) (p : Phase) → isOver p ≡ true → changeStep c p ≡ refuse ConnectionOver
+change-over c Phase.Hello h = absurd (false≢true h)
+change-over c Phase.KeyExchange h = absurd (false≢true h)
+change-over c Phase.Change h = absurd (false≢true h)
+change-over c Phase.Finished h = absurd (false≢true h)
+change-over c Phase.Complete h = refl
+change-over c Phase.Closed h = refl
+
+pub over-stays : OverStays
+over-stays v c over (message m out) = rw over
+over-stays v c over changeOfCipher = ap (settled c []) (change-over c (c .phase) over)
+over-stays v c over (alert level description) = rw over

@@ -1,0 +1,71 @@
+-- Every headline statement, as one record: a statement that goes missing, or has no proof any more, fails the crate. docs/ASSURANCE.md has a row for each
+-- field, and tests/claims compares the two. proofs/Claims.antt proves it by one value.
+use mathlib.Core.Path.{_≡_}
+use mathlib.Core.Logic.{_↔_}
+use Prim.Native.Nat.{ℕ, _+_, _%_, _≤_, _<_}
+use mathlib.Core.Bool.{true, false}
+use mathlib.Core.List.{List}
+use mathlib.Core.Option.{none, some}
+use lib.ListN.{length, take, drop}
+use Rattle.refusal.specs.declared.Refusal.{Refusal}
+use Rattle.refusal.specs.declared.Refusal.the-variants.{ShortOutput}
+use Rattle.refusal.specs.declared.Written.{Written}
+use Rattle.refusal.specs.declared.Written.the-variants.{Wrote, Refused}
+use Rattle.refusal.specs.Lent.{Outcome, gives, refuses, within, answer, after}
+use Rattle.endian.specs.Number.{Bytes}
+use Rattle.sha256.specs.Message.{zeros}
+use Rattle.sha256.specs.Hash.{sha256}
+use Rattle.sha256.specs.State.{fresh, absorb, finished}
+use Rattle.layout.specs.Layout.{Inverse}
+use Rattle.layout.specs.Types.{serverKeyExchangeType, serverHelloDoneType, clientKeyExchangeType, finishedType}
+use Rattle.hellos.specs.ClientHello.{clientHello, readClientHello}
+use Rattle.hellos.specs.ServerHello.{serverHello, readServerHello}
+use Rattle.messages.specs.KeyExchange.{serverKeyExchange, clientKeyExchange, readVector}
+use Rattle.messages.specs.Fixed as Fixed
+use Rattle.messages.specs.Fixed.{serverHelloDone, readFixed}
+use Rattle.messages.specs.NewSessionTicket.{newSessionTicket, readTicket}
+use Rattle.keytable.specs.Table.{validIdentity, wellFormed, keyOf}
+use Rattle.keytable.specs.WellFormed.{WellFormed, Listed}
+use Rattle.server.specs.Finished.{verifyDataLength}
+use Rattle.c_interface.specs.Codes.{coded}
+use Rattle.theorems.specs.Demand3.{Sameness, CompletesExactly}
+use Rattle.theorems.specs.Agreeing.{SamenessOfLookups}
+use Rattle.theorems.specs.FromC.{SamenessFromC, CompletesExactlyFromC}
+use Rattle.theorems.specs.Rules.{RulesApply}
+use Rattle.theorems.specs.Over.{OverStays}
+use Rattle.theorems.specs.Worked.{BytesWorkedThrough}
+
+pub record Claims : Type 1 where
+  -- demand 1: lent memory
+  pub refusalKeeps : (o : Outcome) (out : List ℕ) (r : Refusal) → answer o ≡ Refused r → after o out ≡ out
+  pub answerKeepsRest : (o : Outcome) (out : List ℕ) (n : ℕ) → answer o ≡ Wrote n → drop n (after o out) ≡ drop n out
+  pub shortExactly : (room : ℕ) (wanted : Outcome) → ¬ (wanted ≡ refuses ShortOutput)
+      → (within room wanted ≡ refuses ShortOutput) ↔ ((bytes : List ℕ) × (wanted ≡ gives bytes) × (room < length bytes))
+  pub codesApart : (v w : Written) → coded v ≡ coded w → v ≡ w
+  pub overStays : OverStays
+  -- demand 2: the hash
+  pub hashedInParts : (m : List ℕ) → finished (absorb fresh m) ≡ sha256 m
+  pub paddingFills : (n : ℕ) → (n + 1 + zeros n) % 64 ≡ 56
+  pub paddingLeast : (n z : ℕ) → (n + 1 + z) % 64 ≡ 56 → zeros n ≤ z
+  -- each layout with its reader, by name
+  pub clientHelloInverse : Inverse clientHello readClientHello
+  pub serverHelloInverse : Inverse serverHello readServerHello
+  pub serverKeyExchangeInverse : Inverse serverKeyExchange (readVector serverKeyExchangeType)
+  pub serverHelloDoneInverse : Inverse serverHelloDone (readFixed serverHelloDoneType 0)
+  pub clientKeyExchangeInverse : Inverse clientKeyExchange (readVector clientKeyExchangeType)
+  pub finishedInverse : Inverse Fixed.finished (readFixed finishedType verifyDataLength)
+  pub newSessionTicketInverse : Inverse newSessionTicket readTicket
+  -- the key table
+  pub testedSoundly : (t : List ℕ) → wellFormed t ≡ true → WellFormed t
+  pub testedCompletely : (t : List ℕ) → WellFormed t → wellFormed t ≡ true
+  pub lookupExact : (t : List ℕ) (w : WellFormed t) (i k : List ℕ) → (keyOf t i ≡ some k) ↔ Listed i k (w .lines)
+  pub malformedUnlisted : (t : List ℕ) → wellFormed t ≡ true → (i : List ℕ) → validIdentity i ≡ false → keyOf t i ≡ none
+  -- the worked bytes
+  pub worked : BytesWorkedThrough
+  -- demand 3
+  pub rulesApply : RulesApply
+  pub sameness : Sameness
+  pub samenessOfLookups : SamenessOfLookups
+  pub completesExactly : CompletesExactly
+  pub samenessFromC : SamenessFromC
+  pub completesExactlyFromC : CompletesExactlyFromC

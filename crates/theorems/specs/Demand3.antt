@@ -1,0 +1,66 @@
+-- Demand 3, both halves: each is one statement about every series of calls from an accepted start. specs/Series.antt has the calls and the run,
+-- specs/Terms.antt the terms. proofs/Sameness.antt and proofs/Completion.antt prove them.
+use mathlib.Core.Path.{_≡_}
+use mathlib.Core.Logic.{_↔_}
+use Prim.Native.Nat.{ℕ, _≤_}
+use mathlib.Core.Bool.{true}
+use mathlib.Core.List.{List, _∷_, _++_}
+use lib.ListN.{length}
+use Rattle.keytable.specs.Table.{wellFormed}
+use Rattle.keytable.specs.WellFormed.{LineRemoved}
+use Rattle.server.specs.declared.Named.{Named}
+use Rattle.server.specs.declared.Phase.{Phase}
+use Rattle.server.specs.Connection.{Settings, acceptable, startAnswer}
+use Rattle.server.specs.Finished.{finishedLength}
+use Rattle.server.specs.KeyExchange.{View, viewOf}
+use Rattle.theorems.specs.Series.{Call, message, run, answers}
+use Rattle.theorems.specs.Terms.{AwaitsFinished, RightFinished, named}
+
+-- ---- first half: under the hiding rule, nothing tells which identities are listed
+
+-- The call that ends the sameness: a Finished that is right under the identity's key is judged in its place, after a ClientKeyExchange that named the
+-- identity. It is judged also where R1 follows, so nothing is asked of the output.
+pub record JudgedRight (s : Settings) (v : View) (identity : List ℕ) (calls : List Call) (x : Call) : Type 0 where
+  pub awaits : AwaitsFinished s v calls
+  pub names : named s v (awaits .came) ≡ identity
+  pub finished : List ℕ
+  pub out : List ℕ
+  pub is : x ≡ message finished out
+  pub right : RightFinished s v (awaits .came) finished
+
+-- No call of the series is such a one. A series that has one is compared as far as the call before it: that call itself is not.
+abbrev pub NoneJudgedRight : Settings → View → List ℕ → List Call → Type 0
+NoneJudgedRight s v identity calls =
+    (before : List Call) (x : Call) (after : List Call) → calls ≡ before ++ (x ∷ after) → ¬ JudgedRight s v identity before x
+
+-- Two servers whose setting is hide, with the same random, hint and stand-in key, and well-formed tables that no call changes, of which the second is the
+-- first without the line of one identity. The answers are compared over the whole series: said of one call at a time, from alike connections, it would
+-- say nothing of a difference that a call leaves behind for a later one to show.
+abbrev pub Sameness : Type 0
+Sameness =
+    (s : Settings) → acceptable s ≡ true → s .named ≡ Named.Hide
+    → (identity table without : List ℕ) → LineRemoved identity table without → wellFormed table ≡ true → wellFormed without ≡ true
+    → (calls : List Call) → NoneJudgedRight s (viewOf table) identity calls
+    → answers (viewOf table) (startAnswer s .next) calls ≡ answers (viewOf without) (startAnswer s .next) calls
+
+-- ---- second half: completes exactly when, under either rule, with a table well formed or not
+
+-- Legal messages and a change of cipher came in their order, with nothing else before their end but ignored warnings and calls refused to the host; the
+-- identity is listed, and the Finished value is the one under its key.
+pub record CameRight (s : Settings) (v : View) (calls : List Call) : Type 0 where
+  pub before : List Call
+  pub awaits : AwaitsFinished s v before
+  pub finished : List ℕ
+  pub out : List ℕ
+  pub rest : List Call
+  pub is : calls ≡ before ++ (message finished out ∷ rest)
+  pub right : RightFinished s v (awaits .came) finished
+  -- with less room it is refused to the host, and counts as not come
+  pub room : finishedLength ≤ length out
+
+-- Nothing is assumed of the connection's state or of the table: with a table that has to be well formed the statement would leave out R2, and with the
+-- state in the assumption it would say nothing of how a server gets there.
+abbrev pub CompletesExactly : Type 0
+CompletesExactly =
+    (s : Settings) → acceptable s ≡ true → (table : List ℕ) (calls : List Call)
+    → (run (viewOf table) (startAnswer s .next) calls .phase ≡ Phase.Complete) ↔ CameRight s (viewOf table) calls

@@ -1,0 +1,93 @@
+# The C host; included by the top Makefile.
+#
+# make lib                   build/libturretnail.a, proved
+# make gateway               build/gateway
+# make run                   the gateway with the sample table gateway/gates.psk; ARGUMENTS='--rule hide' adds options
+# make install PREFIX=DIR    library, header, pkg-config file and gateway (DESTDIR is put in front)
+# make uninstall PREFIX=DIR  removes them
+# make header-test           the header against the exports, and a program over the installed library in C and C++
+# make interop               the gateway under sanitizers against other clients
+
+PREFIX ?= /usr/local
+VERSION := $(shell sed -n 's/^\#define TN_VERSION "\(.*\)"/\1/p' include/turretnail.h)
+LIBRARY ?= build/libturretnail.a
+HOST_FLAGS := -std=c11 -D_GNU_SOURCE -Wall -Wextra -Wconversion -Wshadow -Werror -Iinclude
+SANITIZED := -O1 -g -fsanitize=address,undefined -fno-sanitize-recover=all
+HOST_PARTS := $(addprefix gateway/,connection.c records.c entropy.c options.c report.c table.c log.c places.c listener.c client.c rest.c work.c wipe.c)
+HOST_HEADERS := $(wildcard gateway/*.h) include/turretnail.h
+PROVED := $(shell find crates -name '*.rt' -o -name '*.antt') crates.txt
+INSTALLED := $(CURDIR)/build/installed
+
+.PHONY: lib gateway run install uninstall header-test interop needs-build needs-test
+
+lib: $(LIBRARY)
+gateway: build/gateway
+
+build/libturretnail.a: $(PROVED)
+	@mkdir -p build
+	@gateway/prove
+	@cp target/staticlib/libc_interface.a $@
+
+needs-build:
+	@gateway/needs build
+
+needs-test:
+	@gateway/needs test
+
+build/gateway: gateway/gateway.c $(HOST_PARTS) $(HOST_HEADERS) $(LIBRARY) | needs-build
+	@mkdir -p build
+	@$(CC) $(HOST_FLAGS) -O2 $(filter %.c,$^) $(LIBRARY) -lcrypto -o $@
+
+build/gateway-sanitized: gateway/gateway.c $(HOST_PARTS) $(HOST_HEADERS) $(LIBRARY) | needs-build
+	@mkdir -p build
+	@$(CC) $(HOST_FLAGS) $(SANITIZED) $(filter %.c,$^) $(LIBRARY) -lcrypto -o $@
+
+# The same without what clears keys, for the test that looks for them: it must find them there.
+build/gateway-careless: gateway/gateway.c $(filter-out gateway/wipe.c,$(HOST_PARTS)) tests/no_wipe.c $(HOST_HEADERS) $(LIBRARY) | needs-build
+	@mkdir -p build
+	@$(CC) $(HOST_FLAGS) -O2 $(filter %.c,$^) $(LIBRARY) -lcrypto -o $@
+
+build/records-test: tests/records.c gateway/records.c gateway/entropy.c $(HOST_HEADERS) | needs-build
+	@mkdir -p build
+	@$(CC) $(HOST_FLAGS) $(SANITIZED) $(filter %.c,$^) -lcrypto -o $@
+
+build/rest-test: tests/rest.c gateway/rest.c $(HOST_HEADERS) | needs-build
+	@mkdir -p build
+	@$(CC) $(HOST_FLAGS) $(SANITIZED) $(filter %.c,$^) -o $@
+
+build/records-time: tests/records_time.c bench/records_time.c bench/measure.c gateway/records.c gateway/entropy.c $(HOST_HEADERS) bench/records_time.h | needs-build
+	@mkdir -p build
+	@$(CC) $(HOST_FLAGS) -O2 -Ihost $(filter %.c,$^) -lcrypto -o $@
+
+build/mbedtls-client: tests/mbedtls_client.c | needs-test
+	@mkdir -p build
+	@$(CC) $(HOST_FLAGS) -O2 $< -lmbedtls -lmbedx509 -lmbedcrypto -o $@
+
+# What may be missing is asked for before the minutes of proof.
+run: needs-build build/gateway
+	@gateway/run build/gateway $(ARGUMENTS)
+
+INSTALL_TO := $(DESTDIR)$(PREFIX)
+
+install: $(LIBRARY) build/gateway
+	@install -d $(INSTALL_TO)/lib/pkgconfig $(INSTALL_TO)/include $(INSTALL_TO)/bin
+	@install -m 755 build/gateway $(INSTALL_TO)/bin/turretnail-gateway
+	@install -m 644 $(LIBRARY) $(INSTALL_TO)/lib/libturretnail.a
+	@install -m 644 include/turretnail.h $(INSTALL_TO)/include/turretnail.h
+	@sed -e 's|@PREFIX@|$(PREFIX)|' -e 's|@VERSION@|$(VERSION)|' gateway/turretnail.pc.in > $(INSTALL_TO)/lib/pkgconfig/turretnail.pc
+
+uninstall:
+	@rm -f $(addprefix $(INSTALL_TO)/,lib/libturretnail.a include/turretnail.h lib/pkgconfig/turretnail.pc bin/turretnail-gateway)
+
+header-test: $(LIBRARY) | needs-test
+	@tests/header $(LIBRARY)
+	@$(MAKE) --no-print-directory -f $(firstword $(MAKEFILE_LIST)) install PREFIX=$(INSTALLED) DESTDIR= LIBRARY=$(LIBRARY)
+	@tests/installed $(INSTALLED)
+
+interop: build/gateway build/gateway-careless build/gateway-sanitized build/records-test build/records-time build/rest-test build/mbedtls-client | needs-test
+	@build/records-test
+	@build/records-time
+	@build/rest-test
+	@python3 tests/keys_in_memory.py build/gateway build/gateway-careless
+	@python3 tests/hide_in_time.py build/gateway
+	@python3 tests/interop build/gateway-sanitized build/mbedtls-client build/gateway
