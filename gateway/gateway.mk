@@ -1,4 +1,4 @@
-# The C host; included by the top Makefile.
+# The gateway and the library for C; included by the top Makefile.
 #
 # make lib                   build/libturretnail.a, proved
 # make gateway               build/gateway
