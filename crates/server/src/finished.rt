@@ -72,7 +72,7 @@ fn complete(c: Connection, m: &[u8]) -> Decision
 }
 
 // A Finished whose header is tested already.
-pub fn body(c: Connection, m: &[u8]) -> Decision
+pub(crate) fn body(c: Connection, m: &[u8]) -> Decision
     ensures { λ d. ⌜ Decides d (finishedValue c (now (m .entry)) (contents (now (m .entry)) (filledBy 12 (now (m .entry))))) ⌝ }
 {
     match messages::fixed::read_finished_body(m) {

@@ -183,7 +183,7 @@ fn accept(c: Connection, m: &[u8], suite: u16) -> Decision
 }
 
 // A hello whose header is tested already.
-pub fn body(c: Connection, m: &[u8]) -> Decision
+pub(crate) fn body(c: Connection, m: &[u8]) -> Decision
     ensures { λ d. ⌜ Decides d (helloFields c (now (m .entry)) (clientFields (now (m .entry)) (clientBody (now (m .entry))))) ⌝ }
 {
     match hellos::client_hello::read_body(m) {

@@ -87,7 +87,7 @@ fn identified(c: Connection, table: &[u8], m: &[u8]) -> Decision
 }
 
 // A key exchange whose header is tested already.
-pub fn body(c: Connection, table: &[u8], m: &[u8]) -> Decision
+pub(crate) fn body(c: Connection, table: &[u8], m: &[u8]) -> Decision
     requires { ⌜ header 16 (now m) ≡ Accepted ⌝ }
     ensures { λ d. ⌜ Decides d (bodyStep (viewOf (now (table .entry))) c (now (m .entry)) Phase.KeyExchange) ⌝ }
 {
