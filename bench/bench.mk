@@ -2,7 +2,7 @@
 #
 # make bench                 every case; CASES='hash logins' only these
 
-BENCH_FLAGS := -std=c11 -D_GNU_SOURCE -Wall -Wextra -Werror -O2 -Iinclude -Ihost
+BENCH_FLAGS := -std=c11 -D_GNU_SOURCE -Wall -Wextra -Werror -O2 -Iinclude -Igateway
 BENCH_PARTS := $(filter-out bench/footprint.c,$(wildcard bench/*.c)) gateway/connection.c gateway/records.c gateway/entropy.c gateway/wipe.c
 BENCH_HEADERS := $(wildcard bench/*.h) $(wildcard gateway/*.h) include/turretnail.h
 BENCH_PACKAGES := libmbedtls-dev libssl-dev libgnutls28-dev

@@ -11,10 +11,10 @@
 PREFIX ?= /usr/local
 VERSION := $(shell sed -n 's/^\#define TN_VERSION "\(.*\)"/\1/p' include/turretnail.h)
 LIBRARY ?= build/libturretnail.a
-HOST_FLAGS := -std=c11 -D_GNU_SOURCE -Wall -Wextra -Wconversion -Wshadow -Werror -Iinclude
+GATEWAY_FLAGS := -std=c11 -D_GNU_SOURCE -Wall -Wextra -Wconversion -Wshadow -Werror -Iinclude
 SANITIZED := -O1 -g -fsanitize=address,undefined -fno-sanitize-recover=all
-HOST_PARTS := $(addprefix gateway/,connection.c records.c entropy.c options.c report.c table.c log.c places.c listener.c client.c rest.c work.c wipe.c)
-HOST_HEADERS := $(wildcard gateway/*.h) include/turretnail.h
+GATEWAY_PARTS := $(addprefix gateway/,connection.c records.c entropy.c options.c report.c table.c log.c places.c listener.c client.c rest.c work.c wipe.c)
+GATEWAY_HEADERS := $(wildcard gateway/*.h) include/turretnail.h
 PROVED := $(shell find crates -name '*.rt' -o -name '*.antt') crates.txt
 INSTALLED := $(CURDIR)/build/installed
 
@@ -34,34 +34,34 @@ needs-build:
 needs-test:
 	@gateway/needs test
 
-build/gateway: gateway/gateway.c $(HOST_PARTS) $(HOST_HEADERS) $(LIBRARY) | needs-build
+build/gateway: gateway/gateway.c $(GATEWAY_PARTS) $(GATEWAY_HEADERS) $(LIBRARY) | needs-build
 	@mkdir -p build
-	@$(CC) $(HOST_FLAGS) -O2 $(filter %.c,$^) $(LIBRARY) -lcrypto -o $@
+	@$(CC) $(GATEWAY_FLAGS) -O2 $(filter %.c,$^) $(LIBRARY) -lcrypto -o $@
 
-build/gateway-sanitized: gateway/gateway.c $(HOST_PARTS) $(HOST_HEADERS) $(LIBRARY) | needs-build
+build/gateway-sanitized: gateway/gateway.c $(GATEWAY_PARTS) $(GATEWAY_HEADERS) $(LIBRARY) | needs-build
 	@mkdir -p build
-	@$(CC) $(HOST_FLAGS) $(SANITIZED) $(filter %.c,$^) $(LIBRARY) -lcrypto -o $@
+	@$(CC) $(GATEWAY_FLAGS) $(SANITIZED) $(filter %.c,$^) $(LIBRARY) -lcrypto -o $@
 
 # The same without what clears keys, for the test that looks for them: it must find them there.
-build/gateway-careless: gateway/gateway.c $(filter-out gateway/wipe.c,$(HOST_PARTS)) tests/no_wipe.c $(HOST_HEADERS) $(LIBRARY) | needs-build
+build/gateway-careless: gateway/gateway.c $(filter-out gateway/wipe.c,$(GATEWAY_PARTS)) tests/no_wipe.c $(GATEWAY_HEADERS) $(LIBRARY) | needs-build
 	@mkdir -p build
-	@$(CC) $(HOST_FLAGS) -O2 $(filter %.c,$^) $(LIBRARY) -lcrypto -o $@
+	@$(CC) $(GATEWAY_FLAGS) -O2 $(filter %.c,$^) $(LIBRARY) -lcrypto -o $@
 
-build/records-test: tests/records.c gateway/records.c gateway/entropy.c $(HOST_HEADERS) | needs-build
+build/records-test: tests/records.c gateway/records.c gateway/entropy.c $(GATEWAY_HEADERS) | needs-build
 	@mkdir -p build
-	@$(CC) $(HOST_FLAGS) $(SANITIZED) $(filter %.c,$^) -lcrypto -o $@
+	@$(CC) $(GATEWAY_FLAGS) $(SANITIZED) $(filter %.c,$^) -lcrypto -o $@
 
-build/rest-test: tests/rest.c gateway/rest.c $(HOST_HEADERS) | needs-build
+build/rest-test: tests/rest.c gateway/rest.c $(GATEWAY_HEADERS) | needs-build
 	@mkdir -p build
-	@$(CC) $(HOST_FLAGS) $(SANITIZED) $(filter %.c,$^) -o $@
+	@$(CC) $(GATEWAY_FLAGS) $(SANITIZED) $(filter %.c,$^) -o $@
 
-build/records-time: tests/records_time.c bench/records_time.c bench/measure.c gateway/records.c gateway/entropy.c $(HOST_HEADERS) bench/records_time.h | needs-build
+build/records-time: tests/records_time.c bench/records_time.c bench/measure.c gateway/records.c gateway/entropy.c $(GATEWAY_HEADERS) bench/records_time.h | needs-build
 	@mkdir -p build
-	@$(CC) $(HOST_FLAGS) -O2 -Ihost $(filter %.c,$^) -lcrypto -o $@
+	@$(CC) $(GATEWAY_FLAGS) -O2 -Igateway $(filter %.c,$^) -lcrypto -o $@
 
 build/mbedtls-client: tests/mbedtls_client.c | needs-test
 	@mkdir -p build
-	@$(CC) $(HOST_FLAGS) -O2 $< -lmbedtls -lmbedx509 -lmbedcrypto -o $@
+	@$(CC) $(GATEWAY_FLAGS) -O2 $< -lmbedtls -lmbedx509 -lmbedcrypto -o $@
 
 # What may be missing is asked for before the minutes of proof.
 run: needs-build build/gateway
