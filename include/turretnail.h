@@ -386,7 +386,8 @@ int32_t tn_read_ticket_extension(const uint8_t *contents, size_t contents_len, u
 int32_t tn_table_test(const uint8_t *table, size_t table_len);
 
 /* The identity's key at the front of `out`, and its length, 1 to 64. Alert 115: not listed. TN_R1: `out` is shorter than the key.
- * The table is not tested: in one that is not well formed the first line that begins with the identity and a colon decides. */
+ * The table is not tested: in one that is not well formed the first line that begins with the identity and a colon decides, bytes behind the last 0A being
+ * a line too. Where that line's key is no valid one the answer is 115, whatever later lines hold. */
 int32_t tn_table_lookup(const uint8_t *table, size_t table_len, const uint8_t *identity, size_t identity_len, uint8_t *out, size_t out_len);
 
 /* 1 where the bytes are valid UTF-8 (RFC 3629), else 0. */

@@ -59,7 +59,8 @@ module _ (random hint standIn : List ℕ) (rule : ℕ) where
     where
       go : (a b : Bool) → acceptable settings ≡ b
           → Wrote 0 ≡ cond a (cond b (record { said = Wrote 0; next = started settings }) badSetting) badSetting .said
-          → (acceptable settings ≡ true) × (cond a (cond (acceptable settings) (record { said = Wrote 0; next = started settings }) badSetting) badSetting
+          → (acceptable settings ≡ true)
+          × (cond a (cond (acceptable settings) (record { said = Wrote 0; next = started settings }) badSetting) badSetting
           ≡ record { said = Wrote 0; next = started settings })
       go true true ok e = (ok, rw ok)
       go true false ok e = absurd (refused-wrote (sym e))
@@ -74,7 +75,7 @@ module _ (random hint standIn : List ℕ) (rule : ℕ) where
 -- ---- both halves
 
 pub sameness-from-c : SamenessFromC
-sameness-from-c random hint standIn bytes bytes' start start' identity table without removed good good' calls never given given' last last' made made' =
+sameness-from-c random hint standIn _ _ start start' identity table without removed good good' calls never _ _ _ _ made made' =
     let s : Settings = settingsOf random hint standIn 2 in
     let one-side = begun random hint standIn 2 start in
     let other-side = begun random hint standIn 2 start' in

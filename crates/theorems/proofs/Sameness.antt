@@ -315,7 +315,8 @@ module _ (s : Settings) (ok : acceptable s â‰¡ true) (hide : ruleOf (s .named) â
 
 pub sameness-of-lookups : SamenessOfLookups
 sameness-of-lookups s ok hide Set v v' good good' agree calls never =
-    rw ok (answers-agree s ok (ap ruleOf hide) Set v v' good good' agree calls [] (started s) (started s) (awaits-hello tt refl) (same-yet refl) never)
+    rw ok
+    (answers-agree s ok (ap ruleOf hide) Set v v' good good' agree calls [] (started s) (started s) (awaits-hello tt refl) (same-yet refl) never)
 
 -- ---- the second table is the first one without a line
 

@@ -32,29 +32,34 @@ kind-is c =
     let a = c .before .before .before .before .before .before .args in
     stated-window 2 (a .at) (a .block .now) (omega arith) ∙ rw (← add-one (a .at)) (sym (c .number16 .ensures))
 
+-- behind the first test, and the entry, seen from where the second gave its number
+abbrev tested : tie.After-number162 → tie.Else1
+tested c = c .before .before .before .before .before .before .before
+
+abbrev entry : tie.After-number162 → tie.Start
+entry c = tested c .before .before
+
 -- what the second gave is its length
 size-is : (c : tie.After-number162) →
-    let a = c .before .before .before .before .before .before .before .before .before .args in
+    let a = entry c .args in
     stated 2 (drop (a .at + 2) (a .block .now)) ≡ c .number162 .result
 size-is c =
-    let a = c .before .before .before .before .before .before .before .before .before .args in
+    let a = entry c .args in
     stated-window 2 (a .at + 2) (a .block .now) (omega arith) ∙ rw (← add-one (a .at + 2), add-assoc) (sym (c .number162 .ensures))
 
 returns-3 : tie.Need-returns-3
 returns-3 c =
-    let tested = c .before .before .before .before .before .before .before .before in
-    let a = tested .before .before .args in
+    let a = entry (c .before) .args in
     let e = size-is (c .before) in
     let size = length (a .block .now) in
-    rw (lt-leb size (a .at) (tested .if1 .left), lt-leb (endAt 2 (a .block .now) (a .at + 2)) size (omega arith))
+    rw (lt-leb size (a .at) (tested (c .before) .if1 .left), lt-leb (endAt 2 (a .block .now) (a .at + 2)) size (omega arith))
 
 returns-4 : tie.Need-returns-4
 returns-4 c =
-    let tested = c .before .before .before .before .before .before .before .before in
-    let a = tested .before .before .args in
+    let a = entry (c .before) .args in
     let e = size-is (c .before) in
     rw (
-      lt-leb (length (a .block .now)) (a .at) (tested .if1 .left),
+      lt-leb (length (a .block .now)) (a .at) (tested (c .before) .if1 .left),
       le-leb (endAt 2 (a .block .now) (a .at + 2)) (length (a .block .now)) (omega arith),
       kind-is (c .before .before .before .before),
       e,

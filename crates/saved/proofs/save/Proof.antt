@@ -43,6 +43,22 @@ fits c =
 abbrev hash : tie.After-append2 → tie.After-save
 hash c = c .before .before .before .before .before .before
 
+-- and from where each part behind them is
+abbrev hash3 : tie.After-append3 → tie.After-save
+hash3 c = hash (c .before .before)
+
+abbrev hash4 : tie.After-append4 → tie.After-save
+hash4 c = hash3 (c .before .before)
+
+abbrev hash5 : tie.After-append5 → tie.After-save
+hash5 c = hash4 (c .before .before)
+
+abbrev hash6 : tie.After-append6 → tie.After-save
+hash6 c = hash5 (c .before .before)
+
+abbrev hash7 : tie.After-append7 → tie.After-save
+hash7 c = hash6 (c .before .before)
+
 returns : tie.Need-returns
 unfolding saved
 returns c =
@@ -90,14 +106,14 @@ save-spec =
     (λ c κs. search needs)
     (λ c. sym (fits (hash (c .before)) .hint))
     (λ c κs. rw (fits (hash (c .before)) .hint) (omega arith))
-    (λ c. sym (fits (hash (c .before .before .before)) .standIn))
-    (λ c κs. rw (fits (hash (c .before .before .before)) .standIn) (omega arith))
-    (λ c. sym (fits (hash (c .before .before .before .before .before)) .own))
-    (λ c κs. rw (fits (hash (c .before .before .before .before .before)) .own) (omega arith))
-    (λ c. sym (fits (hash (c .before .before .before .before .before .before .before)) .client))
-    (λ c κs. rw (fits (hash (c .before .before .before .before .before .before .before)) .client) (omega arith))
-    (λ c. sym (fits (hash (c .before .before .before .before .before .before .before .before .before)) .master))
-    (λ c κs. rw (fits (hash (c .before .before .before .before .before .before .before .before .before)) .master) (omega arith))
-    (λ c. search (needs, hash (c .before .before .before .before .before .before .before .before .before .before .before) .save .ok))
-    (λ c κs. search (needs, hash (c .before .before .before .before .before .before .before .before .before .before .before) .save .ok))
+    (λ c. sym (fits (hash3 (c .before)) .standIn))
+    (λ c κs. rw (fits (hash3 (c .before)) .standIn) (omega arith))
+    (λ c. sym (fits (hash4 (c .before)) .own))
+    (λ c κs. rw (fits (hash4 (c .before)) .own) (omega arith))
+    (λ c. sym (fits (hash5 (c .before)) .client))
+    (λ c κs. rw (fits (hash5 (c .before)) .client) (omega arith))
+    (λ c. sym (fits (hash6 (c .before)) .master))
+    (λ c κs. rw (fits (hash6 (c .before)) .master) (omega arith))
+    (λ c. search (needs, hash7 (c .before) .save .ok))
+    (λ c κs. search (needs, hash7 (c .before) .save .ok))
     returns)

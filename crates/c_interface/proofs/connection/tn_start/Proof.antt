@@ -1,4 +1,5 @@
--- `c_interface::connection::tn_start` meets its contract: a number that names no rule is R3, and of any other it is what `server::start` answered, kept.
+-- `c_interface::connection::tn_start` meets its contract: a number that names no rule is R3, and of any other it is what `server::start` answered,
+-- kept.
 -- Assumes nothing.
 use borrow.Author.Needs.{needs}
 use native.Mathlib.Omega.{arith}

@@ -1,5 +1,5 @@
--- `c_interface::secrets::tn_finished` meets its contract: a number that names no side is refused, and of any other it is the code of what `keys::finished`
--- said.
+-- `c_interface::secrets::tn_finished` meets its contract: a number that names no side is refused, and of any other it is the code of what
+-- `keys::finished` said.
 -- Assumes nothing.
 use borrow.Author.Needs.{needs}
 use native.Mathlib.Omega.{arith}

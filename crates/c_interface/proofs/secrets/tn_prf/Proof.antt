@@ -1,4 +1,5 @@
--- `c_interface::secrets::tn_prf` meets its contract: a number that names no label is refused, and of any other it is the code of what `keys::prf` said.
+-- `c_interface::secrets::tn_prf` meets its contract: a number that names no label is refused, and of any other it is the code of what `keys::prf`
+-- said.
 -- Assumes nothing.
 use borrow.Author.Needs.{needs}
 use native.Mathlib.Omega.{arith}

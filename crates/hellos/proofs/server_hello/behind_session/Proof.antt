@@ -24,11 +24,15 @@ version-is c =
     let a = c .before .before .before .before .before .before .args in
     stated-window 2 4 (a .message .now) (omega arith) ∙ sym (c .number16 .ensures)
 
+-- behind the second test, seen from where the suite was read
+abbrev tested : tie.After-number162 → tie.Else2
+tested c = c .before .before .before .before .before .before
+
 suite-is : (c : tie.After-number162) →
-    let a = c .before .before .before .before .before .before .before .before .before .args in
+    let a = tested c .before .before .before .args in
     number (take 2 (drop (39 + a .session-len) (a .message .now))) ≡ c .number162 .result
 suite-is c =
-    let a = c .before .before .before .before .before .before .before .before .before .args in
+    let a = tested c .before .before .before .args in
     let next : suc (39 + a .session-len) ≡ 40 + a .session-len = omega arith in
     stated-window 2 (39 + a .session-len) (a .message .now) (omega arith) ∙ rw next (sym (c .number162 .ensures))
 
@@ -38,21 +42,21 @@ room c = omega (arith, c .before .if1 .left, c .if2 .left)
 
 returns-3 : tie.Need-returns-3
 returns-3 c =
-    let tested = c .before .before .before .before .before .before .before .before .before .before .before in
-    let a = tested .before .before .before .args in
+    let read = c .before .before .before .before .before in
+    let a = tested read .before .before .before .args in
     rw (
-      le-leb (42 + a .session-len) (length (a .message .now)) (room tested),
+      le-leb (42 + a .session-len) (length (a .message .now)) (room (tested read)),
       ← c .before .before .before .tail .ensures,
       c .before .block .given .1,
-      version-is (c .before .before .before .before .before .before .before .before),
-      suite-is (c .before .before .before .before .before),
+      version-is (read .before .before .before),
+      suite-is read,
     )
 
 returns-4 : tie.Need-returns-4
 returns-4 c =
-    let tested = c .before .before .before .before .before .before .before .before .before .before in
-    let a = tested .before .before .before .args in
-    rw (le-leb (42 + a .session-len) (length (a .message .now)) (room tested), ← c .before .before .tail .ensures, c .enum-told .given .1)
+    let behind = tested (c .before .before .before .before) in
+    let a = behind .before .before .before .args in
+    rw (le-leb (42 + a .session-len) (length (a .message .now)) (room behind), ← c .before .before .tail .ensures, c .enum-told .given .1)
 
 pub behind-session-spec : {M : Type 1} → statement M
 behind-session-spec =

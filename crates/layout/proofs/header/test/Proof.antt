@@ -23,8 +23,11 @@ returns-2 : tie.Need-returns-2
 returns-2 c = simp (le-ltb _ _ (c .before .before .if1 .left), ne-eqb _ _ (c .if2 .taken))
 
 -- the entry, from where number24 gave its number, and the two tests before
+abbrev tested : tie.After-number24 → tie.Else1
+tested c = c .before .before .before .before .before .before
+
 abbrev start : tie.After-number24 → tie.Start
-start c = c .before .before .before .before .before .before .before .before
+start c = tested c .before .before
 
 -- what number24 gave is the length that the header states
 said : (c : tie.After-number24) → stated 3 (drop 1 (start c .args .message .now)) ≡ c .number24 .result
@@ -32,7 +35,7 @@ said c = stated-window 3 1 (start c .args .message .now) (omega arith) ∙ sym (
 
 returns-3 : tie.Need-returns-3
 returns-3 c =
-    let first = c .before .before .before .before .before .before .before .if1 .left in
+    let first = tested (c .before) .if1 .left in
     let second = c .before .before .before .before .before .if2 .left in
     simp (le-ltb _ _ first, eq-eqb _ _ second, said (c .before), ne-eqb _ _ (c .if3 .taken))
 
@@ -41,7 +44,7 @@ limit-left : (c : tie.Else3) →
     let a = start (c .before) .args in
     header (a .kind) (a .message .now) ≡ cond (leb (length (a .message .now)) messageLimit) Accepted (Refused DecodeError)
 limit-left c =
-    let first = c .before .before .before .before .before .before .before .if1 .left in
+    let first = tested (c .before) .if1 .left in
     let second = c .before .before .before .before .before .if2 .left in
     simp (le-ltb _ _ first, eq-eqb _ _ second, said (c .before), eq-eqb _ _ (c .if3 .left))
 

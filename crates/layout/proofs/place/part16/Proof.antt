@@ -22,23 +22,27 @@ returns-2 c =
     let a = c .before .before .before .args in
     rw (lt-leb (endAt 2 (a .message .now) (a .at)) (length (a .message .now)) (omega arith))
 
+-- the entry, seen from where number16 gave its number
+abbrev entry : tie.After-number16 → tie.Start
+entry c = c .before .before .before .before .before .before
+
 -- what number16 gave is the vector's length
 said : (c : tie.After-number16) →
-    let a = c .before .before .before .before .before .before .args in
+    let a = entry c .args in
     stated 2 (drop (a .at) (a .message .now)) ≡ c .number16 .result
 said c =
-    let a = c .before .before .before .before .before .before .args in
+    let a = entry c .args in
     stated-window 2 (a .at) (a .message .now) (omega arith) ∙ rw (← add-one (a .at)) (sym (c .number16 .ensures))
 
 returns-3 : tie.Need-returns-3
 returns-3 c =
-    let a = c .before .before .before .before .before .before .before .args in
+    let a = entry (c .before) .args in
     let e = said (c .before) in
     rw (lt-leb (endAt 2 (a .message .now) (a .at)) (length (a .message .now)) (omega arith))
 
 returns-4 : tie.Need-returns-4
 returns-4 c =
-    let a = c .before .before .before .before .before .before .before .args in
+    let a = entry (c .before) .args in
     let e = said (c .before) in
     rw (le-leb (endAt 2 (a .message .now) (a .at)) (length (a .message .now)) (omega arith), e)
 

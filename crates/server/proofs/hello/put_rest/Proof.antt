@@ -26,14 +26,15 @@ returns c =
     rw (hint-absent (start .args .hint .now) (c .before .before .before .before .if1 .taken))
     (at-front serverHelloDone [] refl (omega arith) (c .before .before .write-done .ensures))
 
--- there is a hint
-present : (c : tie.Else1)
-    → hintMessage (c .before .before .before .args .hint .now) ≡ bytes serverKeyExchange (c .before .before .before .args .hint .now) ∷ []
-present c = hint-present (c .before .before .before .args .hint .now) (c .if1 .left)
+-- the entry, seen from where there is a hint
+abbrev entry : tie.Else1 → tie.Start
+entry c = c .before .before .before
 
-size : (c : tie.Else1)
-    → length (joined (hintMessage (c .before .before .before .args .hint .now))) ≡ 6 + length (c .before .before .before .args .hint .now)
-size c = hint-size (c .before .before .before .args .hint .now) (c .if1 .left)
+present : (c : tie.Else1) → hintMessage (entry c .args .hint .now) ≡ bytes serverKeyExchange (entry c .args .hint .now) ∷ []
+present c = hint-present (entry c .args .hint .now) (c .if1 .left)
+
+size : (c : tie.Else1) → length (joined (hintMessage (entry c .args .hint .now))) ≡ 6 + length (entry c .args .hint .now)
+size c = hint-size (entry c .args .hint .now) (c .if1 .left)
 
 sub-write-done : tie.Need-sub-write-done
 sub-write-done c = search (needs, size (c .before .before .before .before))
@@ -44,7 +45,7 @@ part-write-done-start c = search (needs, size (c .before .before .before .before
 returns-2 : tie.Need-returns-2
 returns-2 c =
     let at-test = c .before .before .before .before .before .before .before .before in
-    let start = at-test .before .before .before in
+    let start = entry at-test in
     let hint = start .args .hint .now in
     let out = start .args .out .now in
     let sized = size at-test in

@@ -8,6 +8,10 @@ use borrow.Author.Needs.{needs}
 use Rattle.server.proofs.key_exchange.after_keys.Statement.{statement}
 use Rattle.server.proofs.key_exchange.after_keys.Tie as tie
 
+-- the entry, seen from where the client's random is lent
+abbrev entry : tie.After-random2 → tie.Start
+entry c = c .before .before .before .before .before .before .before
+
 -- the randoms have 32 bytes each
 own : (c : tie.Start) → length (c .args .c .setup .random) ≡ 32
 own c = search (needs, c .good .0 .1 .1 .1 .0 .1 .1 .1 .1 .1 .1 .1)
@@ -16,15 +20,15 @@ client : (c : tie.Start) → length (c .args .c .client .random) ≡ 32
 client c = search (needs, c .good .0 .1 .1 .1 .1 .0 .1 .1 .0)
 
 slice-aggregate-master-under : tie.Need-slice-aggregate-master-under
-slice-aggregate-master-under c = search (needs, client (c .before .before .before .before .before .before .before))
+slice-aggregate-master-under c = search (needs, client (entry c))
 
 slice-aggregate-master-under-2 : tie.Need-slice-aggregate-master-under-2
-slice-aggregate-master-under-2 c = search (needs, own (c .before .before .before .before .before .before .before .before))
+slice-aggregate-master-under-2 c = search (needs, own (entry (c .before)))
 
 returns : tie.Need-returns
 returns c =
     let at-master = c .before .before in
-    let start = at-master .before .before .before .before .before .before .before .before .before .before in
+    let start = entry (at-master .before .before .before) in
     let key = start .args .key .now in
     let conn = start .args .c in
     let given = master-under-given key (conn .client .random) (conn .setup .random) (start .pre .0) (start .pre .1) (client start) (own start) in

@@ -16,11 +16,14 @@ use Rattle.server.proofs.key_exchange.look_up.Tie as tie
 
 -- where the lookup has found a key
 module _ (c : tie.After-known-told) where
+  abbrev entry : tie.Start
+  entry = c .before .before .before .before .before .before .before .before .before
+
   abbrev table : List ℕ
-  table = c .before .before .before .before .before .before .before .before .before .args .table .now
+  table = entry .args .table .now
 
   abbrev identity : List ℕ
-  identity = c .before .before .before .before .before .before .before .before .before .args .identity .now
+  identity = entry .args .identity .now
 
   abbrev n : ℕ
   n = c .before .n .given .0 .0

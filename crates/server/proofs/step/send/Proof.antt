@@ -25,17 +25,21 @@ slice-aggregate-put c =
     let array = c .before .before .before .before .before .args .outgoing .bytes in
     sym (length-take-le (c .before .size .result) array (within (c .before)))
 
+-- the entry, seen from where the flight was put
+abbrev entry : tie.After-put → tie.Start
+entry c = c .before .before .before .before .before .before .before
+
 -- what was put is the flight
 put : (c : tie.After-put) →
-    let start = c .before .before .before .before .before .before .before in
+    let start = entry c in
     Answers (gives (flightBytes (flightOf (start .args .outgoing)))) (start .args .out .now) (c .put .result) (c .put .last .1 .0)
 put c =
-    let start = c .before .before .before .before .before .before .before in
+    let start = entry c in
     rw (flight-bytes (start .args .outgoing), ← c .before .before .before .size .ensures) (c .put .ensures)
 
-few : (c : tie.After-put) → length (flightBytes (flightOf (c .before .before .before .before .before .before .before .args .outgoing))) ≤ longest
+few : (c : tie.After-put) → length (flightBytes (flightOf (entry c .args .outgoing))) ≤ longest
 few c =
-    let start = c .before .before .before .before .before .before .before in
+    let start = entry c in
     let at-size = c .before .before .before in
     rw (flight-bytes (start .args .outgoing), ← at-size .size .ensures)
     (omega (arith, length-take-le (at-size .size .result) (start .args .outgoing .bytes) (within at-size), at-size .size .ensures, start .pre))
@@ -43,13 +47,13 @@ few c =
 returns : tie.Need-returns
 returns c =
     let at-put = c .before .before .before .before in
-    let args = at-put .before .before .before .before .before .before .before .args in
+    let args = entry at-put .args in
     sent (args .c) (args .next) (flightOf (args .outgoing)) (few at-put) (put at-put) (c .enum-told .given .1)
 
 returns-2 : tie.Need-returns-2
 returns-2 c =
     let at-put = c .before .before .before .before in
-    let args = at-put .before .before .before .before .before .before .before .args in
+    let args = entry at-put .args in
     not-sent (args .c) (args .next) (flightOf (args .outgoing)) (few at-put) (put at-put) (c .enum-told2 .given .1)
 
 pub send-spec : {M : Type 1} → statement M
