@@ -1,13 +1,16 @@
-/* Reading hellos of 4, 8 and 16 KiB that are made of four-byte extensions with distinct types: the cost may grow no faster than the size. */
+/*
+ * Reading hellos of 4, 8 and 16 KiB that are made of four-byte extensions with distinct types: the cost may grow no faster than the size. The types follow one
+ * another, but in the last hello they are spread over all numbers, which takes the most passes.
+ */
 #include <stdio.h>
 
 #include "cases.h"
 #include "login.h"
 #include "measure.h"
 
-enum { SAMPLES = 5, SIZES = 4, FRONT = 47 /* bytes of the hello before its extensions */ };
+enum { SAMPLES = 5, SIZES = 5, SPREAD = SIZES - 1, FRONT = 47 /* bytes of the hello before its extensions */ };
 
-static const size_t sizes[SIZES] = {64, 4096, 8192, 16384};
+static const size_t sizes[SIZES] = {64, 4096, 8192, 16384, 16384};
 static struct login logins[SIZES];
 
 static double sample_reading(void *state)
@@ -34,14 +37,14 @@ static double sample_call(void *state)
 static void compare(const char *title, double (*sample)(void *))
 {
     static struct subject subjects[SIZES];
-    static const char *const names[SIZES] = {"64 bytes", "4 KiB", "8 KiB", "16 KiB"};
+    static const char *const names[SIZES] = {"64 bytes", "4 KiB", "8 KiB", "16 KiB", "16 KiB, types spread"};
     for (size_t i = 0; i < SIZES; i++)
         subjects[i] = (struct subject){.name = names[i], .sample = sample, .state = &logins[i]};
     heading(title);
     measure(subjects, SIZES, SAMPLES);
     for (size_t i = 0; i < SIZES; i++) {
         print_time(&subjects[i], 1000, "us");
-        if (i >= 2)
+        if (i >= 2 && i < SPREAD)
             print_growth(&subjects[i], &subjects[i - 1], (double)logins[i].hello_len, (double)logins[i - 1].hello_len);
         printf("\n");
     }
@@ -50,7 +53,7 @@ static void compare(const char *title, double (*sample)(void *))
 void bench_hellos(void)
 {
     for (size_t i = 0; i < SIZES; i++)
-        login_plain_hello(&logins[i], (sizes[i] - FRONT) / 4 * 4);
+        login_plain_hello(&logins[i], (sizes[i] - FRONT) / 4 * 4, i == SPREAD ? 16 : 1);
     compare("Reading a ClientHello of four-byte extensions, microseconds", sample_reading);
     compare("The server's start and its call for such a ClientHello, microseconds", sample_call);
 }

@@ -10,13 +10,13 @@ enum { FIRST_TYPE = 100, MESSAGES = 4, CLIENT = 3 /* messages before the client'
 
 static const uint8_t stand_in[TN_STAND_IN_SIZE] = {1};
 
-void login_plain_hello(struct login *l, size_t block_len)
+void login_plain_hello(struct login *l, size_t block_len, size_t step)
 {
     static uint8_t block[TN_MESSAGE_LIMIT];
     static const uint8_t random[TN_RANDOM_SIZE] = {2}, suites[] = {0x00, 0xAE}, methods[] = {0};
     for (size_t i = 0; i < block_len / 4; i++) {
-        block[4 * i] = (uint8_t)((FIRST_TYPE + i) >> 8);
-        block[4 * i + 1] = (uint8_t)(FIRST_TYPE + i);
+        block[4 * i] = (uint8_t)((FIRST_TYPE + i * step) >> 8);
+        block[4 * i + 1] = (uint8_t)(FIRST_TYPE + i * step);
     }
     int32_t n = tn_write_client_hello(0x0303, random, sizeof random, random, 0, suites, sizeof suites, methods, sizeof methods, block_len > 0, block, block_len,
                                       l->hello, sizeof l->hello);

@@ -24,8 +24,8 @@ struct login {
     uint8_t answer[TN_FLIGHT_SIZE]; /* to the Finished */
 };
 
-/* Sets a hello with our first suite and an extension block of so many bytes, none for 0, of four-byte extensions with distinct types. */
-void login_plain_hello(struct login *l, size_t block_len);
+/* Sets a hello with our first suite and an extension block of so many bytes, none for 0, of four-byte extensions whose types are `step` apart. */
+void login_plain_hello(struct login *l, size_t block_len, size_t step);
 
 /* Sets the ClientKeyExchange of an identity. */
 void login_name(struct login *l, const char *identity);

@@ -11,7 +11,7 @@ void start_ours(void)
 {
     start_openssl();
     with_extensions.hello_len = openssl_hello(with_extensions.hello);
-    login_plain_hello(&bare, 0);
+    login_plain_hello(&bare, 0, 0);
     login_name(&with_extensions, PEER_IDENTITY);
     login_name(&bare, PEER_IDENTITY);
 }

@@ -56,7 +56,7 @@ void bench_stack(void)
     pthread_attr_t attributes;
     pthread_t thread;
     parts_prepare();
-    login_plain_hello(&large, TN_MESSAGE_LIMIT - 48);
+    login_plain_hello(&large, TN_MESSAGE_LIMIT - 48, 1);
     stack = mmap(NULL, STACK, PROT_READ | PROT_WRITE, MAP_PRIVATE | MAP_ANONYMOUS, -1, 0);
     must(stack != MAP_FAILED && pthread_attr_init(&attributes) == 0 && pthread_attr_setstack(&attributes, stack, STACK) == 0
              && pthread_create(&thread, &attributes, run_calls, sizes) == 0 && pthread_join(thread, NULL) == 0,

@@ -19,7 +19,7 @@ use Rattle.extensions.specs.declared.Step.{Step}
 use Rattle.extensions.specs.declared.Step.the-variants.{Extension, End, Refused}
 use Rattle.layout.specs.Place.{endAt}
 use Rattle.extensions.specs.Extensions.{Ext, extensionBytes, blockBytes, first, firstEnd, adding, extensionsUpTo, extensionsIn}
-use Rattle.extensions.specs.Extensions.{ticketShape, ticketsShaped, stepAt}
+use Rattle.extensions.specs.Extensions.{ticketShape, stepAt}
 use Rattle.layout.proofs.Places.{vector-at, vector-last}
 
 -- ---- how many are asked for does not matter, once they are no fewer than the bytes
@@ -114,7 +114,7 @@ by-step b at Holds end whole cut = elim (decLe (length b) at) [
 ]
 
 -- two answers that are never the same
-clash : _≡_ {A = ℕ} 0 1 → ⊥
+pub clash : _≡_ {A = ℕ} 0 1 → ⊥
 clash z = omega arith
 
 -- the steps, from what they answer
@@ -142,10 +142,6 @@ pub step-refused : (b : List ℕ) (at : ℕ) → stepAt b at ≡ Refused → ext
 step-refused b at =
     by-step b at (λ p. p ≡ Refused → extensionsIn (drop at b) ≡ none) (λ over e. absurd (clash (cc e))) (λ more fits e. absurd (clash (cc e)))
     (λ more long e. step-cut b at more long)
-
-pub shaped-adding : (e : Ext) (o : Option (List Ext)) → ticketsShaped (adding e o) ≡ (ticketShape e && ticketsShaped o)
-shaped-adding e none = sym (and-false (ticketShape e))
-shaped-adding e (some es) = refl
 
 -- ---- reading what was written, and writing what was read
 
@@ -223,12 +219,12 @@ block-in b es h e = block-up-to (length b) b es h e
 
 -- ---- the SessionTicket extension: data of the right shape is exactly a ticket with its length in front
 
-pub ticket-written : (ticket : List ℕ) → writable 2 ticket ≡ true → ticketShape (record { kind = 35; contents = vector 2 ticket }) ≡ true
+pub ticket-written : (ticket : List ℕ) → writable 2 ticket ≡ true → ticketShape true (record { kind = 35; contents = vector 2 ticket }) ≡ true
 ticket-written ticket h =
     let d : List ℕ = vector 2 ticket in
     let says : stated 2 d ≡ length ticket = number-be-lt 2 (length ticket) (ltb-true _ _ h) in
     eq-eqb (endAt 2 d 0) (length d) (omega arith)
 
-pub ticket-read : (d : List ℕ) → Bytes d → ticketShape (record { kind = 35; contents = d }) ≡ true
+pub ticket-read : (d : List ℕ) → Bytes d → ticketShape true (record { kind = 35; contents = d }) ≡ true
     → (d ≡ vector 2 (take (stated 2 d) (drop 2 d))) × (writable 2 (take (stated 2 d) (drop 2 d)) ≡ true)
 ticket-read d b h = vector-last 2 d 0 b (eqb-true (endAt 2 d 0) (length d) h)

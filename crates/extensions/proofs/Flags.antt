@@ -1,24 +1,26 @@
--- The search for a type twice: one pass with a bit for each type of a part finds a repeat in that part, a part that has less than two types has none,
--- and a list of types has no repeat exactly if none of its eight parts has one.
+-- The search for a type twice: one pass with a bit for each type of a part finds a repeat in that part, and the rules hold of a block exactly if they
+-- hold of each of its eight parts; a part that a pass goes by has no extensions.
 -- Assumes nothing.
 use mathlib.Core.Path.{_≡_, refl, sym, ap, _∙_}
 use Prim.Native.Nat.{ℕ, zero, suc, _/_, _%_, _^_, _≤_, _<_, _+_}
 use native.Mathlib.Nat.{zero-div, div-div-eq-div-mul}
 use native.Mathlib.Omega.{arith}
-use native.Mathlib.Decide.{ℕ-discrete}
+use native.Mathlib.Decide.{ℕ-discrete, decLt}
 use mathlib.Core.Bool.{Bool, true, false, not, _&&_, cond, and-false, and-eq-true-iff}
 use mathlib.Core.List.{List, [], _∷_}
-use mathlib.Core.Option.{Option, none, some, Option·none-ne-some}
+use mathlib.Core.Option.{Option, none, some}
 use lib.ListN.{length, getD, set, replicate, length-set, length-replicate}
 use lib.Seq.{getD-set-same, getD-set-other}
 use lib.Dec.{eqb, ltb}
-use borrow.Author.Tests.{eq-eqb, ne-eqb, ltb-true}
+use borrow.Author.Tests.{eq-eqb, ne-eqb, lt-ltb, le-ltb, ltb-true}
 use Rattle.endian.specs.Number.{Bytes}
 use Rattle.endian.specs.Vector.{writable}
-use Rattle.extensions.specs.Extensions.{Ext, adding, extensionsIn, member, distinct, kinds, eachOnce}
-use Rattle.extensions.specs.Parts.{inPart, partOnce, countIn}
+use Rattle.extensions.specs.declared.Pass.{Pass}
+use Rattle.extensions.specs.declared.Pass.the-variants.{Holds, Fails}
+use Rattle.extensions.specs.Extensions.{Ext, adding, extensionsIn, member, distinct, kinds, ticketShape, allShaped, rules, ruled}
+use Rattle.extensions.specs.Parts.{inPart, nearer, nearestOf, passOver}
 use Rattle.extensions.proofs.Bits.{set-same, set-other}
-use Rattle.extensions.proofs.Blocks.{writableExt, allWritable, block-in}
+use Rattle.extensions.proofs.Blocks.{writableExt, allWritable, block-in, clash}
 
 -- the bit of a type, and the words with that bit set
 abbrev bitOf : List ℕ → ℕ → ℕ
@@ -26,11 +28,6 @@ bitOf words t = getD words (t / 64 % 128) 0 / 2 ^ (t % 64) % 2
 
 abbrev pub marked : List ℕ → ℕ → List ℕ
 marked words t = set words (t / 64 % 128) (getD words (t / 64 % 128) 0 + 2 ^ (t % 64))
-
--- what a pass does from here on: each type of the part is one whose bit is clear, and sets it
-abbrev pass : List ℕ → ℕ → List ℕ → Bool
-pass words p [] = true
-pass words p (t ∷ ts) = cond (eqb (t / 8192) p) (cond (eqb (bitOf words t) 0) (pass (marked words t) p ts) false) (pass words p ts)
 
 -- the bits of these types are clear
 abbrev clear : List ℕ → List ℕ → Bool
@@ -71,45 +68,71 @@ swap true b c = refl
 swap false true c = refl
 swap false false c = refl
 
-regroup : (n b c : Bool) → ((n && b) && c) ≡ (b && (n && c))
-regroup true b c = refl
-regroup false b c = sym (and-false b)
+regroup : (n b c d : Bool) → ((n && b) && (c && d)) ≡ (b && ((n && c) && d))
+regroup true b c d = refl
+regroup false b c d = sym (and-false b)
 
 -- ---- one pass
 
--- setting t's bit takes t out of what is clear, and nothing else of its part
-clear-set : (words : List ℕ) (p t : ℕ) (ts : List ℕ) → length words ≡ 128 → t / 8192 ≡ p → bitOf words t ≡ 0
-    → clear (marked words t) (inPart p ts) ≡ (not (member t (inPart p ts)) && clear words (inPart p ts))
-clear-set words p t [] l h free = refl
-clear-set words p t (u ∷ ts) l h free = clear-next (ℕ-discrete (u / 8192) p) (ℕ-discrete t u) (clear-set words p t ts l h free)
-  where
-    clear-next : Dec (u / 8192 ≡ p) → Dec (t ≡ u)
-        → clear (marked words t) (inPart p ts) ≡ (not (member t (inPart p ts)) && clear words (inPart p ts))
-        → clear (marked words t) (inPart p (u ∷ ts)) ≡ (not (member t (inPart p (u ∷ ts))) && clear words (inPart p (u ∷ ts)))
-    clear-next (no hu) d ih = rw (ne-eqb (u / 8192) p hu) ih
-    clear-next (yes hu) (yes e) ih = rw (eq-eqb (u / 8192) p hu, ← e, bit-set words t l free, eq-eqb t t refl)
-    clear-next (yes hu) (no e) ih =
-        rw (eq-eqb (u / 8192) p hu, bit-kept words p t u l h hu free e, ne-eqb t u e, ih)
-        (swap (eqb (bitOf words u) 0) (not (member t (inPart p ts))) (clear words (inPart p ts)))
+-- what a pass does from here on: an extension of the part is one whose bit is clear and whose data has its shape, and sets the bit; one of
+-- another part may bring the nearest part closer
+abbrev pub passFrom : List ℕ → ℕ → Bool → ℕ → List Ext → Pass
+passFrom words n client p [] = Holds n
+passFrom words n client p (e ∷ es) =
+    cond (eqb (e .kind / 8192) p)
+    (cond (eqb (bitOf words (e .kind)) 0) (cond (ticketShape client e) (passFrom (marked words (e .kind)) n client p es) Fails) Fails)
+    (passFrom words (nearer p (e .kind / 8192) n) client p es)
 
--- a pass finds just the repeats, and the types whose bits were set before
-pass-is : (words : List ℕ) (p : ℕ) (ts : List ℕ) → length words ≡ 128 → pass words p ts ≡ (clear words (inPart p ts) && distinct (inPart p ts))
-pass-is words p [] l = refl
-pass-is words p (t ∷ ts) l =
-    pass-next (ℕ-discrete (t / 8192) p) (ℕ-discrete (bitOf words t) 0) (pass-is words p ts l)
-    (pass-is (marked words t) p ts (length-set words (t / 64 % 128) _ ∙ l))
+-- setting t's bit takes t out of what is clear, and nothing else of its part
+clear-set : (words : List ℕ) (p t : ℕ) (es : List Ext) → length words ≡ 128 → t / 8192 ≡ p → bitOf words t ≡ 0
+    → clear (marked words t) (kinds (inPart p es)) ≡ (not (member t (kinds (inPart p es))) && clear words (kinds (inPart p es)))
+clear-set words p t [] l h free = refl
+clear-set words p t (e ∷ es) l h free =
+    clear-next (ℕ-discrete (e .kind / 8192) p) (ℕ-discrete t (e .kind)) (clear-set words p t es l h free)
   where
-    pass-next : Dec (t / 8192 ≡ p) → Dec (bitOf words t ≡ 0) → pass words p ts ≡ (clear words (inPart p ts) && distinct (inPart p ts))
-        → pass (marked words t) p ts ≡ (clear (marked words t) (inPart p ts) && distinct (inPart p ts))
-        → pass words p (t ∷ ts) ≡ (clear words (inPart p (t ∷ ts)) && distinct (inPart p (t ∷ ts)))
-    pass-next (no h) d same after = rw (ne-eqb (t / 8192) p h) same
-    pass-next (yes h) (no taken) same after = rw (eq-eqb (t / 8192) p h, ne-eqb (bitOf words t) 0 taken)
-    pass-next (yes h) (yes free) same after =
-        rw (eq-eqb (t / 8192) p h, eq-eqb (bitOf words t) 0 free, after, clear-set words p t ts l h free)
-        (regroup (not (member t (inPart p ts))) (clear words (inPart p ts)) (distinct (inPart p ts)))
+    clear-next : Dec (e .kind / 8192 ≡ p) → Dec (t ≡ e .kind)
+        → clear (marked words t) (kinds (inPart p es)) ≡ (not (member t (kinds (inPart p es))) && clear words (kinds (inPart p es)))
+        → clear (marked words t) (kinds (inPart p (e ∷ es)))
+        ≡ (not (member t (kinds (inPart p (e ∷ es)))) && clear words (kinds (inPart p (e ∷ es))))
+    clear-next (no hu) d ih = rw (ne-eqb (e .kind / 8192) p hu) ih
+    clear-next (yes hu) (yes f) ih = rw (eq-eqb (e .kind / 8192) p hu, ← f, bit-set words t l free, eq-eqb t t refl)
+    clear-next (yes hu) (no f) ih =
+        rw (eq-eqb (e .kind / 8192) p hu, bit-kept words p t (e .kind) l h hu free f, ne-eqb t (e .kind) f, ih)
+        (swap (eqb (bitOf words (e .kind)) 0) (not (member t (kinds (inPart p es)))) (clear words (kinds (inPart p es))))
+
+-- a part is not nearer to itself
+nearer-own : (p q n : ℕ) → q ≡ p → nearer p q n ≡ n
+nearer-own p q n e = rw (le-ltb p q (omega arith))
+
+-- a pass finds just what the rules forbid in its part, and the types whose bits were set before
+pass-is : (words : List ℕ) (n : ℕ) (client : Bool) (p : ℕ) (es : List Ext) → length words ≡ 128
+    → passFrom words n client p es ≡ cond (clear words (kinds (inPart p es)) && rules client (inPart p es)) (Holds (nearestOf p n es)) Fails
+pass-is words n client p [] l = refl
+pass-is words n client p (e ∷ es) l =
+    pass-next (ℕ-discrete (e .kind / 8192) p) (ℕ-discrete (bitOf words (e .kind)) 0) (ticketShape client e) refl
+    (pass-is words (nearer p (e .kind / 8192) n) client p es l)
+    (pass-is (marked words (e .kind)) n client p es (length-set words (e .kind / 64 % 128) _ ∙ l))
+  where
+    pass-next : Dec (e .kind / 8192 ≡ p) → Dec (bitOf words (e .kind) ≡ 0) → (shape : Bool) → ticketShape client e ≡ shape
+        → passFrom words (nearer p (e .kind / 8192) n) client p es
+        ≡ cond (clear words (kinds (inPart p es)) && rules client (inPart p es)) (Holds (nearestOf p (nearer p (e .kind / 8192) n) es)) Fails
+        → passFrom (marked words (e .kind)) n client p es
+        ≡ cond (clear (marked words (e .kind)) (kinds (inPart p es)) && rules client (inPart p es)) (Holds (nearestOf p n es)) Fails
+        → passFrom words n client p (e ∷ es)
+        ≡ cond (clear words (kinds (inPart p (e ∷ es))) && rules client (inPart p (e ∷ es))) (Holds (nearestOf p n (e ∷ es))) Fails
+    pass-next (no h) d s shape same after = rw (ne-eqb (e .kind / 8192) p h) same
+    pass-next (yes h) (no taken) s shape same after = rw (eq-eqb (e .kind / 8192) p h, ne-eqb (bitOf words (e .kind)) 0 taken)
+    pass-next (yes h) (yes free) false shape same after =
+        rw (eq-eqb (e .kind / 8192) p h, eq-eqb (bitOf words (e .kind)) 0 free, shape, and-false, and-false)
+    pass-next (yes h) (yes free) true shape same after =
+        let ks : List ℕ = kinds (inPart p es) in
+        rw (eq-eqb (e .kind / 8192) p h, eq-eqb (bitOf words (e .kind)) 0 free, shape, nearer-own p (e .kind / 8192) n h)
+        (after ∙ ap (λ (t : Bool). cond t (Holds (nearestOf p n es)) Fails)
+        (ap (λ (t : Bool). t && rules client (inPart p es)) (clear-set words p (e .kind) es l h free)
+        ∙ regroup (not (member (e .kind) ks)) (clear words ks) (distinct ks) (allShaped client (inPart p es))))
 
 -- an array that nothing was stored to
-pub untouched : (n i : ℕ) → getD {A = ℕ} (replicate n 0) i 0 ≡ 0
+untouched : (n i : ℕ) → getD {A = ℕ} (replicate n 0) i 0 ≡ 0
 untouched zero i = refl
 untouched (suc n) zero = refl
 untouched (suc n) (suc i) = untouched n i
@@ -119,130 +142,165 @@ all-clear [] = refl
 all-clear (t ∷ ts) = rw (untouched 128 (t / 64 % 128), zero-div (2 ^ (t % 64)), all-clear ts)
 
 -- the same over the extensions of a block
-abbrev pub passIn : List ℕ → ℕ → Option (List Ext) → Bool
-passIn words p none = false
-passIn words p (some es) = pass words p (kinds es)
+abbrev pub passIn : List ℕ → ℕ → Bool → ℕ → Option (List Ext) → Pass
+passIn words n client p none = Fails
+passIn words n client p (some es) = passFrom words n client p es
 
-pub pass-once : (p : ℕ) (o : Option (List Ext)) → passIn (replicate 128 0) p o ≡ partOnce p o
-pass-once p none = refl
-pass-once p (some es) = pass-is (replicate 128 0) p (kinds es) (length-replicate {A = ℕ} 128 0) ∙ rw (all-clear (inPart p (kinds es)))
+pub pass-over : (client : Bool) (p : ℕ) (o : Option (List Ext)) → passIn (replicate 128 0) 8 client p o ≡ passOver client p o
+pass-over client p none = refl
+pass-over client p (some es) =
+    pass-is (replicate 128 0) 8 client p es (length-replicate {A = ℕ} 128 0) ∙ rw (all-clear (kinds (inPart p es)))
 
-module _ (words : List ℕ) (p : ℕ) (e : Ext) where
-  pub pass-repeat : (o : Option (List Ext)) → e .kind / 8192 ≡ p → ¬ (bitOf words (e .kind) ≡ 0) → passIn words p (adding e o) ≡ false
+module _ (words : List ℕ) (n : ℕ) (client : Bool) (p : ℕ) (e : Ext) where
+  pub pass-repeat : (o : Option (List Ext)) → e .kind / 8192 ≡ p → ¬ (bitOf words (e .kind) ≡ 0) → passIn words n client p (adding e o) ≡ Fails
   pass-repeat none h taken = refl
   pass-repeat (some es) h taken = rw (eq-eqb (e .kind / 8192) p h, ne-eqb (bitOf words (e .kind)) 0 taken)
 
-  pub pass-marked : (o : Option (List Ext)) → e .kind / 8192 ≡ p → bitOf words (e .kind) ≡ 0
-      → passIn words p (adding e o) ≡ passIn (marked words (e .kind)) p o
-  pass-marked none h free = refl
-  pass-marked (some es) h free = rw (eq-eqb (e .kind / 8192) p h, eq-eqb (bitOf words (e .kind)) 0 free)
+  pub pass-misshapen : (o : Option (List Ext)) → e .kind / 8192 ≡ p → bitOf words (e .kind) ≡ 0 → ticketShape client e ≡ false
+      → passIn words n client p (adding e o) ≡ Fails
+  pass-misshapen none h free shape = refl
+  pass-misshapen (some es) h free shape = rw (eq-eqb (e .kind / 8192) p h, eq-eqb (bitOf words (e .kind)) 0 free, shape)
 
-  pub pass-other : (o : Option (List Ext)) → ¬ (e .kind / 8192 ≡ p) → passIn words p (adding e o) ≡ passIn words p o
+  pub pass-marked : (o : Option (List Ext)) → e .kind / 8192 ≡ p → bitOf words (e .kind) ≡ 0 → ticketShape client e ≡ true
+      → passIn words n client p (adding e o) ≡ passIn (marked words (e .kind)) n client p o
+  pass-marked none h free shape = refl
+  pass-marked (some es) h free shape = rw (eq-eqb (e .kind / 8192) p h, eq-eqb (bitOf words (e .kind)) 0 free, shape)
+
+  pub pass-other : (o : Option (List Ext)) → ¬ (e .kind / 8192 ≡ p)
+      → passIn words n client p (adding e o) ≡ passIn words (nearer p (e .kind / 8192) n) client p o
   pass-other none h = refl
   pass-other (some es) h = rw (ne-eqb (e .kind / 8192) p h)
 
--- ---- the tally: what was counted, and what is left
-
-abbrev pub countedWith : List ℕ → ℕ → Option (List Ext) → Option ℕ
-countedWith counts p none = none
-countedWith counts p (some es) = some (getD counts p 0 + length (inPart p (kinds es)))
-
-pub count-none : (p : ℕ) (o : Option (List Ext)) → countedWith (replicate 8 0) p o ≡ countIn p o
-count-none p none = refl
-count-none p (some es) = ap some (omega (arith, untouched 8 p))
-
--- one more is counted
-abbrev counting : List ℕ → ℕ → List ℕ
-counting counts t = set counts (t / 8192) (getD counts (t / 8192) 0 + 1)
-
-pub count-next : (counts : List ℕ) (p : ℕ) (e : Ext) (o : Option (List Ext)) → e .kind / 8192 < length counts
-    → countedWith counts p (adding e o) ≡ countedWith (counting counts (e .kind)) p o
-count-next counts p e none inside = refl
-count-next counts p e (some es) inside = elim (ℕ-discrete (e .kind / 8192) p) [
-  | yes h ↦ rw (eq-eqb (e .kind / 8192) p h, ← h, getD-set-same counts (e .kind / 8192) _ 0 inside) (ap some (omega arith))
-  | no h ↦ rw (ne-eqb (e .kind / 8192) p h, getD-set-other counts (e .kind / 8192) p _ 0 (λ f. h (sym f)))
-]
-
--- no count passes the place
-pub count-small : (counts : List ℕ) (t at behind p : ℕ) → t / 8192 < length counts → at < behind
-    → ((q : ℕ) → getD counts q 0 ≤ at) → getD (counting counts t) p 0 ≤ behind
-count-small counts t at behind p inside ahead small = elim (ℕ-discrete p (t / 8192)) [
-  | yes e ↦ rw (e, getD-set-same counts (t / 8192) _ 0 inside) (omega (arith, small (t / 8192)))
-  | no e ↦ rw (getD-set-other counts (t / 8192) p _ 0 e) (omega (arith, small p))
-]
-
--- less than two have no repeat
-few-distinct : (ts : List ℕ) → length ts < 2 → distinct ts ≡ true
-few-distinct [] h = refl
-few-distinct (t ∷ []) h = refl
-few-distinct (t ∷ u ∷ ts) h = absurd (omega arith)
-
-pub few-once : (p n : ℕ) (o : Option (List Ext)) → countIn p o ≡ some n → n < 2 → partOnce p o ≡ true
-few-once p n none e h = absurd (Option·none-ne-some n e)
-few-once p n (some es) e h = let size : length (inPart p (kinds es)) ≡ n = cc in few-distinct (inPart p (kinds es)) (omega arith)
-
--- a block that is cut off
-pub cut-once : (o : Option (List Ext)) → countIn 0 o ≡ none → eachOnce o ≡ false
-cut-once none e = refl
-cut-once (some es) e = absurd (Option·none-ne-some _ (sym e))
-
 -- ---- the parts together
 
-member-part : (p t : ℕ) (ts : List ℕ) → t / 8192 ≡ p → member t (inPart p ts) ≡ member t ts
+member-part : (p t : ℕ) (es : List Ext) → t / 8192 ≡ p → member t (kinds (inPart p es)) ≡ member t (kinds es)
 member-part p t [] h = refl
-member-part p t (u ∷ ts) h = part-next (ℕ-discrete (u / 8192) p) (member-part p t ts h)
+member-part p t (e ∷ es) h = part-next (ℕ-discrete (e .kind / 8192) p) (member-part p t es h)
   where
-    part-next : Dec (u / 8192 ≡ p) → member t (inPart p ts) ≡ member t ts → member t (inPart p (u ∷ ts)) ≡ member t (u ∷ ts)
-    part-next (yes hu) ih = rw (eq-eqb (u / 8192) p hu, ih)
-    part-next (no hu) ih = rw (ne-eqb (u / 8192) p hu, ne-eqb t u (λ e. hu (ap (λ (k : ℕ). k / 8192) (sym e) ∙ h))) ih
+    part-next : Dec (e .kind / 8192 ≡ p) → member t (kinds (inPart p es)) ≡ member t (kinds es)
+        → member t (kinds (inPart p (e ∷ es))) ≡ member t (kinds (e ∷ es))
+    part-next (yes hu) ih = rw (eq-eqb (e .kind / 8192) p hu, ih)
+    part-next (no hu) ih =
+        rw (ne-eqb (e .kind / 8192) p hu, ne-eqb t (e .kind) (λ f. hu (ap (λ (k : ℕ). k / 8192) (sym f) ∙ h))) ih
 
--- a part of what has no repeat has none
-part-distinct : (p : ℕ) (ts : List ℕ) → distinct ts ≡ true → distinct (inPart p ts) ≡ true
-part-distinct p [] e = refl
-part-distinct p (t ∷ ts) e =
-    let both = and-eq-true-iff (not (member t ts)) (distinct ts) .0 e in
-    part-next (ℕ-discrete (t / 8192) p) (both .0) (part-distinct p ts (both .1))
+-- the rules on an extension and those behind it
+abbrev First : Bool → Ext → List Ext → Type 0
+First client e es = (not (member (e .kind) (kinds es)) ≡ true) × (ticketShape client e ≡ true) × (rules client es ≡ true)
+
+first-of : (client : Bool) (e : Ext) (es : List Ext) → rules client (e ∷ es) ≡ true → First client e es
+first-of client e es h =
+    let both = and-eq-true-iff (distinct (kinds (e ∷ es))) (allShaped client (e ∷ es)) .0 h in
+    let types = and-eq-true-iff (not (member (e .kind) (kinds es))) (distinct (kinds es)) .0 (both .0) in
+    let shapes = and-eq-true-iff (ticketShape client e) (allShaped client es) .0 (both .1) in
+    (types .0, shapes .0, rw (types .1) (shapes .1))
+
+of-first : (client : Bool) (e : Ext) (es : List Ext) → First client e es → rules client (e ∷ es) ≡ true
+of-first client e es (alone, shape, rest) = rw (alone, shape) rest
+
+-- the rules on all hold of a part
+part-ruled : (client : Bool) (p : ℕ) (es : List Ext) → rules client es ≡ true → rules client (inPart p es) ≡ true
+part-ruled client p [] h = refl
+part-ruled client p (e ∷ es) h =
+    let (alone, shape, rest) = first-of client e es h in
+    part-next (ℕ-discrete (e .kind / 8192) p) alone shape (part-ruled client p es rest)
   where
-    part-next : Dec (t / 8192 ≡ p) → not (member t ts) ≡ true → distinct (inPart p ts) ≡ true → distinct (inPart p (t ∷ ts)) ≡ true
-    part-next (yes h) n d = rw (eq-eqb (t / 8192) p h, member-part p t ts h, n) d
-    part-next (no h) n d = rw (ne-eqb (t / 8192) p h) d
+    part-next : Dec (e .kind / 8192 ≡ p) → not (member (e .kind) (kinds es)) ≡ true → ticketShape client e ≡ true
+        → rules client (inPart p es) ≡ true → rules client (inPart p (e ∷ es)) ≡ true
+    part-next (yes f) alone shape rest =
+        rw (eq-eqb (e .kind / 8192) p f) (of-first client e (inPart p es) (rw (member-part p (e .kind) es f) alone, shape, rest))
+    part-next (no f) alone shape rest = rw (ne-eqb (e .kind / 8192) p f) rest
 
--- what the part of t ∷ ts has no repeat in, the part of ts has none in
-distinct-tail : (p t : ℕ) (ts : List ℕ) → distinct (inPart p (t ∷ ts)) ≡ true → distinct (inPart p ts) ≡ true
-distinct-tail p t ts e = part-next (ℕ-discrete (t / 8192) p)
+-- what holds of a part of e ∷ es holds of that part of es
+ruled-tail : (client : Bool) (p : ℕ) (e : Ext) (es : List Ext) → rules client (inPart p (e ∷ es)) ≡ true → rules client (inPart p es) ≡ true
+ruled-tail client p e es h = part-next (ℕ-discrete (e .kind / 8192) p)
   where
-    part-next : Dec (t / 8192 ≡ p) → distinct (inPart p ts) ≡ true
-    part-next (yes h) = and-eq-true-iff (not (member t (inPart p ts))) (distinct (inPart p ts)) .0 (rw (eq-eqb (t / 8192) p h) at e) .1
-    part-next (no h) = rw (ne-eqb (t / 8192) p h) at e
+    part-next : Dec (e .kind / 8192 ≡ p) → rules client (inPart p es) ≡ true
+    part-next (yes f) = first-of client e (inPart p es) (rw (eq-eqb (e .kind / 8192) p f) at h) .2
+    part-next (no f) = rw (ne-eqb (e .kind / 8192) p f) at h
 
-distinct-parts : (ts : List ℕ) → ((i : ℕ) → getD ts i 0 < 65536) → ((p : ℕ) → p < 8 → distinct (inPart p ts) ≡ true) → distinct ts ≡ true
-distinct-parts [] b h = refl
-distinct-parts (t ∷ ts) b h =
-    let small : t < 65536 = b zero in
-    let own : distinct (inPart (t / 8192) (t ∷ ts)) ≡ true = h (t / 8192) (omega arith) in
-    let first = and-eq-true-iff (not (member t (inPart (t / 8192) ts))) (distinct (inPart (t / 8192) ts)) .0
-    (rw (eq-eqb (t / 8192) (t / 8192) refl) at own) .0 in
-    let alone : not (member t ts) ≡ true = rw (member-part (t / 8192) t ts refl) at first in
-    rw alone (distinct-parts ts (λ i. b (suc i)) (λ p l. distinct-tail p t ts (h p l)))
+all-ruled : (client : Bool) (es : List Ext) → allWritable es ≡ true → ((p : ℕ) → p < 8 → rules client (inPart p es) ≡ true)
+    → rules client es ≡ true
+all-ruled client [] small h = refl
+all-ruled client (e ∷ es) small h =
+    let ok = and-eq-true-iff (writableExt e) (allWritable es) .0 small in
+    let below : e .kind < 65536 = ltb-true (e .kind) 65536 (and-eq-true-iff (ltb (e .kind) 65536) (writable 2 (e .contents)) .0 (ok .0) .0) in
+    let p : ℕ = e .kind / 8192 in
+    let own = first-of client e (inPart p es) (rw (eq-eqb p p refl) at (h p (omega arith))) in
+    of-first client e es
+    (rw (member-part p (e .kind) es refl) at (own .0), own .1, all-ruled client es (ok .1) (λ q l. ruled-tail client q e es (h q l)))
+
+-- ---- the parts that passes go by
+
+-- the nearer part is above, and no further than either
+pub record Near (p q n : ℕ) (nearest : ℕ) : Type 0 where
+  pub above : p < n → p < nearest
+  pub most : nearest ≤ n
+  pub other : p < q → nearest ≤ q
+
+nearer-near : (p q n : ℕ) → Near p q n (nearer p q n)
+nearer-near p q n = by-order (decLt p q) (decLt q n)
+  where
+    by-order : Dec (p < q) → Dec (q < n) → Near p q n (nearer p q n)
+    by-order (no h) d = rw (le-ltb p q (omega arith)) (record { above = λ k. k; most = omega arith; other = λ k. absurd (h k) })
+    by-order (yes h) (yes k) = rw (lt-ltb p q h, lt-ltb q n k) (record { above = λ m. h; most = omega arith; other = λ m. omega arith })
+    by-order (yes h) (no k) = rw (lt-ltb p q h, le-ltb q n (omega arith)) (record { above = λ m. m; most = omega arith; other = λ m. omega arith })
+
+pub nearest-above : (p n : ℕ) (es : List Ext) → p < n → p < nearestOf p n es
+nearest-above p n [] h = h
+nearest-above p n (e ∷ es) h = nearest-above p (nearer p (e .kind / 8192) n) es (nearer-near p (e .kind / 8192) n .above h)
+
+pub nearest-most : (p n : ℕ) (es : List Ext) → nearestOf p n es ≤ n
+nearest-most p n [] = omega arith
+nearest-most p n (e ∷ es) = omega (arith, nearer-near p (e .kind / 8192) n, nearest-most p (nearer p (e .kind / 8192) n) es)
+
+-- no extension is of a part between
+between-none : (p n q : ℕ) (es : List Ext) → p < q → q < nearestOf p n es → inPart q es ≡ []
+between-none p n q [] above below = refl
+between-none p n q (e ∷ es) above below =
+    let m : ℕ = nearer p (e .kind / 8192) n in
+    rw (ne-eqb (e .kind / 8192) q (λ own.
+    let further : m ≤ e .kind / 8192 = nearer-near p (e .kind / 8192) n .other (omega arith) in
+    omega (arith, nearest-most p m es)))
+    (between-none p m q es above below)
 
 -- ---- over the extensions of a block
 
-kinds-small : (es : List Ext) → allWritable es ≡ true → (i : ℕ) → getD (kinds es) i 0 < 65536
-kinds-small [] h i = omega arith
-kinds-small (e ∷ es) h zero =
-    ltb-true (e .kind) 65536 (and-eq-true-iff (ltb (e .kind) 65536) (writable 2 (e .contents)) .0
-    (and-eq-true-iff (writableExt e) (allWritable es) .0 h .0) .0)
-kinds-small (e ∷ es) h (suc i) = kinds-small es (and-eq-true-iff (writableExt e) (allWritable es) .0 h .1) i
+abbrev pub partRuled : Bool → ℕ → Option (List Ext) → Bool
+partRuled client p none = false
+partRuled client p (some es) = rules client (inPart p es)
 
-pub once-parts : (b : List ℕ) (o : Option (List Ext)) → Bytes b → extensionsIn b ≡ o → ((p : ℕ) → p < 8 → partOnce p o ≡ true) → eachOnce o ≡ true
-once-parts b none h e parts = parts 0 (omega arith)
-once-parts b (some es) h e parts = distinct-parts (kinds es) (kinds-small es (block-in b es h e .1)) parts
+-- what a pass that found nothing says: the rules hold of its part and of those below the nearest
+pub record Passed (client : Bool) (p n : ℕ) (o : Option (List Ext)) : Type 0 where
+  pub ahead : p < n
+  pub inside : n ≤ 8
+  pub holds : (q : ℕ) → p ≤ q → q < n → partRuled client q o ≡ true
 
--- a repeat in one part is a repeat
-pub repeat-part : (o : Option (List Ext)) (p : ℕ) → partOnce p o ≡ false → eachOnce o ≡ false
-repeat-part none p e = refl
-repeat-part (some es) p e = not-true (distinct (kinds es)) (λ d. let z : _≡_ {A = ℕ} 0 1 = cc (e, part-distinct p (kinds es) d) in omega arith)
+pub pass-holds : (client : Bool) (p n : ℕ) (o : Option (List Ext)) → p < 8 → passOver client p o ≡ Holds n → Passed client p n o
+pass-holds client p n none h e = absurd (clash (cc e))
+pass-holds client p n (some es) h e = judged (rules client (inPart p es)) refl e
   where
-    not-true : (t : Bool) → (t ≡ true → ⊥) → t ≡ false
-    not-true true n = absurd (n refl)
-    not-true false n = refl
+    judged : (t : Bool) → rules client (inPart p es) ≡ t → cond t (Holds (nearestOf p 8 es)) Fails ≡ Holds n → Passed client p n (some es)
+    judged false own f = absurd (clash (cc f))
+    judged true own f =
+        let nearest : nearestOf p 8 es ≡ n = cc f in
+        record {
+          ahead = omega (arith, nearest-above p 8 es h);
+          inside = omega (arith, nearest-most p 8 es);
+          holds = λ q from below. elim (ℕ-discrete q p) [
+            | yes same ↦ rw same own
+            | no other ↦ rw (between-none p 8 q es (omega arith) (omega arith)) refl
+          ];
+        }
+
+pub pass-fails : (client : Bool) (p : ℕ) (o : Option (List Ext)) → passOver client p o ≡ Fails → ruled client o ≡ false
+pass-fails client p none e = refl
+pass-fails client p (some es) e = judged (rules client es) refl
+  where
+    judged : (t : Bool) → rules client es ≡ t → t ≡ false
+    judged false own = refl
+    judged true own = absurd (clash (cc (e, part-ruled client p es own)))
+
+pub parts-ruled : (client : Bool) (b : List ℕ) (o : Option (List Ext)) → Bytes b → extensionsIn b ≡ o
+    → ((p : ℕ) → p < 8 → partRuled client p o ≡ true) → ruled client o ≡ true
+parts-ruled client b none h e parts = parts 0 (omega arith)
+parts-ruled client b (some es) h e parts = all-ruled client es (block-in b es h e .1) parts

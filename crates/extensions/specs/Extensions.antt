@@ -73,26 +73,25 @@ abbrev pub kinds : List Ext → List ℕ
 kinds [] = []
 kinds (e ∷ es) = e .kind ∷ kinds es
 
--- "One type twice is 50 (house)"
-abbrev pub eachOnce : Option (List Ext) → Bool
-eachOnce none = false
-eachOnce (some es) = distinct (kinds es)
+-- in a ClientHello the data of type 35 is just such a ticket vector; no other data is judged
+abbrev pub ticketShape : Bool → Ext → Bool
+ticketShape client e = cond (client && eqb (e .kind) 35) (eqb (endAt 2 (e .contents) 0) (length (e .contents))) true
 
--- the data of type 35 is just such a vector
-abbrev pub ticketShape : Ext → Bool
-ticketShape e = cond (eqb (e .kind) 35) (eqb (endAt 2 (e .contents) 0) (length (e .contents))) true
+abbrev pub allShaped : Bool → List Ext → Bool
+allShaped client [] = true
+allShaped client (e ∷ es) = ticketShape client e && allShaped client es
 
-abbrev pub allShaped : List Ext → Bool
-allShaped [] = true
-allShaped (e ∷ es) = ticketShape e && allShaped es
+-- the extensions of a hello: no type is there twice (the house's rule), and the data have their shapes
+abbrev pub rules : Bool → List Ext → Bool
+rules client es = distinct (kinds es) && allShaped client es
 
-abbrev pub ticketsShaped : Option (List Ext) → Bool
-ticketsShaped none = false
-ticketsShaped (some es) = allShaped es
+abbrev pub ruled : Bool → Option (List Ext) → Bool
+ruled client none = false
+ruled client (some es) = rules client es
 
--- The block of a hello; the rule on type 35 is the ClientHello's alone.
+-- the block of a hello: whole extensions, and the rules on them
 abbrev pub blockRule : Bool → List ℕ → Bool
-blockRule client b = eachOnce (extensionsIn b) && cond client (ticketsShaped (extensionsIn b)) true
+blockRule client b = ruled client (extensionsIn b)
 
 -- ---- going through a block
 

@@ -1,26 +1,27 @@
--- The types of a block by eight parts of 8,192 numbers: what the passes of the search for a type twice answer. The rule itself is `eachOnce`.
+-- The types of a block by eight parts of 8,192 numbers: what a pass over the block says of one of them. The rule itself is `blockRule`.
 use Prim.Native.Nat.{ℕ, _/_}
-use mathlib.Core.Bool.{Bool, false, cond}
+use mathlib.Core.Bool.{Bool, _&&_, cond}
 use mathlib.Core.List.{List, [], _∷_}
 use mathlib.Core.Option.{Option, none, some}
-use lib.ListN.{length, getD}
-use lib.Dec.{eqb}
-use Rattle.extensions.specs.Extensions.{Ext, kinds, distinct}
+use lib.Dec.{eqb, ltb}
+use Rattle.extensions.specs.declared.Pass.{Pass}
+use Rattle.extensions.specs.declared.Pass.the-variants.{Holds, Fails}
+use Rattle.extensions.specs.Extensions.{Ext, rules}
 
--- those of the types that are in the part p, from 8,192 p on
-abbrev pub inPart : ℕ → List ℕ → List ℕ
+-- the extensions whose types are in the part p, from 8,192 p on
+abbrev pub inPart : ℕ → List Ext → List Ext
 inPart p [] = []
-inPart p (t ∷ ts) = cond (eqb (t / 8192) p) (t ∷ inPart p ts) (inPart p ts)
+inPart p (e ∷ es) = cond (eqb (e .kind / 8192) p) (e ∷ inPart p es) (inPart p es)
 
-abbrev pub partOnce : ℕ → Option (List Ext) → Bool
-partOnce p none = false
-partOnce p (some es) = distinct (inPart p (kinds es))
+-- of two parts the nearer one above p
+abbrev pub nearer : ℕ → ℕ → ℕ → ℕ
+nearer p other nearest = cond (ltb p other && ltb other nearest) other nearest
 
--- how many extensions have their type in the part p, of a block that is made of whole extensions
-abbrev pub countIn : ℕ → Option (List Ext) → Option ℕ
-countIn p none = none
-countIn p (some es) = some (length (inPart p (kinds es)))
+-- the nearest part above p that has extensions, where `nearest` was it before
+abbrev pub nearestOf : ℕ → ℕ → List Ext → ℕ
+nearestOf p nearest [] = nearest
+nearestOf p nearest (e ∷ es) = nearestOf p (nearer p (e .kind / 8192) nearest) es
 
--- the same as a tally says it
-abbrev pub tallied : Bool → List ℕ → ℕ → Option ℕ
-tallied whole counts p = cond whole (some (getD counts p 0)) none
+abbrev pub passOver : Bool → ℕ → Option (List Ext) → Pass
+passOver client p none = Fails
+passOver client p (some es) = cond (rules client (inPart p es)) (Holds (nearestOf p 8 es)) Fails

@@ -1,12 +1,11 @@
 // The extension block of a hello (document 01, "Message layouts"; RFC 5246, section 7.4.1.4; the
 // ticket draft, section 3.2): going through it, its rules, and writing one extension.
 ghost use mathlib.Core.Path.{_≡_};
-ghost use mathlib.Core.Option.{some};
 ghost use Prim.Native.Nat.{ℕ, _+_, _/_, _%_, _^_, _<_};
 ghost use Rattle.refusal.specs.Lent.{Answers};
 ghost use Rattle.layout.specs.Place.{lastAt};
-ghost use Rattle.extensions.specs.Extensions.{extensionWritten, ticketExtension, stepAt, extensionsIn, eachOnce, ticketShape, ticketsShaped, blockRule};
-ghost use Rattle.extensions.specs.Parts.{partOnce, countIn, tallied};
+ghost use Rattle.extensions.specs.Extensions.{extensionWritten, ticketExtension, stepAt, extensionsIn, ticketShape, blockRule};
+ghost use Rattle.extensions.specs.Parts.{nearer, passOver};
 use layout::Part;
 use layout::place;
 use layout::put;
@@ -46,115 +45,13 @@ pub fn next(block: &[u8], at: usize) -> Step
     Step::Extension { kind, start, len }
 }
 
-// The search for a type twice goes by eight parts of the types, 8,192 numbers each: a bit for each of
-// them takes a kilobyte. A part that has less than two of the block's extensions needs no pass.
-
-// How many extensions of a block have their type in each part, where it is made of whole extensions.
-struct Tally {
-    whole: bool,
-    counts: [usize; 8],
-}
-
-fn count(block: &[u8]) -> Tally
-    ensures { λ r. ⌜ ((p : ℕ) → tallied (r .whole) (r .counts) p ≡ countIn p (extensionsIn (now (block .entry)))) ⌝ }
+// Whether the data has the shape that its type asks for: in a ClientHello type 35 asks for one, and no other.
+fn shaped(client: bool, kind: usize, contents: &[u8]) -> bool
+    ensures { λ r. ⌜ r ≡ ticketShape client (record { kind = kind; contents = now (contents .entry) }) ⌝ }
 {
-    let mut counts = [0usize; 8];
-    let mut at = 0;
-    loop {
-        match next(block, at) {
-            Step::Extension { kind, start, len } => {
-                let behind = start + len;
-                let part = kind / 8192;
-                counts[part] += 1;
-                at = behind;
-            }
-            Step::End => {
-                return Tally {
-                    whole: true,
-                    counts,
-                };
-            }
-            Step::Refused => {
-                return Tally {
-                    whole: false,
-                    counts,
-                };
-            }
-        }
-    }
-}
-
-// The word with one more bit, which was clear.
-fn with_bit(word: usize, bit: usize) -> usize
-    requires { ⌜ (bit < 64) × (word / 2 ^ bit % 2 ≡ 0) ⌝ }
-    ensures { λ r. ⌜ r ≡ word + 2 ^ bit ⌝ }
-{
-    word + (1 << bit)
-}
-
-// Whether no type of the part is there twice: one pass, with a bit for each type.
-fn once_in_part(block: &[u8], part: usize) -> bool
-    ensures { λ r. ⌜ r ≡ partOnce part (extensionsIn (now (block .entry))) ⌝ }
-{
-    let mut words = [0usize; 128];
-    let mut at = 0;
-    loop {
-        match next(block, at) {
-            Step::Extension { kind, start, len } => {
-                let behind = start + len;
-                if kind / 8192 == part {
-                    let place = kind / 64 % 128;
-                    let word = words[place];
-                    let bit = kind % 64;
-                    if (word >> bit) % 2 != 0 {
-                        return false;
-                    }
-                    words[place] = with_bit(word, bit);
-                }
-                at = behind;
-            }
-            Step::End => return true,
-            Step::Refused => return false,
-        }
-    }
-}
-
-// The same of a part that has so many of the block's extensions.
-fn counted_once(block: &[u8], part: usize, count: usize) -> bool
-    requires { ⌜ countIn part (extensionsIn (now block)) ≡ some count ⌝ }
-    ensures { λ r. ⌜ r ≡ partOnce part (extensionsIn (now (block .entry))) ⌝ }
-{
-    if count < 2 {
+    if !client {
         return true;
     }
-    once_in_part(block, part)
-}
-
-// Whether the block is made of whole extensions, and no type is there twice. The cost is linear in the
-// block's length: at most a pass for each part, and one that counts.
-fn once(block: &[u8]) -> bool
-    ensures { λ r. ⌜ r ≡ eachOnce (extensionsIn (now (block .entry))) ⌝ }
-{
-    let t = count(block);
-    if !t.whole {
-        return false;
-    }
-    let counts = t.counts;
-    let mut part = 0;
-    while part < 8 {
-        let count = counts[part];
-        if !counted_once(block, part, count) {
-            return false;
-        }
-        part += 1;
-    }
-    true
-}
-
-// Whether the data has the shape that its type asks for: a type other than 35 asks for none.
-fn shaped(kind: usize, contents: &[u8]) -> bool
-    ensures { λ r. ⌜ r ≡ ticketShape (record { kind = kind; contents = now (contents .entry) }) ⌝ }
-{
     if kind != 35 {
         return true;
     }
@@ -164,35 +61,82 @@ fn shaped(kind: usize, contents: &[u8]) -> bool
     }
 }
 
-// Whether the block is made of whole extensions, each of the shape that its type asks for.
-fn all_shaped(block: &[u8]) -> bool
-    ensures { λ r. ⌜ r ≡ ticketsShaped (extensionsIn (now (block .entry))) ⌝ }
+// The rules are tested by eight parts of the types, 8,192 numbers each: a bit for each of them takes a
+// kilobyte. A part that has no extension needs no pass.
+
+// The word with one more bit, which was clear.
+fn with_bit(word: usize, bit: usize) -> usize
+    requires { ⌜ (bit < 64) × (word / 2 ^ bit % 2 ≡ 0) ⌝ }
+    ensures { λ r. ⌜ r ≡ word + 2 ^ bit ⌝ }
 {
+    word + (1 << bit)
+}
+
+// The nearest part above `part` of those seen, of which `nearest` was, when an extension of another is there.
+fn nearer(part: usize, other: usize, nearest: usize) -> usize
+    ensures { λ r. ⌜ r ≡ nearer part other nearest ⌝ }
+{
+    if other <= part {
+        return nearest;
+    }
+    if nearest <= other {
+        return nearest;
+    }
+    other
+}
+
+// What a pass over a block says of the extensions whose types are in one part.
+enum Pass {
+    // The rules hold of them. The nearest part above that has extensions too; 8 where there is none.
+    Holds { nearest: usize },
+    // They do not, or the block is not made of whole extensions.
+    Fails,
+}
+
+fn test_part(client: bool, block: &[u8], part: usize) -> Pass
+    ensures { λ r. ⌜ r ≡ passOver client part (extensionsIn (now (block .entry))) ⌝ }
+{
+    let mut words = [0usize; 128];
+    let mut nearest = 8;
     let mut at = 0;
     loop {
         match next(block, at) {
             Step::Extension { kind, start, len } => {
                 let behind = start + len;
-                if !shaped(kind, &block[start..behind]) {
-                    return false;
+                let own = kind / 8192;
+                if own == part {
+                    let place = kind / 64 % 128;
+                    let word = words[place];
+                    let bit = kind % 64;
+                    if (word >> bit) % 2 != 0 {
+                        return Pass::Fails;
+                    }
+                    if !shaped(client, kind, &block[start..behind]) {
+                        return Pass::Fails;
+                    }
+                    words[place] = with_bit(word, bit);
+                } else {
+                    nearest = nearer(part, own, nearest);
                 }
                 at = behind;
             }
-            Step::End => return true,
-            Step::Refused => return false,
+            Step::End => return Pass::Holds { nearest },
+            Step::Refused => return Pass::Fails,
         }
     }
 }
 
-// Whether a hello may carry the block; a ClientHello's has a rule more.
+// Whether a hello may carry the block: it is made of whole extensions, no type is there twice, and a
+// ClientHello's data has its shape. The cost is linear in the block's length: at most a pass for each part.
 pub fn test(client: bool, block: &[u8]) -> bool
     ensures { λ r. ⌜ r ≡ blockRule client (now (block .entry)) ⌝ }
 {
-    if !once(block) {
-        return false;
-    }
-    if client {
-        return all_shaped(block);
+    let mut part = 0;
+    while part < 8 {
+        match test_part(client, block, part) {
+            Pass::Holds { nearest } => part = nearest,
+            Pass::Fails => return false,
+        }
     }
     true
 }
