@@ -8,7 +8,7 @@
 
 void (*const volatile footprint[])(void) = {
 #if CALLS >= 1
-    CALL(tn_start), CALL(tn_message), CALL(tn_change_of_cipher), CALL(tn_alert), CALL(tn_phase), CALL(tn_key_block), CALL(tn_table_test),
+    CALL(tn_start), CALL(tn_message), CALL(tn_change_of_cipher), CALL(tn_alert), CALL(tn_phase), CALL(tn_suite), CALL(tn_key_block), CALL(tn_table_test),
 #endif
 #if CALLS >= 2
     CALL(tn_sha256), CALL(tn_hmac), CALL(tn_prf), CALL(tn_premaster), CALL(tn_master), CALL(tn_key_block_length), CALL(tn_finished),

@@ -125,14 +125,10 @@ bool connection_start(struct connection *c, const struct settings *settings)
 
 /* ---- handshake messages */
 
-/* The hello was accepted, and its answer's first message names the suite. */
-static bool take_hello(struct connection *c, const uint8_t *flight, size_t n)
+/* The hello was accepted. */
+static bool take_hello(struct connection *c)
 {
-    uint32_t fields[7];
-    size_t size = MESSAGE_HEADER + ((size_t)flight[1] << 16 | (size_t)flight[2] << 8 | flight[3]);
-    if (size > n || tn_read_server_hello(flight, size, fields) != 0)
-        return false;
-    c->suite = suite_of(fields[2]);
+    c->suite = suite_of((uint32_t)tn_suite(c->login));
     memcpy(c->client_random, c->message + TN_HELLO_RANDOM_AT, sizeof c->client_random);
     return c->suite != NULL;
 }
@@ -167,7 +163,7 @@ static bool accepted(struct connection *c, const uint8_t *answer, size_t n, cons
 {
     switch (tn_phase(c->login)) {
     case TN_PHASE_CLIENT_KEY_EXCHANGE:
-        return take_hello(c, answer, n) && queue(c, RECORD_HANDSHAKE, answer, n);
+        return take_hello(c) && queue(c, RECORD_HANDSHAKE, answer, n);
     case TN_PHASE_CHANGE_OF_CIPHER:
         return take_master(c, master);
     case TN_PHASE_COMPLETE:

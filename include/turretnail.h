@@ -259,6 +259,9 @@ int32_t tn_alert(uint8_t connection[TN_CONNECTION_SIZE], uint8_t level, uint8_t 
 /* What the connection awaits, or how it ended: one of the TN_PHASE_ numbers. TN_PHASE_CLOSED also for cleared bytes. */
 int32_t tn_phase(const uint8_t connection[TN_CONNECTION_SIZE]);
 
+/* The suite that the ClientHello led to, as tn_key_block takes it: from the accepted hello on; 0 before it, and when the connection is complete or closed. */
+int32_t tn_suite(const uint8_t connection[TN_CONNECTION_SIZE]);
+
 /* ==== Secrets ================================================================================================================================ */
 
 /*

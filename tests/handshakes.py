@@ -122,7 +122,7 @@ class Server:
             self.awaits = "closed"
             return "R3"
         self.random, self.hint, self.stand_in, self.hides = random, hint, stand_in, rule == HIDE
-        self.awaits, self.heard = "hello", b""
+        self.awaits, self.transcript = "hello", b""
         return "wrote 0"
 
     def over(self):
@@ -187,7 +187,7 @@ class Server:
         flight += message(14, b"")
 
         def after():
-            self.awaits, self.client, self.heard = "exchange", client, m + flight
+            self.awaits, self.client, self.transcript = "exchange", client, m + flight
         return flight, after, b""
 
     def exchange(self, m, body, table, good):
@@ -203,15 +203,15 @@ class Server:
 
         def after():
             self.awaits, self.master, self.listed = "change", master, key is not None
-            self.heard += m
+            self.transcript += m
         return b"", after, master
 
     def finished(self, m, body, table, good):
         if len(body) != 12:
             raise Refuse("alert 50")
-        if not self.listed or body != verify_data(self.master, b"client finished", self.heard):
+        if not self.listed or body != verify_data(self.master, b"client finished", self.transcript):
             raise Refuse("alert 51")
-        answer = message(20, verify_data(self.master, b"server finished", self.heard + m))
+        answer = message(20, verify_data(self.master, b"server finished", self.transcript + m))
 
         def after():
             self.awaits = "complete"
@@ -259,7 +259,7 @@ class Script:
         self.lines.append("keys " + said + " " + (block + bytes(96 - len(block))).hex())
 
     def finished(self, label=b"client finished"):
-        return message(20, verify_data(self.server.master, label, self.server.heard))
+        return message(20, verify_data(self.server.master, label, self.server.transcript))
 
 
 def drawn(name, n=32):

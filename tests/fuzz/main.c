@@ -26,6 +26,7 @@ static const struct {
     {"tn_change_of_cipher", {0, TN_R4, ALERT(10), 99}},
     {"tn_alert", {0, TN_R4, ALERT(47), 99}},
     {"tn_phase", {0, 1, 2, 99}},
+    {"tn_suite", {0, 2, 99}},
     {"tn_sha256", {2, TN_R1, 99}},
     {"tn_hmac", {2, TN_R1, 99}},
     {"tn_prf", {0, 2, TN_R1, TN_R5, 99}},

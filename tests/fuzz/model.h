@@ -63,7 +63,7 @@ void model_lookup(struct bytes table, struct bytes identity, struct answer *a);
 
 /* ---- the server (model_server.c) */
 
-#define HEARD_LIMIT 40000
+#define TRANSCRIPT_LIMIT 40000
 
 struct server {
     int32_t phase;
@@ -71,15 +71,17 @@ struct server {
     size_t hint_n;
     bool hides;
     uint8_t client[32], master[48];
+    uint32_t suite;
     bool listed;
-    uint8_t heard[HEARD_LIMIT];
-    size_t heard_n;
+    uint8_t transcript[TRANSCRIPT_LIMIT];
+    size_t transcript_n;
 };
 
 int32_t model_start(struct server *s, struct bytes random, struct bytes hint, struct bytes stand_in, uint8_t rule);
 void model_message(struct server *s, struct bytes table, struct bytes message, size_t room, struct answer *a); /* R1 included */
 int32_t model_change(struct server *s);
 int32_t model_alert(struct server *s, uint8_t level, uint8_t description);
-void model_verify_data(const struct server *s, uint8_t side, struct answer *a); /* of a Finished after what was heard */
+int32_t model_suite(const struct server *s);
+void model_verify_data(const struct server *s, uint8_t side, struct answer *a); /* of a Finished after this transcript */
 
 #endif

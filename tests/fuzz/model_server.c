@@ -15,12 +15,12 @@ static int32_t closing(struct server *s, uint8_t alert)
     return TN_ALERT_RESULT(alert);
 }
 
-static void hear(struct server *s, struct bytes b)
+static void add(struct server *s, struct bytes b)
 {
-    if (b.n > HEARD_LIMIT - s->heard_n)
-        fail("the model hears too much");
-    memcpy(s->heard + s->heard_n, b.at, b.n);
-    s->heard_n += b.n;
+    if (b.n > TRANSCRIPT_LIMIT - s->transcript_n)
+        fail("the model's transcript is full");
+    memcpy(s->transcript + s->transcript_n, b.at, b.n);
+    s->transcript_n += b.n;
 }
 
 int32_t model_start(struct server *s, struct bytes random, struct bytes hint, struct bytes stand_in, uint8_t rule)
@@ -91,8 +91,9 @@ static void hello_step(struct server *s, struct bytes m, size_t room, struct ans
             return;
         }
         memcpy(s->client, m.at + 6, 32);
-        hear(s, m);
-        hear(s, (struct bytes){a->bytes, (size_t)a->said});
+        s->suite = suite;
+        add(s, m);
+        add(s, (struct bytes){a->bytes, (size_t)a->said});
         s->phase = TN_PHASE_CLIENT_KEY_EXCHANGE;
     }
 }
@@ -118,7 +119,7 @@ static void key_exchange_step(struct server *s, struct bytes table, struct bytes
     model_premaster(s->listed ? (struct bytes){key.bytes, (size_t)key.said} : (struct bytes){s->stand_in, 32}, &premaster);
     model_master((struct bytes){premaster.bytes, (size_t)premaster.said}, (struct bytes){s->client, 32}, (struct bytes){s->random, 32}, a);
     memcpy(s->master, a->bytes, 48);
-    hear(s, m);
+    add(s, m);
     s->phase = TN_PHASE_CHANGE_OF_CIPHER;
     a->said = 0;
 }
@@ -126,7 +127,7 @@ static void key_exchange_step(struct server *s, struct bytes table, struct bytes
 void model_verify_data(const struct server *s, uint8_t side, struct answer *a)
 {
     static struct answer hash;
-    model_sha256((struct bytes){s->heard, s->heard_n}, &hash);
+    model_sha256((struct bytes){s->transcript, s->transcript_n}, &hash);
     model_finished(side, (struct bytes){s->master, 48}, (struct bytes){hash.bytes, 32}, a);
 }
 
@@ -147,7 +148,7 @@ static void finished_step(struct server *s, struct bytes m, size_t room, struct 
         return;
     }
     uint8_t value[12];
-    hear(s, m);
+    add(s, m);
     model_verify_data(s, TN_SIDE_SERVER, a);
     memcpy(value, a->bytes, 12);
     compose_message(20, (struct bytes){value, 12}, a);
@@ -197,4 +198,9 @@ int32_t model_alert(struct server *s, uint8_t level, uint8_t description)
     if (level == 2 || description == 0)
         s->phase = TN_PHASE_CLOSED;
     return 0;
+}
+
+int32_t model_suite(const struct server *s)
+{
+    return over(s) ? 0 : (int32_t)s->suite;
 }

@@ -16,6 +16,15 @@ static int32_t phase_of(const uint8_t connection[TN_CONNECTION_SIZE])
     return phase;
 }
 
+static int32_t suite_of(const uint8_t connection[TN_CONNECTION_SIZE])
+{
+    begin("tn_suite");
+    struct lent *c = lend((struct bytes){connection, TN_CONNECTION_SIZE});
+    int32_t suite = tn_suite(c->bytes);
+    finish();
+    return suite;
+}
+
 /* Connections that a call has closed or completed have the same bytes, whoever the client was: those of the first one that was seen. */
 static void expect_over(const uint8_t connection[TN_CONNECTION_SIZE], int32_t phase)
 {
@@ -36,11 +45,12 @@ static void settle_connection(struct lent *c, int32_t result, bool stays)
         becomes(c, c->bytes, c->n);
 }
 
-/* After `finish`: the bytes are kept for the next call, and their phase is looked at. */
+/* After `finish`: the bytes are kept for the next call, and their phase and suite are looked at. */
 static void keep(struct pair *p, const struct lent *c, int32_t result)
 {
     memcpy(p->connection, c->bytes, TN_CONNECTION_SIZE);
     expect_number(phase_of(p->connection), p->model.phase);
+    expect_number(suite_of(p->connection), model_suite(&p->model));
     if (!tn_is_host_refusal(result) && (p->model.phase == TN_PHASE_CLOSED || p->model.phase == TN_PHASE_COMPLETE))
         expect_over(p->connection, p->model.phase);
 }

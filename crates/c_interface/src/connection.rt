@@ -1,6 +1,6 @@
-// The server's calls, on a connection that the host keeps as 388 bytes. Bytes that no call has
-// written stand for a closed connection, cleared memory among them. An R number leaves the bytes as
-// they were, an alert makes them those of a closed connection.
+// The server's calls, on a connection that the host keeps as 388 bytes. Cleared bytes, and
+// those whose first three name no phase, rule or flag, stand for a closed connection. An R number
+// leaves the bytes as they were, an alert makes them those of a closed connection.
 ghost use mathlib.Core.Path.{_≡_};
 ghost use Prim.Native.Nat.{_<_, _^_};
 ghost use lib.IntN.{pos};
@@ -126,4 +126,16 @@ pub extern "C" fn tn_phase(connection: &[u8; 388]) -> i32
 {
     let bytes = *connection;
     saved::phase(saved::restore(bytes)) as i32
+}
+
+// The suite that the hello led to: the number 0, which is no suite of ours, before it and when the
+// connection is over.
+#[no_mangle]
+pub extern "C" fn tn_suite(connection: &[u8; 388]) -> i32
+    ensures { λ r. ⌜ r ≡ pos (restored (now (connection .entry)) .client .suite) ⌝ }
+{
+    let bytes = *connection;
+    let c = saved::restore(bytes);
+    let client = c.client;
+    client.suite as i32
 }

@@ -6,7 +6,7 @@ use Prim.Native.Nat.{ℕ, zero, suc, _+_, _^_, _≤_, _<_}
 use native.Mathlib.Omega.{arith}
 use native.Mathlib.Decide.{decLe}
 use mathlib.Core.Bool.{Bool, true, _&&_, cond, and-false, and-eq-true-iff}
-use mathlib.Core.List.{List, [], _∷_, _++_, append-assoc}
+use mathlib.Core.List.{List, [], _∷_, _++_, append-assoc, append-nil}
 use mathlib.Core.Option.{Option, none, some, Option·none-ne-some}
 use lib.ListN.{length, take, drop, length-drop, length-append, take-append-drop, drop-of-length-le}
 use lib.Seq.{drop-drop, length-take-le, take-append-seam, drop-append-seam}
@@ -19,7 +19,7 @@ use Rattle.extensions.specs.declared.Step.{Step}
 use Rattle.extensions.specs.declared.Step.the-variants.{Extension, End, Refused}
 use Rattle.layout.specs.Place.{endAt}
 use Rattle.extensions.specs.Extensions.{Ext, extensionBytes, blockBytes, first, firstEnd, adding, extensionsUpTo, extensionsIn}
-use Rattle.extensions.specs.Extensions.{ticketShape, stepAt}
+use Rattle.extensions.specs.Extensions.{ticketExtension, ticketShape, stepAt}
 use Rattle.layout.proofs.Places.{vector-at, vector-last}
 
 -- ---- how many are asked for does not matter, once they are no fewer than the bytes
@@ -224,6 +224,14 @@ ticket-written ticket h =
     let d : List ℕ = vector 2 ticket in
     let says : stated 2 d ≡ length ticket = number-be-lt 2 (length ticket) (ltb-true _ _ h) in
     eq-eqb (endAt 2 d 0) (length d) (omega arith)
+
+-- its bytes, of which the first two are its number, are read as it
+pub ticket-numbered : (ticket : List ℕ) → length ticket < 65534
+    → extensionsIn (0x00 ∷ 0x23 ∷ vector 2 (vector 2 ticket)) ≡ some (ticketExtension ticket ∷ [])
+ticket-numbered ticket fits =
+    let e : Ext = ticketExtension ticket in
+    let ok : allWritable (e ∷ []) ≡ true = rw (lt-ltb (length (vector 2 ticket)) (256 ^ 2) (omega arith)) in
+    ap extensionsIn (sym (append-nil (extensionBytes e))) ∙ in-block (e ∷ []) ok
 
 pub ticket-read : (d : List ℕ) → Bytes d → ticketShape true (record { kind = 35; contents = d }) ≡ true
     → (d ≡ vector 2 (take (stated 2 d) (drop 2 d))) × (writable 2 (take (stated 2 d) (drop 2 d)) ≡ true)

@@ -3,7 +3,8 @@
 use Rattle.refusal.proofs.Laws.{refusal-keeps, answer-keeps-rest, short-exactly}
 use Rattle.sha256.proofs.Padding.{zeros-fill, zeros-least}
 use Rattle.sha256.proofs.Finish.{finish-absorbed}
-use Rattle.layout.specs.Types.{serverKeyExchangeType, serverHelloDoneType, clientKeyExchangeType, finishedType}
+use Rattle.utf8.proofs.Ranges.{valid-text}
+use Rattle.extensions.proofs.Blocks.{ticket-numbered, ticket-read}
 use Rattle.hellos.proofs.ClientHellos.{client-inverse}
 use Rattle.hellos.proofs.ServerHellos.{server-inverse}
 use Rattle.messages.proofs.KeyExchanges.{vector-inverse}
@@ -11,11 +12,12 @@ use Rattle.messages.proofs.FixedMessages.{fixed-inverse}
 use Rattle.messages.proofs.NewSessionTickets.{ticket-inverse}
 use Rattle.keytable.proofs.Agreement.{sound, complete}
 use Rattle.keytable.proofs.Lookups.{exactly, malformed-unlisted}
-use Rattle.server.specs.Finished.{verifyDataLength}
 use Rattle.c_interface.proofs.Apart.{codes-apart}
 use Rattle.theorems.specs.Claims.{Claims}
 use Rattle.theorems.proofs.Over.{over-stays}
 use Rattle.theorems.proofs.Rules.{rules-apply}
+use Rattle.theorems.proofs.Suites.{suites-in-order}
+use Rattle.theorems.proofs.Handed.{handed-once}
 use Rattle.theorems.proofs.Sameness.{sameness, sameness-of-lookups}
 use Rattle.theorems.proofs.Completion.{completes-exactly}
 use Rattle.theorems.proofs.FromC.{sameness-from-c, completes-exactly-from-c}
@@ -34,16 +36,21 @@ claims =
       paddingLeast = zeros-least;
       clientHelloInverse = client-inverse;
       serverHelloInverse = server-inverse;
-      serverKeyExchangeInverse = vector-inverse serverKeyExchangeType;
-      serverHelloDoneInverse = fixed-inverse serverHelloDoneType 0;
-      clientKeyExchangeInverse = vector-inverse clientKeyExchangeType;
-      finishedInverse = fixed-inverse finishedType verifyDataLength;
+      serverKeyExchangeInverse = vector-inverse 12;
+      serverHelloDoneInverse = fixed-inverse 14 0;
+      clientKeyExchangeInverse = vector-inverse 16;
+      finishedInverse = fixed-inverse 20 12;
       newSessionTicketInverse = ticket-inverse;
+      ticketExtensionRead = ticket-numbered;
+      ticketExtensionOnly = ticket-read;
+      utf8Twice = valid-text;
       testedSoundly = sound;
       testedCompletely = complete;
       lookupExact = exactly;
       malformedUnlisted = malformed-unlisted;
       worked = Worked.worked;
+      suitesInOrder = suites-in-order;
+      masterHandedOnce = λ v c m. handed-once (c .phase) _;
       rulesApply = rules-apply;
       sameness = sameness;
       samenessOfLookups = sameness-of-lookups;

@@ -8,5 +8,7 @@ pub mod Sameness
 pub mod Worked
 pub mod Rules
 pub mod Over
+pub mod Suites
+pub mod Handed
 pub mod FromC
 pub mod Claims

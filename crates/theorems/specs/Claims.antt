@@ -4,7 +4,7 @@ use mathlib.Core.Path.{_≡_}
 use mathlib.Core.Logic.{_↔_}
 use Prim.Native.Nat.{ℕ, _+_, _%_, _≤_, _<_}
 use mathlib.Core.Bool.{true, false}
-use mathlib.Core.List.{List}
+use mathlib.Core.List.{List, [], _∷_}
 use mathlib.Core.Option.{none, some}
 use lib.ListN.{length, take, drop}
 use Rattle.refusal.specs.declared.Refusal.{Refusal}
@@ -17,7 +17,10 @@ use Rattle.sha256.specs.Message.{zeros}
 use Rattle.sha256.specs.Hash.{sha256}
 use Rattle.sha256.specs.State.{fresh, absorb, finished}
 use Rattle.layout.specs.Layout.{Inverse}
-use Rattle.layout.specs.Types.{serverKeyExchangeType, serverHelloDoneType, clientKeyExchangeType, finishedType}
+use Rattle.endian.specs.Vector.{vector, writable, stated}
+use Rattle.extensions.specs.Extensions.{extensionsIn, ticketExtension, ticketShape}
+use Rattle.utf8.specs.Utf8.{validUtf8}
+use Rattle.utf8.specs.Ranges.{Text}
 use Rattle.hellos.specs.ClientHello.{clientHello, readClientHello}
 use Rattle.hellos.specs.ServerHello.{serverHello, readServerHello}
 use Rattle.messages.specs.KeyExchange.{serverKeyExchange, clientKeyExchange, readVector}
@@ -26,13 +29,17 @@ use Rattle.messages.specs.Fixed.{serverHelloDone, readFixed}
 use Rattle.messages.specs.NewSessionTicket.{newSessionTicket, readTicket}
 use Rattle.keytable.specs.Table.{validIdentity, wellFormed, keyOf}
 use Rattle.keytable.specs.WellFormed.{WellFormed, Listed}
-use Rattle.server.specs.Finished.{verifyDataLength}
+use Rattle.server.specs.declared.Phase.{Phase}
+use Rattle.server.specs.declared.Connection.{Connection}
+use Rattle.server.specs.KeyExchange.{View}
+use Rattle.server.specs.Message.{messageStep, handedOver}
 use Rattle.c_interface.specs.Codes.{coded}
 use Rattle.theorems.specs.Demand3.{Sameness, CompletesExactly}
 use Rattle.theorems.specs.Agreeing.{SamenessOfLookups}
 use Rattle.theorems.specs.FromC.{SamenessFromC, CompletesExactlyFromC}
 use Rattle.theorems.specs.Rules.{RulesApply}
 use Rattle.theorems.specs.Over.{OverStays}
+use Rattle.theorems.specs.Suites.{SuitesInOrder}
 use Rattle.theorems.specs.Worked.{BytesWorkedThrough}
 
 pub record Claims : Type 1 where
@@ -47,14 +54,20 @@ pub record Claims : Type 1 where
   pub hashedInParts : (m : List ℕ) → finished (absorb fresh m) ≡ sha256 m
   pub paddingFills : (n : ℕ) → (n + 1 + zeros n) % 64 ≡ 56
   pub paddingLeast : (n z : ℕ) → (n + 1 + z) % 64 ≡ 56 → zeros n ≤ z
-  -- each layout with its reader, by name
+  -- each layout with its reader, by name and number
   pub clientHelloInverse : Inverse clientHello readClientHello
   pub serverHelloInverse : Inverse serverHello readServerHello
-  pub serverKeyExchangeInverse : Inverse serverKeyExchange (readVector serverKeyExchangeType)
-  pub serverHelloDoneInverse : Inverse serverHelloDone (readFixed serverHelloDoneType 0)
-  pub clientKeyExchangeInverse : Inverse clientKeyExchange (readVector clientKeyExchangeType)
-  pub finishedInverse : Inverse Fixed.finished (readFixed finishedType verifyDataLength)
+  pub serverKeyExchangeInverse : Inverse serverKeyExchange (readVector 12)
+  pub serverHelloDoneInverse : Inverse serverHelloDone (readFixed 14 0)
+  pub clientKeyExchangeInverse : Inverse clientKeyExchange (readVector 16)
+  pub finishedInverse : Inverse Fixed.finished (readFixed 20 12)
   pub newSessionTicketInverse : Inverse newSessionTicket readTicket
+  pub ticketExtensionRead : (ticket : List ℕ) → length ticket < 65534
+      → extensionsIn (0x00 ∷ 0x23 ∷ vector 2 (vector 2 ticket)) ≡ some (ticketExtension ticket ∷ [])
+  pub ticketExtensionOnly : (d : List ℕ) → Bytes d → ticketShape true (record { kind = 35; contents = d }) ≡ true
+      → (d ≡ vector 2 (take (stated 2 d) (drop 2 d))) × (writable 2 (take (stated 2 d) (drop 2 d)) ≡ true)
+  -- texts
+  pub utf8Twice : (s : List ℕ) → (validUtf8 s ≡ true) ↔ Text s
   -- the key table
   pub testedSoundly : (t : List ℕ) → wellFormed t ≡ true → WellFormed t
   pub testedCompletely : (t : List ℕ) → WellFormed t → wellFormed t ≡ true
@@ -62,6 +75,10 @@ pub record Claims : Type 1 where
   pub malformedUnlisted : (t : List ℕ) → wellFormed t ≡ true → (i : List ℕ) → validIdentity i ≡ false → keyOf t i ≡ none
   -- the worked bytes
   pub worked : BytesWorkedThrough
+  -- the server's choices
+  pub suitesInOrder : SuitesInOrder
+  pub masterHandedOnce : (v : View) (c : Connection) (m secret : List ℕ) → handedOver (c .phase) (messageStep v c m (c .phase)) ≡ some secret
+      → c .phase ≡ Phase.KeyExchange
   -- demand 3
   pub rulesApply : RulesApply
   pub sameness : Sameness

@@ -4,6 +4,7 @@ pub mod Demand3
 pub mod Agreeing
 pub mod Rules
 pub mod Over
+pub mod Suites
 pub mod Worked
 pub mod FromC
 pub mod Claims

@@ -9,11 +9,20 @@ use sha256::Sha256;
 ghost use mathlib.Core.Path.{_≡_};
 ghost use Rattle.refusal.specs.Lent.{Answers};
 ghost use Rattle.sha256.specs.State.{absorb, finished};
-ghost use Rattle.transcript.specs.Transcript.{added};
+ghost use Rattle.transcript.specs.Transcript.{begun, added};
 
 // The running hash of one connection's handshake messages, headers included.
 pub struct Transcript {
     hash: Sha256,
+}
+
+// The transcript of a connection to which no message has come.
+pub fn start() -> Transcript
+    ensures { λ r. ⌜ r ≡ begun ⌝ }
+{
+    Transcript {
+        hash: Sha256::new(),
+    }
 }
 
 // The transcript where it stands, with one more message.
