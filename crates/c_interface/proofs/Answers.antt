@@ -19,9 +19,9 @@ use Rattle.c_interface.specs.Codes.{coded, refusalCode, Codes}
 use Rattle.c_interface.specs.Inner.{count}
 use Rattle.c_interface.proofs.Signed.{handed-on}
 
-pub codes : {wanted : Outcome} {out out' : List ℕ} {said : Written} {result : ℤ} → Answers wanted out said out'
+pub codes-answer : {wanted : Outcome} {out out' : List ℕ} {said : Written} {result : ℤ} → Answers wanted out said out'
     → mag result < 2 ^ 31 → result ≡ coded said → Codes wanted out (toZ w32 (ofZ w32 result)) out'
-codes {result = result} a fits e = record { told = handed-on result fits ∙ e ∙ ap coded (a .told); left = a .left }
+codes-answer {result = result} a fits e = record { told = handed-on result fits ∙ e ∙ ap coded (a .told); left = a .left }
 
 pub refusal-codes : {r : Refusal} {out : List ℕ} {result : ℤ} → mag result < 2 ^ 31 → result ≡ refusalCode r
     → Codes (refuses r) out (toZ w32 (ofZ w32 result)) out
@@ -34,13 +34,14 @@ abbrev pub size : Outcome → ℕ
 size (gives bytes) = length bytes
 size (refuses r) = 0
 
-answered : (room : ℕ) (wanted : Outcome) → count (answer (within room wanted)) ≤ size wanted
-answered room (refuses r) = zero-le
-answered room (gives bytes) = go (leb (length bytes) room)
+answer-count-most : (room : ℕ) (wanted : Outcome) → count (answer (within room wanted)) ≤ size wanted
+answer-count-most room (refuses r) = zero-le
+answer-count-most room (gives bytes) = go (leb (length bytes) room)
   where
     go : (t : Bool) → count (answer (cond t (gives bytes) (refuses ShortOutput))) ≤ length bytes
     go true = omega arith
     go false = zero-le
 
-pub few : {wanted : Outcome} {out out' : List ℕ} {said : Written} → Answers wanted out said out' → size wanted < 2 ^ 31 → count said < 2 ^ 31
-few {wanted} {out} a h = rw (a .told) (let n = answered (length out) wanted in omega arith)
+pub answer-count-small : {wanted : Outcome} {out out' : List ℕ} {said : Written} → Answers wanted out said out' → size wanted < 2 ^ 31
+    → count said < 2 ^ 31
+answer-count-small {wanted} {out} a h = rw (a .told) (let n = answer-count-most (length out) wanted in omega arith)

@@ -30,7 +30,7 @@ use Rattle.c_interface.specs.Codes.{coded}
 use Rattle.c_interface.specs.Connections.{Keeps, Starts, masterAfter}
 use Rattle.c_interface.specs.Inner.{count, readAfter, Kept}
 use Rattle.c_interface.proofs.Signed.{handed-on}
-use Rattle.c_interface.proofs.Answers.{few}
+use Rattle.c_interface.proofs.Answers.{answer-count-small}
 use Rattle.c_interface.proofs.Sizes.{Brief}
 
 -- ---- the connection's bytes
@@ -58,19 +58,19 @@ next-read c step (refuses r) = subst (λ (n : Connection). cond (toClient r) n c
 -- ---- a call
 
 pub step-count : (c : Connection) (out : List ℕ) (step : Step) {said : Written} → said ≡ settled c out step .said → Brief step → count said < 2 ^ 31
-step-count c out step e brief = few {wanted = outcome step} {out = out} (record { told = e; left = refl }) brief
+step-count c out step e small = answer-count-small {wanted = outcome step} {out = out} (record { told = e; left = refl }) small
 
 -- a message's answer is never long, as the server promises
-pub brief : (said : Written) → counted said ≤ longest → count said < 2 ^ 31
-brief (Wrote n) h = omega arith
-brief (Refused r) h = omega arith
+pub flight-count-small : (said : Written) → counted said ≤ longest → count said < 2 ^ 31
+flight-count-small (Wrote n) h = omega arith
+flight-count-small (Refused r) h = omega arith
 
 -- of a step on the connection that was restored
-pub keeps : (bytes out : List ℕ) (step : Connection → Step) {c : Connection} {said : Written} {next : Connection} {bytes' : List ℕ} {result : ℤ}
+pub step-keeps : (bytes out : List ℕ) (step : Connection → Step) {c : Connection} {said : Written} {next : Connection} {bytes' : List ℕ} {result : ℤ}
     → c ≡ restored bytes → said ≡ settled c out (step c) .said → next ≡ settled c out (step c) .next
     → mag result < 2 ^ 31 → result ≡ coded said → Kept said next bytes bytes'
     → Keeps (settled (restored bytes) out (step (restored bytes))) bytes (toZ w32 (ofZ w32 result)) bytes'
-keeps bytes out step {result = result} same e f fits told kept =
+step-keeps bytes out step {result = result} same e f fits told kept =
     let now = restored bytes in
     let said-now = e ∙ ap (λ (x : Connection). settled x out (step x) .said) same in
     let next-now = f ∙ ap (λ (x : Connection). settled x out (step x) .next) same in
@@ -89,9 +89,9 @@ start-count s e = rw e (go (acceptable s))
     go true = omega arith
     go false = omega arith
 
-pub starts : {a wanted : Answer} {bytes bytes' : List ℕ} {result : ℤ} → a ≡ wanted → mag result < 2 ^ 31 → result ≡ coded (a .said)
+pub answer-starts : {a wanted : Answer} {bytes bytes' : List ℕ} {result : ℤ} → a ≡ wanted → mag result < 2 ^ 31 → result ≡ coded (a .said)
     → Kept (a .said) (a .next) bytes bytes' → Starts wanted bytes (toZ w32 (ofZ w32 result)) bytes'
-starts {bytes = bytes} {bytes' = bytes'} {result = result} e fits told kept =
+answer-starts {bytes = bytes} {bytes' = bytes'} {result = result} e fits told kept =
     subst (λ (w : Answer). Starts w bytes (toZ w32 (ofZ w32 result)) bytes') e
     (record { told = handed-on result fits ∙ told; left = kept .left; reads = λ wrote. kept .read ∙ rw wrote })
 

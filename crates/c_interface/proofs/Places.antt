@@ -51,12 +51,12 @@ accepted-length kind m b e =
 -- ---- the parts of a message
 
 -- a part that is there only where a test holds
-tested : (t : Bool) (s n : ℕ) → (t ≡ true → Fits s n) → PartFits (cond t (Part.At s n) Part.Refused)
-tested true s n h = h refl
-tested false s n h = tt
+part-if-fits : (t : Bool) (s n : ℕ) → (t ≡ true → Fits s n) → PartFits (cond t (Part.At s n) Part.Refused)
+part-if-fits true s n h = h refl
+part-if-fits false s n h = tt
 
 last-fits : (m : List ℕ) (at : ℕ) → length m ≤ 16384 → PartFits (lastAt 2 m at)
-last-fits m at size = tested (eqb (endAt 2 m at) (length m)) (at + 2) (stated 2 (drop at m)) (λ t.
+last-fits m at size = part-if-fits (eqb (endAt 2 m at) (length m)) (at + 2) (stated 2 (drop at m)) (λ t.
     let ends : endAt 2 m at ≡ length m = eqb-true (endAt 2 m at) (length m) t in
     record { start-fits = omega arith; len-fits = omega arith })
 
@@ -74,12 +74,13 @@ vector-fits kind m b = behind-header kind m (lastAt 2 m 4) b (last-fits m 4)
 
 pub finished-fits : (m : List ℕ) → Bytes m → PartFits (fixedPlace 20 12 m)
 finished-fits m b =
-    behind-header 20 m (filledBy 12 m) b (λ _. tested (eqb (length m) 16) 4 12 (λ _. record { start-fits = omega arith; len-fits = omega arith }))
+    behind-header 20 m (filledBy 12 m) b
+    (λ _. part-if-fits (eqb (length m) 16) 4 12 (λ _. record { start-fits = omega arith; len-fits = omega arith }))
 
 -- of any length: the ticket's own length field has two bytes
 pub ticket-extension-fits : (d : List ℕ) → Bytes d → PartFits (lastAt 2 d 0)
 ticket-extension-fits d b =
-    tested (eqb (endAt 2 d 0) (length d)) 2 (stated 2 d) (λ _. record { start-fits = omega arith; len-fits = omega (arith, two-bytes d b) })
+    part-if-fits (eqb (endAt 2 d 0) (length d)) 2 (stated 2 d) (λ _. record { start-fits = omega arith; len-fits = omega (arith, two-bytes d b) })
 
 abbrev pub TicketFits : Ticket → Type 0
 TicketFits (Ticket.Read hint s n) = Fits s n

@@ -17,9 +17,9 @@ use Rattle.c_interface.specs.Fields.{partRead, blockFields}
 use Rattle.c_interface.proofs.Signed.{handed-on}
 
 -- a reading that a function handed on
-pub reading : {wanted : Reading} {fields fields' : List ℕ} {result : ℤ} → Reads wanted fields result fields'
+pub reads-reading : {wanted : Reading} {fields fields' : List ℕ} {result : ℤ} → Reads wanted fields result fields'
     → mag result < 2 ^ 31 → Reads wanted fields (toZ w32 (ofZ w32 result)) fields'
-reading {result = result} r fits = record { told = handed-on result fits ∙ r .told; left = r .left }
+reads-reading {result = result} r fits = record { told = handed-on result fits ∙ r .told; left = r .left }
 
 pub refusal-read : (r : Refusal) {fields : List ℕ} {result : ℤ} → mag result < 2 ^ 31 → result ≡ refusalCode r
     → Reads (rejected r) fields (toZ w32 (ofZ w32 result)) fields

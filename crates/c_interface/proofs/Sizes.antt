@@ -42,25 +42,25 @@ abbrev pub Small : Outcome → Type 0
 Small o = size o < 2 ^ 31
 
 -- bytes that are given only where a test holds
-tested : (t : Bool) (bytes : List ℕ) (r : Refusal) → (t ≡ true → length bytes < 2 ^ 31) → Small (cond t (gives bytes) (refuses r))
-tested true bytes r h = h refl
-tested false bytes r h = omega arith
+bytes-if-small : (t : Bool) (bytes : List ℕ) (r : Refusal) → (t ≡ true → length bytes < 2 ^ 31) → Small (cond t (gives bytes) (refuses r))
+bytes-if-small true bytes r h = h refl
+bytes-if-small false bytes r h = omega arith
 
 -- an outcome that is wanted only where a test holds
-allowed : (t : Bool) (o : Outcome) (r : Refusal) → Small o → Small (cond t o (refuses r))
-allowed true o r h = h
-allowed false o r h = omega arith
+outcome-if-small : (t : Bool) (o : Outcome) (r : Refusal) → Small o → Small (cond t o (refuses r))
+outcome-if-small true o r h = h
+outcome-if-small false o r h = omega arith
 
 -- ---- the secrets
 
 pub sha256-small : (m : List ℕ) → Small (sha256 m)
 unfolding sha256
-sha256-small m = tested (leb (length m) limit) (digest m) BadValue (λ _. rw (length-digest m) (omega arith))
+sha256-small m = bytes-if-small (leb (length m) limit) (digest m) BadValue (λ _. rw (length-digest m) (omega arith))
 
 pub hmac-small : (key text : List ℕ) → Small (hmac key text)
 unfolding hmac mac keyed
 hmac-small key text =
-    tested (leb (length text) (limit - 64) && leb (length key) limit) (mac key text) BadValue (λ _. rw (length-digest _) (omega arith))
+    bytes-if-small (leb (length text) (limit - 64) && leb (length key) limit) (mac key text) BadValue (λ _. rw (length-digest _) (omega arith))
 
 expanded-most : (secret seed : List ℕ) (n : ℕ) → length (expanded secret seed n) ≤ n
 unfolding expanded
@@ -69,24 +69,24 @@ expanded-most secret seed n = simp length-take (omega arith)
 pub prf-small : (secret : List ℕ) (label : Label) (seed : List ℕ) (n : ℕ) → Small (prf secret label seed n)
 unfolding prf
 prf-small secret label seed n =
-    tested (leb (length secret) 65536 && leb (length seed) 65536 && leb n 256) (expanded secret (text label ++ seed) n) BadValue (λ ok.
+    bytes-if-small (leb (length secret) 65536 && leb (length seed) 65536 && leb n 256) (expanded secret (text label ++ seed) n) BadValue (λ ok.
     let most : n ≤ 256 = leb-true n 256 (and-eq-true-iff (leb (length secret) 65536 && leb (length seed) 65536) (leb n 256) .0 ok .1) in
     omega (arith, expanded-most secret (text label ++ seed) n))
 
 pub premaster-small : (psk : List ℕ) → Small (premaster psk)
 unfolding premaster
 premaster-small psk =
-    tested (leb 1 (length psk) && leb (length psk) 64) (premasterBytes psk) BadValue (λ ok.
+    bytes-if-small (leb 1 (length psk) && leb (length psk) 64) (premasterBytes psk) BadValue (λ ok.
     let most : length psk ≤ 64 = leb-true (length psk) 64 (and-eq-true-iff (leb 1 (length psk)) (leb (length psk) 64) .0 ok .1) in
     rw (length-premaster psk) (omega arith))
 
 pub master-small : (secret client server : List ℕ) → Small (master secret client server)
-master-small secret client server = allowed (isRandom client && isRandom server) _ BadValue (prf-small secret _ (client ++ server) 48)
+master-small secret client server = outcome-if-small (isRandom client && isRandom server) _ BadValue (prf-small secret _ (client ++ server) 48)
 
 pub keys-small : (secret server client : List ℕ) (suite : ℕ) → Small (keys secret server client suite)
 unfolding keys
 keys-small secret server client suite =
-    allowed (eqb (length secret) 48 && isRandom server && isRandom client && leb 1 (keyBlockLength suite)) _ BadValue
+    outcome-if-small (eqb (length secret) 48 && isRandom server && isRandom client && leb 1 (keyBlockLength suite)) _ BadValue
     (prf-small secret _ (server ++ client) (keyBlockLength suite))
 
 pub key-block-few : (suite : ℕ) → keyBlockLength suite < 2 ^ 31
@@ -100,18 +100,19 @@ key-block-few suite = one (eqb suite 0x00ae) (eqb suite 0x008c) (eqb suite 0x00b
 
 pub verify-small : (side : Side) (secret hash : List ℕ) → Small (verifyData side secret hash)
 unfolding verifyData
-verify-small side secret hash = allowed (eqb (length secret) 48 && eqb (length hash) 32) _ BadValue (prf-small secret (finishedLabel side) hash 12)
+verify-small side secret hash =
+    outcome-if-small (eqb (length secret) 48 && eqb (length hash) 32) _ BadValue (prf-small secret (finishedLabel side) hash 12)
 
 -- ---- the messages
 
 pub written-small : {F : Type 0} (l : Layout F) (f : F) → Small (written l f)
-written-small l f = tested (valid l f) (bytes l f) BadValue (λ ok.
+written-small l f = bytes-if-small (valid l f) (bytes l f) BadValue (λ ok.
     let most : length (bytes l f) ≤ 16384 =
     leb-true (length (bytes l f)) 16384 (and-eq-true-iff (l .rules f) (leb (length (bytes l f)) 16384) .0 ok .1) in
     omega arith)
 
 pub extension-small : (e : Ext) → Small (extensionWritten e)
-extension-small e = tested (ltb (e .kind) 65536 && writable 2 (e .contents)) (extensionBytes e) BadValue (λ ok.
+extension-small e = bytes-if-small (ltb (e .kind) 65536 && writable 2 (e .contents)) (extensionBytes e) BadValue (λ ok.
     let most : length (e .contents) < 65536 =
     ltb-true (length (e .contents)) 65536 (and-eq-true-iff (ltb (e .kind) 65536) (writable 2 (e .contents)) .0 ok .1) in
     omega arith)
@@ -130,9 +131,9 @@ lookup-small table identity = go (keyOf table identity) refl
 abbrev pub Brief : Step → Type 0
 Brief step = Small (outcome step)
 
-either : (t : Bool) (a b : Step) → Brief a → Brief b → Brief (cond t a b)
-either true a b p q = p
-either false a b p q = q
+either-brief : (t : Bool) (a b : Step) → Brief a → Brief b → Brief (cond t a b)
+either-brief true a b p q = p
+either-brief false a b p q = q
 
 pub change-brief : (c : Connection) (p : Phase) → Brief (changeStep c p)
 change-brief c Phase.Hello = omega arith
@@ -144,6 +145,6 @@ change-brief c Phase.Closed = omega arith
 
 pub alert-brief : (c : Connection) (level description : ℕ) → Brief (alertStep c level description)
 alert-brief c level description =
-    either (isOver (c .phase)) (refuse ConnectionOver) _ (omega arith)
-    (either (not (eqb level 1 || eqb level 2)) (refuse IllegalParameter) _ (omega arith)
-    (either (eqb level 2 || eqb description 0) (accept silence (ended Phase.Closed)) (accept silence c) (omega arith) (omega arith)))
+    either-brief (isOver (c .phase)) (refuse ConnectionOver) _ (omega arith)
+    (either-brief (not (eqb level 1 || eqb level 2)) (refuse IllegalParameter) _ (omega arith)
+    (either-brief (eqb level 2 || eqb description 0) (accept silence (ended Phase.Closed)) (accept silence c) (omega arith) (omega arith)))

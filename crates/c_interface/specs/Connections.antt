@@ -20,7 +20,7 @@ use Rattle.server.specs.Message.{messageStep, messageCall, handedOver}
 use Rattle.saved.specs.Saved.{saved, restored}
 use Rattle.c_interface.specs.Codes.{coded}
 
--- the connection's bytes afterwards: "No refusal writes a byte of lent memory; the connection changes only as the last column says"
+-- the connection's bytes afterwards: an R number leaves them as they were, an alert makes them those of the connection that it leads to
 abbrev pub keptAfter : Written → Connection → List ℕ → List ℕ
 keptAfter (Wrote n) next bytes = saved next
 keptAfter (Refused r) next bytes = cond (toClient r) (saved next) bytes

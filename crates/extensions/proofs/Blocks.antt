@@ -24,18 +24,18 @@ use Rattle.layout.proofs.Places.{vector-at, vector-last}
 
 -- ---- how many are asked for does not matter, once they are no fewer than the bytes
 
-enough : (j k : ℕ) (b : List ℕ) → length b ≤ j → length b ≤ k → extensionsUpTo j b ≡ extensionsUpTo k b
-enough zero zero b hj hk = refl
-enough zero (suc k) [] hj hk = refl
-enough zero (suc k) (x ∷ xs) hj hk = absurd (omega arith)
-enough (suc j) zero [] hj hk = refl
-enough (suc j) zero (x ∷ xs) hj hk = absurd (omega arith)
-enough (suc j) (suc k) [] hj hk = refl
-enough (suc j) (suc k) (x ∷ xs) hj hk =
+up-to-enough : (j k : ℕ) (b : List ℕ) → length b ≤ j → length b ≤ k → extensionsUpTo j b ≡ extensionsUpTo k b
+up-to-enough zero zero b hj hk = refl
+up-to-enough zero (suc k) [] hj hk = refl
+up-to-enough zero (suc k) (x ∷ xs) hj hk = absurd (omega arith)
+up-to-enough (suc j) zero [] hj hk = refl
+up-to-enough (suc j) zero (x ∷ xs) hj hk = absurd (omega arith)
+up-to-enough (suc j) (suc k) [] hj hk = refl
+up-to-enough (suc j) (suc k) (x ∷ xs) hj hk =
     let b : List ℕ = x ∷ xs in
     let rest : length (drop (firstEnd b) b) ≤ j = simp length-drop (omega arith) in
     let rest′ : length (drop (firstEnd b) b) ≤ k = simp length-drop (omega arith) in
-    ap (λ (o : Option (List Ext)). cond (leb (firstEnd b) (length b)) (adding (first b) o) none) (enough j k (drop (firstEnd b) b) rest rest′)
+    ap (λ (o : Option (List Ext)). cond (leb (firstEnd b) (length b)) (adding (first b) o) none) (up-to-enough j k (drop (firstEnd b) b) rest rest′)
 
 -- the first, and then the rest
 in-first : (b : List ℕ) → 0 < length b → firstEnd b ≤ length b → extensionsIn b ≡ adding (first b) (extensionsIn (drop (firstEnd b) b))
@@ -44,7 +44,7 @@ in-first (x ∷ xs) h fits =
     let b : List ℕ = x ∷ xs in
     let rest : length (drop (firstEnd b) b) ≤ length xs = simp length-drop (omega arith) in
     rw (le-leb (firstEnd b) (length b) fits)
-    (ap (adding (first b)) (enough (length xs) (length (drop (firstEnd b) b)) (drop (firstEnd b) b) rest (omega arith)))
+    (ap (adding (first b)) (up-to-enough (length xs) (length (drop (firstEnd b) b)) (drop (firstEnd b) b) rest (omega arith)))
 
 in-cut : (b : List ℕ) → 0 < length b → length b < firstEnd b → extensionsIn b ≡ none
 in-cut [] h cut = absurd (omega arith)
@@ -114,13 +114,13 @@ by-step b at Holds end whole cut = elim (decLe (length b) at) [
 ]
 
 -- two answers that are never the same
-pub clash : _≡_ {A = ℕ} 0 1 → ⊥
-clash z = omega arith
+pub zero-not-one : _≡_ {A = ℕ} 0 1 → ⊥
+zero-not-one z = omega arith
 
 -- the steps, from what they answer
 pub step-found : (b : List ℕ) (at t s n : ℕ) → stepAt b at ≡ Extension t s n → Found b at t s n
 step-found b at t s n =
-    by-step b at (λ p. p ≡ Extension t s n → Found b at t s n) (λ over e. absurd (clash (cc e)))
+    by-step b at (λ p. p ≡ Extension t s n → Found b at t s n) (λ over e. absurd (zero-not-one (cc e)))
     (λ more fits e.
     let kind : number (take 2 (drop at b)) ≡ t = cc e in
     let start : at + 4 ≡ s = cc e in
@@ -131,17 +131,17 @@ step-found b at t s n =
       small = λ h. rw (← kind) (kind-small b at h (omega arith));
       left = rw (← kind, ← start, ← size) (step-there b at more fits);
     })
-    (λ more long e. absurd (clash (cc e)))
+    (λ more long e. absurd (zero-not-one (cc e)))
 
 pub step-ended : (b : List ℕ) (at : ℕ) → stepAt b at ≡ End → extensionsIn (drop at b) ≡ some []
 step-ended b at =
-    by-step b at (λ p. p ≡ End → extensionsIn (drop at b) ≡ some []) (λ over e. at-end b at over) (λ more fits e. absurd (clash (cc e)))
-    (λ more long e. absurd (clash (cc e)))
+    by-step b at (λ p. p ≡ End → extensionsIn (drop at b) ≡ some []) (λ over e. at-end b at over) (λ more fits e. absurd (zero-not-one (cc e)))
+    (λ more long e. absurd (zero-not-one (cc e)))
 
 pub step-refused : (b : List ℕ) (at : ℕ) → stepAt b at ≡ Refused → extensionsIn (drop at b) ≡ none
 step-refused b at =
-    by-step b at (λ p. p ≡ Refused → extensionsIn (drop at b) ≡ none) (λ over e. absurd (clash (cc e))) (λ more fits e. absurd (clash (cc e)))
-    (λ more long e. step-cut b at more long)
+    by-step b at (λ p. p ≡ Refused → extensionsIn (drop at b) ≡ none) (λ over e. absurd (zero-not-one (cc e)))
+    (λ more fits e. absurd (zero-not-one (cc e))) (λ more long e. step-cut b at more long)
 
 -- ---- reading what was written, and writing what was read
 
@@ -170,9 +170,9 @@ in-block (e ∷ es) h =
     in-first b (omega arith) (omega arith) ∙ ap₂ adding named (ap extensionsIn rest ∙ in-block es (ok .1))
 
 -- an extension was added to what there was
-added : (e : Ext) (o : Option (List Ext)) (es : List Ext) → adding e o ≡ some es → (rest : List Ext) × (o ≡ some rest) × (es ≡ e ∷ rest)
-added e none es h = absurd (Option·none-ne-some es h)
-added e (some rest) es h = (rest, refl, cc)
+adding-gives : (e : Ext) (o : Option (List Ext)) (es : List Ext) → adding e o ≡ some es → (rest : List Ext) × (o ≡ some rest) × (es ≡ e ∷ rest)
+adding-gives e none es h = absurd (Option·none-ne-some es h)
+adding-gives e (some rest) es h = (rest, refl, cc)
 
 -- the first extension of bytes is one that can be written, and they begin with it
 first-is : (b : List ℕ) → Bytes b → firstEnd b ≤ length b → (b ≡ extensionBytes (first b) ++ drop (firstEnd b) b) × (writableExt (first b) ≡ true)
@@ -197,7 +197,7 @@ block-first b o es h written e = go (decLe (firstEnd b) (length b))
   where
     go : Dec (firstEnd b ≤ length b) → Written b es
     go (yes fits) =
-        let parts = added (first b) o es (rw (le-leb (firstEnd b) (length b) fits) at e) in
+        let parts = adding-gives (first b) o es (rw (le-leb (firstEnd b) (length b) fits) at e) in
         let own = first-is b h fits in
         let rest = written (parts .0) (parts .1) in (
           own .0 ∙ ap (λ (l : List ℕ). extensionBytes (first b) ++ l) (rest .0) ∙ ap blockBytes (sym (parts .2)),

@@ -20,7 +20,7 @@ use Rattle.extensions.specs.declared.Pass.the-variants.{Holds, Fails}
 use Rattle.extensions.specs.Extensions.{Ext, adding, extensionsIn, member, distinct, kinds, ticketShape, allShaped, rules, ruled}
 use Rattle.extensions.specs.Parts.{inPart, nearer, nearestOf, passOver}
 use Rattle.extensions.proofs.Bits.{set-same, set-other}
-use Rattle.extensions.proofs.Blocks.{writableExt, allWritable, block-in, clash}
+use Rattle.extensions.proofs.Blocks.{writableExt, allWritable, block-in, zero-not-one}
 
 -- the bit of a type, and the words with that bit set
 abbrev bitOf : List ℕ → ℕ → ℕ
@@ -63,14 +63,14 @@ bit-kept words p t u l ht hu free apart = elim (ℕ-discrete (u / 64 % 128) (t /
 
 -- ---- two laws of tests
 
-swap : (a b c : Bool) → (a && (b && c)) ≡ (b && (a && c))
-swap true b c = refl
-swap false true c = refl
-swap false false c = refl
+and-swap : (a b c : Bool) → (a && (b && c)) ≡ (b && (a && c))
+and-swap true b c = refl
+and-swap false true c = refl
+and-swap false false c = refl
 
-regroup : (n b c d : Bool) → ((n && b) && (c && d)) ≡ (b && ((n && c) && d))
-regroup true b c d = refl
-regroup false b c d = sym (and-false b)
+and-regroup : (n b c d : Bool) → ((n && b) && (c && d)) ≡ (b && ((n && c) && d))
+and-regroup true b c d = refl
+and-regroup false b c d = sym (and-false b)
 
 -- ---- one pass
 
@@ -98,7 +98,7 @@ clear-set words p t (e ∷ es) l h free =
     clear-next (yes hu) (yes f) ih = rw (eq-eqb (e .kind / 8192) p hu, ← f, bit-set words t l free, eq-eqb t t refl)
     clear-next (yes hu) (no f) ih =
         rw (eq-eqb (e .kind / 8192) p hu, bit-kept words p t (e .kind) l h hu free f, ne-eqb t (e .kind) f, ih)
-        (swap (eqb (bitOf words (e .kind)) 0) (not (member t (kinds (inPart p es)))) (clear words (kinds (inPart p es))))
+        (and-swap (eqb (bitOf words (e .kind)) 0) (not (member t (kinds (inPart p es)))) (clear words (kinds (inPart p es))))
 
 -- a part is not nearer to itself
 nearer-own : (p q n : ℕ) → q ≡ p → nearer p q n ≡ n
@@ -129,17 +129,17 @@ pass-is words n client p (e ∷ es) l =
         rw (eq-eqb (e .kind / 8192) p h, eq-eqb (bitOf words (e .kind)) 0 free, shape, nearer-own p (e .kind / 8192) n h)
         (after ∙ ap (λ (t : Bool). cond t (Holds (nearestOf p n es)) Fails)
         (ap (λ (t : Bool). t && rules client (inPart p es)) (clear-set words p (e .kind) es l h free)
-        ∙ regroup (not (member (e .kind) ks)) (clear words ks) (distinct ks) (allShaped client (inPart p es))))
+        ∙ and-regroup (not (member (e .kind) ks)) (clear words ks) (distinct ks) (allShaped client (inPart p es))))
 
 -- an array that nothing was stored to
-untouched : (n i : ℕ) → getD {A = ℕ} (replicate n 0) i 0 ≡ 0
-untouched zero i = refl
-untouched (suc n) zero = refl
-untouched (suc n) (suc i) = untouched n i
+zeros-read-zero : (n i : ℕ) → getD {A = ℕ} (replicate n 0) i 0 ≡ 0
+zeros-read-zero zero i = refl
+zeros-read-zero (suc n) zero = refl
+zeros-read-zero (suc n) (suc i) = zeros-read-zero n i
 
 all-clear : (ts : List ℕ) → clear (replicate 128 0) ts ≡ true
 all-clear [] = refl
-all-clear (t ∷ ts) = rw (untouched 128 (t / 64 % 128), zero-div (2 ^ (t % 64)), all-clear ts)
+all-clear (t ∷ ts) = rw (zeros-read-zero 128 (t / 64 % 128), zero-div (2 ^ (t % 64)), all-clear ts)
 
 -- the same over the extensions of a block
 abbrev pub passIn : List ℕ → ℕ → Bool → ℕ → Option (List Ext) → Pass
@@ -276,11 +276,11 @@ pub record Passed (client : Bool) (p n : ℕ) (o : Option (List Ext)) : Type 0 w
   pub holds : (q : ℕ) → p ≤ q → q < n → partRuled client q o ≡ true
 
 pub pass-holds : (client : Bool) (p n : ℕ) (o : Option (List Ext)) → p < 8 → passOver client p o ≡ Holds n → Passed client p n o
-pass-holds client p n none h e = absurd (clash (cc e))
+pass-holds client p n none h e = absurd (zero-not-one (cc e))
 pass-holds client p n (some es) h e = judged (rules client (inPart p es)) refl e
   where
     judged : (t : Bool) → rules client (inPart p es) ≡ t → cond t (Holds (nearestOf p 8 es)) Fails ≡ Holds n → Passed client p n (some es)
-    judged false own f = absurd (clash (cc f))
+    judged false own f = absurd (zero-not-one (cc f))
     judged true own f =
         let nearest : nearestOf p 8 es ≡ n = cc f in
         record {
@@ -298,7 +298,7 @@ pass-fails client p (some es) e = judged (rules client es) refl
   where
     judged : (t : Bool) → rules client es ≡ t → t ≡ false
     judged false own = refl
-    judged true own = absurd (clash (cc (e, part-ruled client p es own)))
+    judged true own = absurd (zero-not-one (cc (e, part-ruled client p es own)))
 
 pub parts-ruled : (client : Bool) (b : List ℕ) (o : Option (List Ext)) → Bytes b → extensionsIn b ≡ o
     → ((p : ℕ) → p < 8 → partRuled client p o ≡ true) → ruled client o ≡ true

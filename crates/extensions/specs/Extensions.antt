@@ -30,7 +30,7 @@ blockBytes (e ∷ es) = extensionBytes e ++ blockBytes es
 abbrev pub extensionWritten : Ext → Outcome
 extensionWritten e = cond (ltb (e .kind) 65536 && writable 2 (e .contents)) (gives (extensionBytes e)) (refuses BadValue)
 
--- SessionTicket, 35: "its data is a ticket vector with its own 2-byte length"
+-- SessionTicket, 35: its data is the ticket as a vector of its own, with a 2-byte length
 abbrev pub ticketExtension : List ℕ → Ext
 ticketExtension ticket = record { kind = 35; contents = vector 2 ticket }
 

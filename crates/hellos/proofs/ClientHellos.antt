@@ -138,8 +138,8 @@ at-least-45 f h =
 
 -- ---- reading what was written
 
-reads : (f : ClientHello) → valid clientHello f ≡ true → readClientHello (bytes clientHello f) ≡ some f
-reads f h =
+client-reads : (f : ClientHello) → valid clientHello f ≡ true → readClientHello (bytes clientHello f) ≡ some f
+client-reads f h =
     let m : List ℕ = bytes clientHello f in
     let n : ℕ = length (f .sessionId) in
     let k : ℕ = length (f .suites) in
@@ -214,6 +214,6 @@ module _ (m : List ℕ) (f : ClientHello) (b : Bytes m) where
 
 pub client-inverse : Inverse clientHello readClientHello
 client-inverse = record {
-  reads-written = reads;
+  reads-written = client-reads;
   writes-read = λ m f b. by-header m (Writes m f b) (λ e. absurd (Option·none-ne-some f e)) (writes m f b);
 }

@@ -27,7 +27,7 @@ use Rattle.layout.specs.Types.{messageLimit}
 use Rattle.layout.specs.Layout.{Layout, message, written}
 use Rattle.hellos.specs.Hello.{frontRules, frontBytes, sessionAt, blockRules, tailBytes, blockIn, blockAt, blockContents, given, between}
 use Rattle.layout.proofs.Places.{part-there, ruled-there, last-there, vector-at, vector-last, part-written}
-use Rattle.layout.proofs.Puts.{front, behind}
+use Rattle.layout.proofs.Puts.{front, copy-behind-front}
 
 pub front-rules : (version : ℕ) (random id : List ℕ) → frontRules version random id ≡ true
     → (version < 65536) × (length random ≡ 32) × (length id ≤ 32)
@@ -147,7 +147,7 @@ pub front-put : (kind size version : ℕ) (random id out left : List ℕ) → le
     → left ≡ paste out 0 (fronted kind size version random id) (39 + length id) → left ≡ front (fronted kind size version random id) out
 front-put kind size version random id out left h e =
     e ∙ ap (paste out 0 (fronted kind size version random id)) (sym (length-front kind size version random id h))
-    ∙ behind [] (fronted kind size version random id) out out 0 refl refl
+    ∙ copy-behind-front [] (fronted kind size version random id) out out 0 refl refl
 
 -- the block takes at most two bytes more than its contents
 pub tail-bound : (present : Bool) (b : List ℕ) → length (tailBytes (given present b)) ≤ 2 + length b

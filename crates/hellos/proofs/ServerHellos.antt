@@ -66,8 +66,8 @@ module _ (m : List ℕ) (Holds : Server → Type 0) (refused : Holds Server.Refu
 
 -- ---- reading what was written
 
-reads : (f : ServerHello) → valid serverHello f ≡ true → readServerHello (bytes serverHello f) ≡ some f
-reads f h =
+server-reads : (f : ServerHello) → valid serverHello f ≡ true → readServerHello (bytes serverHello f) ≡ some f
+server-reads f h =
     let m : List ℕ = bytes serverHello f in
     let ok = valid-parts serverHello f h in
     let two = and-eq-true-iff (frontRules (f .version) (f .random) (f .sessionId))
@@ -155,6 +155,6 @@ module _ (m : List ℕ) (f : ServerHello) (b : Bytes m) where
 
 pub server-inverse : Inverse serverHello readServerHello
 server-inverse = record {
-  reads-written = reads;
+  reads-written = server-reads;
   writes-read = λ m f b. by-header m (Writes m f b) (λ e. absurd (Option·none-ne-some f e)) (writes m f b);
 }

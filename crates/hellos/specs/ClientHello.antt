@@ -27,11 +27,11 @@ pub record ClientHello : Type 0 where
   pub methods : List ℕ
   pub extensions : Option (List ℕ)
 
--- "suites with 2-byte length, even and at least 2"
+-- the suites, two bytes each: at least one
 abbrev pub suitesLength : ℕ → Bool
 suitesLength n = leb 2 n && eqb (n % 2) 0
 
--- "compression methods with 1-byte length, at least 1"
+-- the compression methods, one byte each: at least one
 abbrev pub methodsLength : ℕ → Bool
 methodsLength n = leb 1 n
 

@@ -1,5 +1,5 @@
 -- What the two hellos share (RFC 5246, sections 7.4.1.2 and 7.4.1.3): version, random and session id in front, the extension block at the end.
--- "An absent block and an empty block are different messages and stay so."
+-- An absent block and an empty one are two messages, in reading and in writing.
 use Prim.Native.Nat.{ℕ}
 use mathlib.Core.Bool.{Bool, true, _&&_, cond}
 use mathlib.Core.List.{List, [], _++_}

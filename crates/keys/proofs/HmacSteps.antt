@@ -11,7 +11,7 @@ use lib.Bits.{bitXor}
 use borrow.Author.Tests.{le-leb, lt-leb}
 use Rattle.refusal.specs.Lent.{Answers}
 use Rattle.refusal.specs.declared.Written.{Written}
-use Rattle.refusal.proofs.Laws.{whole}
+use Rattle.refusal.proofs.Laws.{answer-fills}
 use Rattle.sha256.specs.declared.Sha256.{Sha256}
 use Rattle.sha256.specs.Hash.{digest, limit}
 use Rattle.sha256.specs.State.{absorb, fresh, finished}
@@ -40,7 +40,7 @@ next-xored block padded i pad h k e =
 -- a finished hash wrote the digest of what it absorbed
 pub digest-of : (s : Sha256) (m : List ℕ) {out out' : List ℕ} {said : Written} → s ≡ absorb fresh m → length m ≤ limit → length out ≡ 32
     → Answers (finished s) out said out' → out' ≡ digest m
-digest-of s m e h l answered = whole (rw (finished-within s m e h) at answered) (length-digest m ∙ rw l)
+digest-of s m e h l answered = answer-fills (rw (finished-within s m e h) at answered) (length-digest m ∙ rw l)
 
 length-xored : (block : List ℕ) (pad : ℕ) → length (xored block pad) ≡ length block
 length-xored block pad = length-map block (λ (byte : ℕ). bitXor byte pad)

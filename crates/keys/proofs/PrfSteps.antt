@@ -38,10 +38,10 @@ next-part secret seed buffer next part i e made put =
     rw (same, put, e, made, add-one i)
 
 -- when there is enough, what is too much is left out
-pub enough : (secret seed buffer : List ℕ) (i n : ℕ) → n ≤ 32 * i → 32 * i < n + 32 → take (32 * i) buffer ≡ P secret seed i
+pub blocks-enough : (secret seed buffer : List ℕ) (i n : ℕ) → n ≤ 32 * i → 32 * i < n + 32 → take (32 * i) buffer ≡ P secret seed i
     → take n buffer ≡ expanded secret seed n
 unfolding expanded
-enough secret seed buffer i n h k e =
+blocks-enough secret seed buffer i n h k e =
     let parts : (n + 31) / 32 ≡ i = omega arith in
     rw (parts, ← e, take-take n (32 * i) buffer h)
 

@@ -59,10 +59,10 @@ identities-of-lines (l ∷ ls) h =
 -- ---- tables
 
 -- the five parts of the test
-pub tested : (t : List ℕ) → wellFormed t ≡ true → (leb (length t) 65536 ≡ true) × (ended t ≡ true) × (leb (length (lines t)) 256 ≡ true)
+pub well-formed-tests : (t : List ℕ) → wellFormed t ≡ true → (leb (length t) 65536 ≡ true) × (ended t ≡ true) × (leb (length (lines t)) 256 ≡ true)
     × (each validLine (lines t) ≡ true) × (distinct same (map identityOf (lines t)) ≡ true)
 unfolding wellFormed
-tested t h =
+well-formed-tests t h =
     let size = leb (length t) 65536 in
     let few = leb (length (lines t)) 256 in
     let all = each validLine (lines t) in
@@ -78,7 +78,7 @@ tested t h =
 
 pub sound : (t : List ℕ) → wellFormed t ≡ true → WellFormed t
 sound t h =
-    let (size, end, few, good, other) = tested t h in
+    let (size, end, few, good, other) = well-formed-tests t h in
     record {
       lines = map parted (lines t);
       is = sym (text-lines t end good);

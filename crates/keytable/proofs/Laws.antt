@@ -18,7 +18,7 @@ use Rattle.lists.proofs.Distinct.{distinct-middle}
 use Rattle.keytable.proofs.Texts.{Without, upto-append, past-append, lines-end, parted, lineOf, valid-parted, text-cons, ended-text}
 use Rattle.keytable.proofs.Texts.{digit-no-colon, identity-no-colon, hex-no-colon, line-no-end}
 use Rattle.keytable.proofs.Lines.{lines-cons}
-use Rattle.keytable.proofs.Agreement.{identities-sound, line-sound, tested}
+use Rattle.keytable.proofs.Agreement.{identities-sound, line-sound, well-formed-tests}
 use Rattle.keytable.proofs.Lookups.{own-text, other-text, key-is}
 
 -- ---- lists of lines
@@ -68,7 +68,7 @@ module _ (identity t t' : List ℕ) (r : LineRemoved identity t t') (h : wellFor
   lines-second = ap lines (r .second) ∙ lines-append (r .front) (r .back) (r .starts)
 
   all-valid : each validLine (lines (r .front) ++ (removed ∷ lines (r .back))) ≡ true
-  all-valid = ap (each validLine) (sym lines-first) ∙ tested t h .3
+  all-valid = ap (each validLine) (sym lines-first) ∙ well-formed-tests t h .3
 
   identity-is : identityOf removed ≡ identity
   identity-is = upto-append colon identity (r .hex) (r .one-colon)
@@ -79,7 +79,7 @@ module _ (identity t t' : List ℕ) (r : LineRemoved identity t t') (h : wellFor
   others : Each (λ x. ¬ (identity ≡ x)) (map identityOf (lines (r .front))) × Each (λ x. ¬ (identity ≡ x)) (map identityOf (lines (r .back)))
   others =
       distinct-middle (map identityOf (lines (r .front))) identity (map identityOf (lines (r .back)))
-      (rw (← identities) (identities-sound (map identityOf (lines t)) (tested t h .4)))
+      (rw (← identities) (identities-sound (map identityOf (lines t)) (well-formed-tests t h .4)))
     where
       identities : map identityOf (lines t) ≡ map identityOf (lines (r .front)) ++ (identity ∷ map identityOf (lines (r .back)))
       identities =

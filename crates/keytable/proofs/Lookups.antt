@@ -98,8 +98,8 @@ listed-found i k (l ∷ ls) v d (inr m) =
     rw (same-not i (l .identity) (listed-other (l .identity) i k ls m (d .0))) (listed-found i k ls (v .1) (d .1) m)
 
 -- on a well-formed table lookup gives a key exactly where a line has it
-pub exactly : (t : List ℕ) (w : WellFormed t) (i k : List ℕ) → (keyOf t i ≡ some k) ↔ Listed i k (w .lines)
-exactly t w i k = (
+pub lookup-exact : (t : List ℕ) (w : WellFormed t) (i k : List ℕ) → (keyOf t i ≡ some k) ↔ Listed i k (w .lines)
+lookup-exact t w i k = (
   λ e. found-listed i k (w .lines) (w .valid) (sym (key-of-lines t w i) ∙ e),
   λ m. key-of-lines t w i ∙ listed-found i k (w .lines) (w .valid) (w .distinct) m,
 )
@@ -117,7 +117,7 @@ malformed-unlisted t h i bad = go (keyOf t i) refl
     go none e = e
     go (some k) e =
         let w = sound t h in
-        absurd (true≢false (sym (listed-valid i k (w .lines) (w .valid) (exactly t w i k .0 e)) ∙ bad))
+        absurd (true≢false (sym (listed-valid i k (w .lines) (w .valid) (lookup-exact t w i k .0 e)) ∙ bad))
 
 -- every key of every table has 1 to 64 bytes
 pub key-size : (t i k : List ℕ) → keyOf t i ≡ some k → (1 ≤ length k) × (length k ≤ 64)

@@ -65,7 +65,7 @@ abbrev pub Listed : List ℕ → List ℕ → List Line → Type 0
 Listed identity key [] = ⊥
 Listed identity key (l ∷ ls) = ((identity ≡ l .identity) × (key ≡ decoded (l .hex))) ⊎ Listed identity key ls
 
--- Demand 3: the second table is the first "without one identity's line". The line is a whole one: it starts the table or
+-- Demand 3: the second table is the first with one identity's line taken out. The line is a whole one: it starts the table or
 -- follows a 0A, and has none but its last; and the identity is what stands before its colon.
 pub record LineRemoved (identity t t' : List ℕ) : Type 0 where
   pub front : List ℕ

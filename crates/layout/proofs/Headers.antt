@@ -32,20 +32,20 @@ header-message kind body h =
     )
 
 -- a test that led to `Accepted` held
-passed : (t : Bool) (v : Verdict) (r : Refusal) → cond t v (Refused r) ≡ Accepted → (t ≡ true) × (v ≡ Accepted)
-passed true v r e = (refl, e)
-passed false v r e = absurd (let z : _≡_ {A = ℕ} 0 1 = cc in omega arith)
+accepted-if : (t : Bool) (v : Verdict) (r : Refusal) → cond t v (Refused r) ≡ Accepted → (t ≡ true) × (v ≡ Accepted)
+accepted-if true v r e = (refl, e)
+accepted-if false v r e = absurd (let z : _≡_ {A = ℕ} 0 1 = cc in omega arith)
 
-failed : (t : Bool) (v : Verdict) (r : Refusal) → cond t (Refused r) v ≡ Accepted → (t ≡ false) × (v ≡ Accepted)
-failed true v r e = absurd (let z : _≡_ {A = ℕ} 0 1 = cc in omega arith)
-failed false v r e = (refl, e)
+accepted-unless : (t : Bool) (v : Verdict) (r : Refusal) → cond t (Refused r) v ≡ Accepted → (t ≡ false) × (v ≡ Accepted)
+accepted-unless true v r e = absurd (let z : _≡_ {A = ℕ} 0 1 = cc in omega arith)
+accepted-unless false v r e = (refl, e)
 
 pub header-read : (kind : ℕ) (m : List ℕ) → Bytes m → header kind m ≡ Accepted → (m ≡ message kind (drop 4 m)) × (length (drop 4 m) ≤ 16380)
 header-read kind m b e =
-    let t1 = failed (ltb (length m) 4) _ _ e in
-    let t2 = passed (eqb (getD m 0 0) kind) _ _ (t1 .1) in
-    let t3 = passed (eqb (stated 3 (drop 1 m)) (length m - 4)) _ _ (t2 .1) in
-    let t4 = passed (leb (length m) 16384) _ _ (t3 .1) in
+    let t1 = accepted-unless (ltb (length m) 4) _ _ e in
+    let t2 = accepted-if (eqb (getD m 0 0) kind) _ _ (t1 .1) in
+    let t3 = accepted-if (eqb (stated 3 (drop 1 m)) (length m - 4)) _ _ (t2 .1) in
+    let t4 = accepted-if (leb (length m) 16384) _ _ (t3 .1) in
     let four : 4 ≤ length m = ltb-false (length m) 4 (t1 .0) in
     let states : stated 3 (drop 1 m) ≡ length m - 4 = eqb-true _ _ (t3 .0) in
     let within : length m ≤ 16384 = leb-true _ _ (t4 .0) in

@@ -12,7 +12,7 @@ use Rattle.refusal.specs.declared.Refusal.the-variants.{BadValue}
 use Rattle.refusal.specs.declared.Written.{Written}
 use Rattle.refusal.specs.declared.Written.the-variants.{Refused}
 use Rattle.refusal.specs.Lent.{gives, Answers}
-use Rattle.refusal.proofs.Laws.{refused, front}
+use Rattle.refusal.proofs.Laws.{refuses-answers, answer-in-front}
 use Rattle.layout.specs.Layout.{Layout, bytes, valid, written}
 
 module _ {F : Type 0} (l : Layout F) (f : F) where
@@ -37,11 +37,11 @@ module _ {F : Type 0} (l : Layout F) (f : F) where
   writes out left said h a = rw h a
 
   pub writes-none : (out : List ℕ) → valid l f ≡ false → Answers (written l f) out (Refused BadValue) out
-  writes-none out h = rw h (refused BadValue out)
+  writes-none out h = rw h (refuses-answers BadValue out)
 
   -- ---- for a caller
 
   -- a valid message that has room stands at the front of the output
   pub at-front : {out left : List ℕ} {said : Written} → valid l f ≡ true → length (bytes l f) ≤ length out → Answers (written l f) out said left
       → left ≡ bytes l f ++ drop (length (bytes l f)) out
-  at-front h room a = front (rw h at a) room
+  at-front h room a = answer-in-front (rw h at a) room

@@ -9,7 +9,7 @@ use lib.ListN.{length, take, drop, length-append, length-drop, drop-of-length-le
 use lib.Seq.{paste, take-append-seam, drop-append-add, take-length, drop-drop, take-all, take-paste, drop-paste}
 use Rattle.refusal.specs.declared.Written.the-variants.{Wrote}
 use Rattle.refusal.specs.Lent.{gives, Answers}
-use Rattle.refusal.proofs.Laws.{gave}
+use Rattle.refusal.proofs.Laws.{gives-answers}
 
 -- a copy into the output from `place` on, as the loan of that part of it comes back
 pub lent-part : (out part back : List ℕ) (place : ℕ)
@@ -42,21 +42,22 @@ abbrev pub front : List ℕ → List ℕ → List ℕ
 front bs out = bs ++ drop (length bs) out
 
 -- what a copy to the front leaves
-pub copied : (part out back : List ℕ) → back ≡ take (length part) part ++ drop (length part) out → back ≡ front part out
-copied part out back e = e ∙ rw take-length
+pub copy-in-front : (part out back : List ℕ) → back ≡ take (length part) part ++ drop (length part) out → back ≡ front part out
+copy-in-front part out back e = e ∙ rw take-length
 
 -- a part that goes behind what is there
-pub behind : (bs part out before : List ℕ) (place : ℕ) → before ≡ front bs out → place ≡ length bs
+pub copy-behind-front : (bs part out before : List ℕ) (place : ℕ) → before ≡ front bs out → place ≡ length bs
     → paste before place part (length part) ≡ front (bs ++ part) out
-behind bs part out before place e p =
+copy-behind-front bs part out before place e p =
     rw (e, p, take-append-seam, take-length, drop-append-add, drop-drop, length-append)
 
 -- the same where the loan of what is left comes back with the part at its front
 pub put-behind : (bs part out mid back : List ℕ) (place : ℕ) → mid ≡ front bs out → place ≡ length bs
     → back ≡ front part (take (length mid - place) (drop place mid))
     → take place mid ++ (back ++ drop (length mid - place) (drop place mid)) ≡ front (bs ++ part) out
-put-behind bs part out mid back place e p b = lent-part mid part back place (b ∙ rw take-length) ∙ behind bs part out mid place e p
+put-behind bs part out mid back place e p b = lent-part mid part back place (b ∙ rw take-length) ∙ copy-behind-front bs part out mid place e p
 
 -- the answer after the last part
-pub wrote : (bs out left : List ℕ) (n : ℕ) → length bs ≤ length out → left ≡ front bs out → n ≡ length bs → Answers (gives bs) out (Wrote n) left
-wrote bs out left n room e l = rw (e, l) (gave bs out room)
+pub front-answers : (bs out left : List ℕ) (n : ℕ) → length bs ≤ length out → left ≡ front bs out → n ≡ length bs
+    → Answers (gives bs) out (Wrote n) left
+front-answers bs out left n room e l = rw (e, l) (gives-answers bs out room)

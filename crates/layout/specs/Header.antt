@@ -10,7 +10,8 @@ use Rattle.layout.specs.declared.Verdict.{Verdict}
 use Rattle.layout.specs.declared.Verdict.the-variants.{Accepted, Refused}
 use Rattle.layout.specs.Types.{messageLimit}
 
--- "fewer than 4 bytes 50; type not the one awaited 10; three-byte length not equal to the rest 50; whole message over 16,384 bytes 50"
+-- The tests on a header, in order: under 4 bytes is 50, a type other than the awaited one 10, a length that is not that of the rest 50, and a message
+-- over the limit 50.
 abbrev pub header : ℕ → List ℕ → Verdict
 header kind m =
     cond (ltb (length m) 4) (Refused DecodeError)

@@ -18,7 +18,7 @@ pub record Layout (F : Type 0) : Type 0 where
   pub rules : F → Bool
   pub body : F → List ℕ
 
--- "type (1 byte), body length (3 bytes, big-endian)"
+-- a type in one byte, the length of the body in three, and the body
 abbrev pub message : ℕ → List ℕ → List ℕ
 message kind body = kind ∷ vector 3 body
 

@@ -23,7 +23,7 @@ abbrev pub ruled : (ℕ → Bool) → Part → Part
 ruled rule (At start len) = cond (rule len) (At start len) Refused
 ruled rule Refused = Refused
 
--- the vector that starts at `at` and fills the rest of m: "A body must be filled exactly"
+-- the vector that starts at `at` and fills the rest of m, no byte being left over
 abbrev pub lastAt : ℕ → List ℕ → ℕ → Part
 lastAt w m at = cond (eqb (endAt w m at) (length m)) (At (at + w) (stated w (drop at m))) Refused
 
@@ -31,7 +31,7 @@ lastAt w m at = cond (eqb (endAt w m at) (length m)) (At (at + w) (stated w (dro
 abbrev pub filledBy : ℕ → List ℕ → Part
 filledBy n m = cond (eqb (length m) (4 + n)) (At 4 n) Refused
 
--- "A layout reader used alone refuses only with 50, another message's type included"
+-- a reader that is used alone refuses with 50 and nothing else, the type of another message included
 abbrev pub afterHeader : Verdict → Part → Part
 afterHeader Verdict.Accepted p = p
 afterHeader (Verdict.Refused r) p = Refused

@@ -22,6 +22,6 @@ clientKeyExchangeType = 16
 abbrev pub finishedType : ℕ
 finishedType = 20
 
--- "whole message over 16,384 bytes" (house), for reading and for writing
+-- the most bytes of a message, header included, to read and to write (the house's limit)
 abbrev pub messageLimit : ℕ
 messageLimit = 16384

@@ -31,9 +31,9 @@ copied-behind whole src last at h copied =
     (take-at (take at whole ++ src) (drop (at + length src) whole) (at + length src) size)
 
 -- a part that was put behind a known front, as the next part finds them
-pub behind : {front bytes : List ℕ} (whole added next : List ℕ) (at n : ℕ) → take (at + length added) next ≡ take at whole ++ added
+pub copy-behind : {front bytes : List ℕ} (whole added next : List ℕ) (at n : ℕ) → take (at + length added) next ≡ take at whole ++ added
     → take at whole ≡ front → added ≡ bytes → length bytes ≡ n → take (at + n) next ≡ front ++ bytes
-behind whole added next at n appended before same size = rw (same, before, size) at appended
+copy-behind whole added next at n appended before same size = rw (same, before, size) at appended
 
 -- ---- a copy into an array
 

@@ -28,7 +28,7 @@ vectorPlace kind m = afterHeader (header kind m) (lastAt 2 m 4)
 abbrev pub readVector : ℕ → List ℕ → Option (List ℕ)
 readVector kind m = contents m (vectorPlace kind m)
 
--- "For a refused message the part is empty"
+-- of a message that is refused no byte
 abbrev pub orEmpty : Option (List ℕ) → List ℕ
 orEmpty none = []
 orEmpty (some xs) = xs

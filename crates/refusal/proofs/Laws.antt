@@ -26,30 +26,31 @@ refused-wrote e = let z : _≡_ {A = ℕ} 0 1 = cc in omega arith
 
 -- ---- for a writer
 
-pub gave : (bytes out : List ℕ) → length bytes ≤ length out → Answers (gives bytes) out (Wrote (length bytes)) (bytes ++ drop (length bytes) out)
-gave bytes out h = record { told = simp (le-leb _ _ h); left = simp (le-leb _ _ h) }
+pub gives-answers : (bytes out : List ℕ) → length bytes ≤ length out
+    → Answers (gives bytes) out (Wrote (length bytes)) (bytes ++ drop (length bytes) out)
+gives-answers bytes out h = record { told = simp (le-leb _ _ h); left = simp (le-leb _ _ h) }
 
-pub short : (bytes out : List ℕ) → length out < length bytes → Answers (gives bytes) out (Refused ShortOutput) out
-short bytes out h = record { told = simp (lt-leb _ _ h); left = simp (lt-leb _ _ h) }
+pub short-answers : (bytes out : List ℕ) → length out < length bytes → Answers (gives bytes) out (Refused ShortOutput) out
+short-answers bytes out h = record { told = simp (lt-leb _ _ h); left = simp (lt-leb _ _ h) }
 
-pub refused : (r : Refusal) (out : List ℕ) → Answers (refuses r) out (Refused r) out
-refused r out = record { told = refl; left = refl }
+pub refuses-answers : (r : Refusal) (out : List ℕ) → Answers (refuses r) out (Refused r) out
+refuses-answers r out = record { told = refl; left = refl }
 
 -- ---- for a caller
 
 -- an answer that has room stands at the front, and the rest is as it was
-pub front : {bytes out out' : List ℕ} {said : Written} → Answers (gives bytes) out said out' → length bytes ≤ length out
+pub answer-in-front : {bytes out out' : List ℕ} {said : Written} → Answers (gives bytes) out said out' → length bytes ≤ length out
     → out' ≡ bytes ++ drop (length bytes) out
-front a h = a .left ∙ simp (le-leb _ _ h)
+answer-in-front a h = a .left ∙ simp (le-leb _ _ h)
 
 -- an answer as long as the memory is all of it
-pub whole : {bytes out out' : List ℕ} {said : Written} → Answers (gives bytes) out said out' → length bytes ≡ length out → out' ≡ bytes
-whole {bytes} {out} a e = front a (omega arith) ∙ rw (drop-of-length-le out {i = length bytes} (omega arith), append-nil bytes)
+pub answer-fills : {bytes out out' : List ℕ} {said : Written} → Answers (gives bytes) out said out' → length bytes ≡ length out → out' ≡ bytes
+answer-fills {bytes} {out} a e = answer-in-front a (omega arith) ∙ rw (drop-of-length-le out {i = length bytes} (omega arith), append-nil bytes)
 
 -- it can be read there
-pub first : {bytes out out' : List ℕ} {said : Written} → Answers (gives bytes) out said out' → length bytes ≤ length out
+pub answer-first : {bytes out out' : List ℕ} {said : Written} → Answers (gives bytes) out said out' → length bytes ≤ length out
     → take (length bytes) out' ≡ bytes
-first {bytes} a h = rw (front a h) (take-append-seam bytes _)
+answer-first {bytes} a h = rw (answer-in-front a h) (take-append-seam bytes _)
 
 -- bytes were written: all that there were
 pub wrote-all : {bytes out out' : List ℕ} {said : Written} {n : ℕ} → Answers (gives bytes) out said out' → said ≡ Wrote n
@@ -57,7 +58,7 @@ pub wrote-all : {bytes out out' : List ℕ} {said : Written} {n : ℕ} → Answe
 wrote-all {bytes} {out} {n = n} a e = elim (decLe (length bytes) (length out)) [
   | yes h ↦
       let same : n ≡ length bytes = cc (simp (le-leb _ _ h) at (a .told)) in
-      (h, same, rw same (first a h))
+      (h, same, rw same (answer-first a h))
   | no h ↦ absurd (refused-wrote (sym (simp (lt-leb (length bytes) (length out) (omega arith)) at (a .told)) ∙ e))
 ]
 
@@ -86,7 +87,7 @@ refused-refuses (refuses q) room a e = cc (a .told)
 -- the memory was as long as what there was to be written
 pub whole-gives : {o : Outcome} {bytes out out' : List ℕ} {said : Written} → o ≡ gives bytes → length bytes ≡ length out → Answers o out said out'
     → o ≡ gives out'
-whole-gives e l a = e ∙ ap gives (sym (whole (rw e at a) l))
+whole-gives e l a = e ∙ ap gives (sym (answer-fills (rw e at a) l))
 
 -- ---- answers of one length
 

@@ -163,10 +163,10 @@ flight-sent random hint suite array rest h k e =
     ap (cut lengths) placed
     ∙ cut-first first (restOf hint ++ rest) 42 (hintMessageLength (length hint) ∷ 4 ∷ []) (omega arith) (length-hello random suite h)
     ∙ ap (λ (l : List (List ℕ)). first ∷ l) (cut-rest hint rest) in
-    record { means = ap plainly messages; fits = few (length hint) k }
+    record { means = ap plainly messages; fits = flight-short (length hint) k }
   where
-    few : (n : ℕ) → n ≤ 128 → total (42 ∷ hintMessageLength n ∷ 4 ∷ []) ≤ 180
-    few n h = go (eqb n 0)
+    flight-short : (n : ℕ) → n ≤ 128 → total (42 ∷ hintMessageLength n ∷ 4 ∷ []) ≤ 180
+    flight-short n h = go (eqb n 0)
       where
         go : (t : Bool) → total (42 ∷ cond t 0 (6 + n) ∷ 4 ∷ []) ≤ 180
         go true = omega arith

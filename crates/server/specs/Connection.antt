@@ -19,7 +19,7 @@ use Rattle.server.specs.declared.Answer.{Answer}
 use Rattle.refusal.specs.declared.Refusal.the-variants.{BadSetting}
 use Rattle.refusal.specs.declared.Written.the-variants.{Wrote, Refused}
 
--- ---- start: "32 random bytes, a hint, a 32-byte stand-in key and a rule", and the suites that such a server chooses from
+-- ---- start: what it is given, and the suites that such a server chooses from
 
 pub record Settings : Type 0 where
   pub random : List ℕ

@@ -21,9 +21,9 @@ pub front-grows : (w front : List ℕ) (t x : ℕ) → t < length w → take t w
 front-grows w front t x h e = rw (add-one t, take-suc-set w t x, e)
 
 -- the four bytes from a place, as the code indexes them
-pub four : (bs : List ℕ) (at : ℕ) → at + 4 ≤ length bs
+pub word-at-four : (bs : List ℕ) (at : ℕ) → at + 4 ≤ length bs
     → part at 4 bs ≡ getD bs at 0 ∷ getD bs (at + 1) 0 ∷ getD bs (at + 2) 0 ∷ getD bs (at + 3) 0 ∷ []
-four bs at inside =
+word-at-four bs at inside =
     let one : suc at ≡ at + 1 = omega arith in
     let two : suc (suc at) ≡ at + 2 = omega arith in
     let three : suc (suc (suc at)) ≡ at + 3 = omega arith in
@@ -41,7 +41,7 @@ words-more (suc n) block =
 pub next-word : (t : ℕ) (block : List ℕ) (x : ℕ) → 4 * t + 4 ≤ length block
     → x ≡ number (getD block (4 * t) 0 ∷ getD block (4 * t + 1) 0 ∷ getD block (4 * t + 2) 0 ∷ getD block (4 * t + 3) 0 ∷ [])
     → words t block ++ (x ∷ []) ≡ words (t + 1) block
-next-word t block x h e = rw (add-one t, words-more t block, four block (4 * t) h, e)
+next-word t block x h e = rw (add-one t, words-more t block, word-at-four block (4 * t) h, e)
 
 -- the schedule's next word, from the words before it as they stand at the front of a longer list
 pub next-later : (n : ℕ) (w M : List ℕ) (x : ℕ) → take (n + 16) w ≡ schedule n M

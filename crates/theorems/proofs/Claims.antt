@@ -11,7 +11,7 @@ use Rattle.messages.proofs.KeyExchanges.{vector-inverse}
 use Rattle.messages.proofs.FixedMessages.{fixed-inverse}
 use Rattle.messages.proofs.NewSessionTickets.{ticket-inverse}
 use Rattle.keytable.proofs.Agreement.{sound, complete}
-use Rattle.keytable.proofs.Lookups.{exactly, malformed-unlisted}
+use Rattle.keytable.proofs.Lookups.{lookup-exact, malformed-unlisted}
 use Rattle.c_interface.proofs.Apart.{codes-apart}
 use Rattle.theorems.specs.Claims.{Claims}
 use Rattle.theorems.proofs.Over.{over-stays}
@@ -46,7 +46,7 @@ claims =
       utf8Twice = valid-text;
       testedSoundly = sound;
       testedCompletely = complete;
-      lookupExact = exactly;
+      lookupExact = lookup-exact;
       malformedUnlisted = malformed-unlisted;
       worked = Worked.worked;
       suitesInOrder = suites-in-order;

@@ -84,13 +84,13 @@ sameness-from-c random hint standIn _ _ start start' identity table without remo
     ∙ ap (map asGiven) alike
     ∙ sym (series-run (viewOf without) made' (startAnswer s .next) (other-side .1) .1)
 
-five : (p : Phase) → phaseByte p ≡ 5 → p ≡ Phase.Complete
-five Phase.Closed e = cc
-five Phase.Hello e = cc
-five Phase.KeyExchange e = cc
-five Phase.Change e = cc
-five Phase.Finished e = cc
-five Phase.Complete e = refl
+five-is-complete : (p : Phase) → phaseByte p ≡ 5 → p ≡ Phase.Complete
+five-is-complete Phase.Closed e = cc
+five-is-complete Phase.Hello e = cc
+five-is-complete Phase.KeyExchange e = cc
+five-is-complete Phase.Change e = cc
+five-is-complete Phase.Finished e = cc
+five-is-complete Phase.Complete e = refl
 
 pub completes-exactly-from-c : CompletesExactlyFromC
 completes-exactly-from-c random hint standIn rule bytes start table calls given last made =
@@ -98,6 +98,6 @@ completes-exactly-from-c random hint standIn rule bytes start table calls given 
     let side = begun random hint standIn rule start in
     let exactly = completes-exactly s (side .0) table calls in
     let ends = ap (λ (c : Connection). c .phase) (series-run (viewOf table) made (startAnswer s .next) (side .1) .0) in (
-      λ e. exactly .0 (sym ends ∙ five (restored last .phase) e),
+      λ e. exactly .0 (sym ends ∙ five-is-complete (restored last .phase) e),
       λ came. ap phaseByte (ends ∙ exactly .1 came),
     )

@@ -36,8 +36,9 @@ pub data Stands (s : Settings) (v : View) (calls : List Call) (c : Connection) :
   closed : c ≡ ended Phase.Closed → Stands s v calls c
 
 -- one call more, behind what came first and what stood between
-pub more : {calls : List Call} (first between : List Call) (x : Call) → calls ≡ first ++ between → calls ++ (x ∷ []) ≡ first ++ (between ++ (x ∷ []))
-more first between x is = rw is (append-assoc first between (x ∷ []))
+pub one-call-more : {calls : List Call} (first between : List Call) (x : Call) → calls ≡ first ++ between
+    → calls ++ (x ∷ []) ≡ first ++ (between ++ (x ∷ []))
+one-call-more first between x is = rw is (append-assoc first between (x ∷ []))
 
 -- the awaited ClientKeyExchange or change of cipher is the last of the calls
 abbrev pub exchange-now : (s : Settings) (v : View) {calls : List Call} (first : List Call) (came : HelloCame s first) (between : List Call)
@@ -48,7 +49,7 @@ exchange-now s v first came between is aside {x} comes = record {
   between = between;
   exchange = comes .exchange;
   out = comes .out;
-  is = more first between x is ∙ ap (λ (y : Call). first ++ (between ++ (y ∷ []))) (comes .is);
+  is = one-call-more first between x is ∙ ap (λ (y : Call). first ++ (between ++ (y ∷ []))) (comes .is);
   aside = aside;
   good = comes .good;
   legal = comes .legal;
@@ -60,7 +61,7 @@ change-now s v first came between is aside {x} comes = record {
   first = first;
   came = came;
   between = between;
-  is = more first between x is ∙ ap (λ (y : Call). first ++ (between ++ (y ∷ []))) comes;
+  is = one-call-more first between x is ∙ ap (λ (y : Call). first ++ (between ++ (y ∷ []))) comes;
   aside = aside;
 }
 
@@ -92,7 +93,7 @@ module _ (s : Settings) (v : View) (ok : acceptable s ≡ true) (calls : List Ca
       → Each (Aside (BadTableCall v)) between → Fate v (helloed s (came .legal)) (Aside (BadTableCall v)) (ExchangeComes v) x
       → Stands s v then (call v (helloed s (came .legal)) x .next)
   after-exchange first came between is aside (inl stays) =
-      awaits-exchange first came (between ++ (x ∷ [])) (more first between x is)
+      awaits-exchange first came (between ++ (x ∷ [])) (one-call-more first between x is)
       (every-append (Aside (BadTableCall v)) between (x ∷ []) aside (stays, tt))
       (exchange-stays s v (came .legal) x stays)
   after-exchange first came between is aside (inr (inl comes)) =
@@ -111,7 +112,8 @@ module _ (s : Settings) (v : View) (ok : acceptable s ≡ true) (calls : List Ca
       → Each IgnoredWarning between → Fate v (exchanged s v came) IgnoredWarning (λ y. y ≡ changeOfCipher) x
       → Stands s v then (call v (exchanged s v came) x .next)
   after-change first came between is aside (inl stays) =
-      awaits-change first came (between ++ (x ∷ [])) (more first between x is) (every-append IgnoredWarning between (x ∷ []) aside (stays, tt))
+      awaits-change first came (between ++ (x ∷ [])) (one-call-more first between x is)
+      (every-append IgnoredWarning between (x ∷ []) aside (stays, tt))
       (change-stays s v (came .came .legal) (came .exchange) (v .lookup (came .legal .identity)) x stays)
   after-change first came between is aside (inr (inl comes)) =
       let now : ChangeCame s v then = change-now s v first came between is aside comes in
@@ -127,7 +129,7 @@ module _ (s : Settings) (v : View) (ok : acceptable s ≡ true) (calls : List Ca
         first = awaits .first;
         came = awaits .came;
         between = awaits .between ++ (x ∷ []);
-        is = more (awaits .first) (awaits .between) x (awaits .is);
+        is = one-call-more (awaits .first) (awaits .between) x (awaits .is);
         aside = every-append (Aside (ShortFinished s v (awaits .came))) (awaits .between) (x ∷ []) (awaits .aside) (stays, tt);
       } in
       awaits-finished still (finished-stays s v ok (awaits .came) x stays)
@@ -152,7 +154,7 @@ module _ (s : Settings) (v : View) (ok : acceptable s ≡ true) (calls : List Ca
     finished = came .finished;
     out = came .out;
     rest = came .rest ++ (x ∷ []);
-    is = more (came .before) (message (came .finished) (came .out) ∷ came .rest) x (came .is);
+    is = one-call-more (came .before) (message (came .finished) (came .out) ∷ came .rest) x (came .is);
     right = came .right;
     room = came .room;
   }

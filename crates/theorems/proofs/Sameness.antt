@@ -35,7 +35,7 @@ use Rattle.theorems.proofs.Settling.{refused-closes, accepted-next, Clo
 use Rattle.theorems.proofs.Stages.{helloed, keyed, exchange-read, exchange-legal, changed, change-stays, change-fate}
 use Rattle.theorems.proofs.Finishing.{Right, wrong, wrong-alerts, finished-other, awaiting}
 use Rattle.theorems.proofs.Progress.{exchanged, Stands, awaits-hello, awaits-exchange, awaits-change, awaits-finished, complete}
-use Rattle.theorems.proofs.Progress.{closed, more, exchange-now, change-now, stands-on}
+use Rattle.theorems.proofs.Progress.{closed, one-call-more, exchange-now, change-now, stands-on}
 
 -- ---- two servers at one call
 
@@ -213,7 +213,7 @@ module _ (s : Settings) (ok : acceptable s ≡ true) (hide : ruleOf (s .named) �
         go : IgnoredWarning x ⊎ ((x ≡ changeOfCipher) ⊎ (Closes v (keyedBy v) x × Closes v' (keyedBy v') x))
             → Together s v v' Set (calls ++ (x ∷ [])) (call v (keyedBy v) x .next) (call v' (keyedBy v') x .next)
         go (inl warning) =
-            changing first came (between ++ (x ∷ [])) (more first between x split)
+            changing first came (between ++ (x ∷ [])) (one-call-more first between x split)
             (every-append IgnoredWarning between (x ∷ []) aside (warning, tt)) set
             (stays v warning) (stays v' warning)
         go (inr (inl comes)) =
@@ -262,7 +262,7 @@ module _ (s : Settings) (ok : acceptable s ≡ true) (hide : ruleOf (s .named) �
       warned-on : (x : Call) → IgnoredWarning x ⊎ (⊥ ⊎ (Closes v (changedBy v) x × Closes v' (changedBy v') x))
           → Together s v v' Set (calls ++ (x ∷ [])) (call v (changedBy v) x .next) (call v' (changedBy v') x .next)
       warned-on x (inl warning) =
-          finishing first came (between ++ (x ∷ [])) (more first between x split)
+          finishing first came (between ++ (x ∷ [])) (one-call-more first between x split)
           (every-append IgnoredWarning between (x ∷ []) aside (warning, tt)) set
           (warning-stays v (changedBy v) refl x warning) (warning-stays v' (changedBy v') refl x warning)
       warned-on x (inr (inl comes)) = absurd comes

@@ -81,46 +81,46 @@ GivesR2 t =
 -- ---- the table
 
 pub record BytesWorkedThrough : Type 0 where
-  -- "PSK `AB CD`: premaster `00 02 00 00 00 02 AB CD`"
+  -- the premaster secret of a key of two bytes
   pub v1 : premaster (0xAB ∷ 0xCD ∷ []) ≡ gives (0x00 ∷ 0x02 ∷ 0x00 ∷ 0x00 ∷ 0x00 ∷ 0x02 ∷ 0xAB ∷ 0xCD ∷ [])
-  -- "premaster lengths: N = 1 gives 6, N = 64 gives 132; N = 0 and 65 are R5"
+  -- how long premaster secrets are, from the shortest key to the longest; no key and one that is longer are R5
   pub v2 : ((psk : List ℕ) → length psk ≡ 1 → answer (premaster psk) ≡ Wrote 6)
       × ((psk : List ℕ) → length psk ≡ 64 → answer (premaster psk) ≡ Wrote 132)
       × ((psk : List ℕ) → length psk ≡ 0 → answer (premaster psk) ≡ Refused BadValue)
       × ((psk : List ℕ) → length psk ≡ 65 → answer (premaster psk) ≡ Refused BadValue)
       × (numberOf BadValue ≡ 5)
-  -- "identity gate7: `10 00 00 07 00 05 67 61 74 65 37`"
+  -- a ClientKeyExchange
   pub v3 : written clientKeyExchange gate7 ≡ gives (0x10 ∷ 0x00 ∷ 0x00 ∷ 0x07 ∷ 0x00 ∷ 0x05 ∷ 0x67 ∷ 0x61 ∷ 0x74 ∷ 0x65 ∷ 0x37 ∷ [])
-  -- "empty identity: `10 00 00 02 00 00`, readable"
+  -- one with an empty identity, to write and to read
   pub v4 : (written clientKeyExchange [] ≡ gives (0x10 ∷ 0x00 ∷ 0x00 ∷ 0x02 ∷ 0x00 ∷ 0x00 ∷ []))
       × (readVector 16 (0x10 ∷ 0x00 ∷ 0x00 ∷ 0x02 ∷ 0x00 ∷ 0x00 ∷ []) ≡ some [])
-  -- "hint barn: `0C 00 00 06 00 04 62 61 72 6E`"
+  -- a ServerKeyExchange with the hint "barn"
   pub v5 : written serverKeyExchange barn ≡ gives (0x0C ∷ 0x00 ∷ 0x00 ∷ 0x06 ∷ 0x00 ∷ 0x04 ∷ 0x62 ∷ 0x61 ∷ 0x72 ∷ 0x6E ∷ [])
-  -- "ServerHelloDone: `0E 00 00 00`"
+  -- ServerHelloDone
   pub v6 : written serverHelloDone [] ≡ gives (0x0E ∷ 0x00 ∷ 0x00 ∷ 0x00 ∷ [])
-  -- "smallest ClientHello: body 41, message 45, length `00 00 29`"; and no other is smaller
+  -- the smallest ClientHello: its lengths and its header; and no other is smaller
   pub v7 : (valid clientHello (smallest 0x0303) ≡ true)
       × (length (clientHello .body (smallest 0x0303)) ≡ 41)
       × (length (smallestHello 0x0303) ≡ 45)
       × (take 4 (smallestHello 0x0303) ≡ 0x01 ∷ 0x00 ∷ 0x00 ∷ 0x29 ∷ [])
       × ((f : ClientHello) → valid clientHello f ≡ true → 45 ≤ length (bytes clientHello f))
-  -- "ticket `AA BB`, hint 3,600: `04 00 00 08 00 00 0E 10 00 02 AA BB`"
+  -- a NewSessionTicket with a lifetime of an hour
   pub v8 : written newSessionTicket (record { lifetimeHint = 3600; ticket = 0xAA ∷ 0xBB ∷ [] })
       ≡ gives (0x04 ∷ 0x00 ∷ 0x00 ∷ 0x08 ∷ 0x00 ∷ 0x00 ∷ 0x0E ∷ 0x10 ∷ 0x00 ∷ 0x02 ∷ 0xAA ∷ 0xBB ∷ [])
-  -- "table `gate7:abcd` and 0A, 11 bytes: gate7 has key `AB CD`; gate and gate71 aren't listed"
+  -- a table of one line: its identity has its key, and neither a part of that identity nor a longer one is listed
   pub v9 : (length table ≡ 11)
       × (wellFormed table ≡ true)
       × (keyOf table gate7 ≡ some (0xAB ∷ 0xCD ∷ []))
       × (keyOf table gate ≡ none)
       × (keyOf table gate71 ≡ none)
-  -- "that table without 0A, or with `abc`: R2"
+  -- the same without its line end, and with a key of three digits
   pub v10 : (wellFormed unended ≡ false) × (wellFormed odd ≡ false) × GivesR2 unended × GivesR2 odd × (numberOf BadTable ≡ 2)
-  -- "UTF-8 `C0 80`, `ED A0 80`, `F4 90 80 80` bad; `F4 8F BF BF` good"
+  -- an overlong character, a surrogate, a character past the last one; and the last one
   pub v11 : (validUtf8 (0xC0 ∷ 0x80 ∷ []) ≡ false)
       × (validUtf8 (0xED ∷ 0xA0 ∷ 0x80 ∷ []) ≡ false)
       × (validUtf8 (0xF4 ∷ 0x90 ∷ 0x80 ∷ 0x80 ∷ []) ≡ false)
       × (validUtf8 (0xF4 ∷ 0x8F ∷ 0xBF ∷ 0xBF ∷ []) ≡ true)
-  -- "version 0x0302 gives 70; 0x0304 is answered with 0x0303": of every ClientHello whose layout holds and which is refused for nothing else, on any
+  -- TLS 1.1 gets alert 70, and TLS 1.3's number is answered with TLS 1.2's: of every ClientHello that is refused for nothing else, on any
   -- connection, and of the smallest one. The version stands at bytes 4 and 5 of the answer.
   pub v12 : ((c : Connection) (m : List ℕ) (f : ClientHello) → f .version ≡ 0x0302 → helloFields c m (some f) ≡ refuse ProtocolVersion)
       × ((c : Connection) (m : List ℕ) (f : ClientHello) (suite : ℕ)

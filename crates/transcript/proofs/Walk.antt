@@ -108,21 +108,21 @@ abbrev pub IsHash : Sha256 → Type 0
 IsHash s = Is S.the-row s (hash-value s ∷ [])
 
 -- a hash that stands at some machine value stands at its own
-pub spelled : (s : Sha256) (v : Val) → Is S.the-row s (v ∷ []) → IsHash s
-spelled s v p = LL.owes S.the-type S′.the-laws s (LL.owed S.the-type S′.the-laws s (v ∷ []) p)
+pub state-is-hash : (s : Sha256) (v : Val) → Is S.the-row s (v ∷ []) → IsHash s
+state-is-hash s v p = LL.owes S.the-type S′.the-laws s (LL.owed S.the-type S′.the-laws s (v ∷ []) p)
 
-held : (s : Sha256) → Is T.the-row (of-hash s) (value s ∷ []) → IsHash s
-held s p = LL.owed T.the-type T′.the-laws (of-hash s) (value s ∷ []) p .0
+transcript-is-hash : (s : Sha256) → Is T.the-row (of-hash s) (value s ∷ []) → IsHash s
+transcript-is-hash s p = LL.owed T.the-type T′.the-laws (of-hash s) (value s ∷ []) p .0
 
-made : (s : Sha256) → IsHash s → Is T.the-row (of-hash s) (value s ∷ [])
-made s p = LL.owes T.the-type T′.the-laws (of-hash s) (p, tt)
+hash-is-transcript : (s : Sha256) → IsHash s → Is T.the-row (of-hash s) (value s ∷ [])
+hash-is-transcript s p = LL.owes T.the-type T′.the-laws (of-hash s) (p, tt)
 
 module _ {M : Type 1} (𝓤 : URA M) (H : Heap 𝓤) (A : Atoms 𝓤) (W : Given 𝓤 H A) where
   pub hash-typed : (s : Sha256) (v : Val) → Is S.the-row s (v ∷ []) → Holds (hasTy S′.mir v) × WT v
   hash-typed s v p = LL.lawful S.the-type S′.the-laws 𝓤 H A W .typed s (v ∷ []) p .0
 
   pub typed : (s : Sha256) → IsHash s → Holds (hasTy T′.mir (value s)) × WT (value s)
-  typed s p = LL.lawful T.the-type T′.the-laws 𝓤 H A W .typed (of-hash s) (value s ∷ []) (made s p) .0
+  typed s p = LL.lawful T.the-type T′.the-laws 𝓤 H A W .typed (of-hash s) (value s ∷ []) (hash-is-transcript s p) .0
 
 -- ---- a share of a transcript in memory is a share of the cell with its value, since a transcript owns only facts, and the other way round
 module _ {M : Type 1} {𝓤 : URA M} {H : Heap 𝓤} {A : Atoms 𝓤} {K : Type 0} {W : Given 𝓤 H A} {Γ : List (Item 𝓤)} {G : Goal 𝓤 H} where
@@ -132,14 +132,14 @@ module _ {M : Type 1} {𝓤 : URA M} {H : Heap 𝓤} {A : Atoms 𝓤} {K : Type 
       spelt t T.the-row (Is T.the-row) (shows 𝓤 H A T.the-row) (LL.vals T.the-type T′.the-laws) (LL.tells T.the-type T′.the-laws) q
       (of-hash s) vs b o $
       use1 W (‵ (fat q T′.mir b o (value s))) (W .laws .raw-at q T′.mir b o (value s)) $ move t (1 ∷ []) $
-      peeks t T.the-row (Is T.the-row) (shows 𝓤 H A T.the-row) (of-hash s) (value s ∷ []) (λ p. drop t $ k (held s p))
+      peeks t T.the-row (Is T.the-row) (shows 𝓤 H A T.the-row) (of-hash s) (value s ∷ []) (λ p. drop t $ k (transcript-is-hash s p))
 
   together : K → (q : Share) (s : Sha256) → IsHash s → (b o : ℕ)
       → Step K W (‵ (cellAt q (T.the-row .mir) (value s ∷ []) b o) ∷ ‵ (T.the-row .own (of-hash s) (value s ∷ [])) ∷ Γ) G
       (‵ (fat q T′.mir b o (value s)) ∷ Γ) G
   together t q s p b o = step (λ k.
       use1 W (‵ (cellAt q (T.the-row .mir) (value s ∷ []) b o)) (W .laws .at-raw q T′.mir b o (value s)) $
-      owned t T.the-row (Is T.the-row) (LL.makes T.the-type T′.the-plain 𝓤 H A) (of-hash s) _ (made s p) $ move t (1 ∷ 0 ∷ []) $ k)
+      owned t T.the-row (Is T.the-row) (LL.makes T.the-type T′.the-plain 𝓤 H A) (of-hash s) _ (hash-is-transcript s p) $ move t (1 ∷ 0 ∷ []) $ k)
 
 module _ {M : Type 1} {𝓤 : URA M} {H : Heap 𝓤} {A : Atoms 𝓤} {K : Type 0} {W : Given 𝓤 H A} {Γ : List (Item 𝓤)} {G : Goal 𝓤 H} where
   -- the whole of it, as a loan takes it and gives it back

@@ -1,4 +1,5 @@
--- `extensions::test_part`: the loop keeps what a pass says of the extensions that are left (Flags, `passIn`); the measure is what is left of the block.
+-- `extensions::test_part`: the loop keeps what a pass says of the extensions that are left (Flags, `passIn`); the measure is what is left of
+-- the block.
 -- Assumes nothing.
 use borrow.Author.Needs.{needs}
 use borrow.Author.Tests.{not-true, not-false}

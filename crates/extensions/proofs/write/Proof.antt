@@ -6,7 +6,7 @@ use mathlib.Core.Bool.{and-false}
 use Prim.Native.Nat.{_^_}
 use lib.ListN.{length}
 use Rattle.refusal.specs.declared.Refusal.the-variants.{BadValue}
-use Rattle.refusal.proofs.Laws.{refused}
+use Rattle.refusal.proofs.Laws.{refuses-answers}
 use borrow.Author.Needs.{needs}
 use Rattle.extensions.proofs.write.Statement.{statement}
 use Rattle.extensions.proofs.write.Tie as tie
@@ -14,12 +14,12 @@ use Rattle.extensions.proofs.write.Tie as tie
 returns : tie.Need-returns
 returns c =
     let a = c .before .before .before .args in
-    rw (le-ltb (a .kind) 65536 (omega arith)) (refused BadValue (a .out .now))
+    rw (le-ltb (a .kind) 65536 (omega arith)) (refuses-answers BadValue (a .out .now))
 
 returns-2 : tie.Need-returns-2
 returns-2 c =
     let a = c .before .before .before .before .args in
-    rw (le-ltb (length (a .contents .now)) (256 ^ 2) (omega arith), and-false) (refused BadValue (a .out .now))
+    rw (le-ltb (length (a .contents .now)) (256 ^ 2) (omega arith), and-false) (refuses-answers BadValue (a .out .now))
 
 returns-3 : tie.Need-returns-3
 returns-3 c =

@@ -8,7 +8,7 @@ use lib.ListN.{length}
 use Rattle.endian.specs.Vector.{vector}
 use Rattle.endian.proofs.Vectors.{length-vector}
 use Rattle.refusal.specs.declared.Refusal.the-variants.{BadValue}
-use Rattle.refusal.proofs.Laws.{refused}
+use Rattle.refusal.proofs.Laws.{refuses-answers}
 use borrow.Author.Needs.{needs}
 use Rattle.extensions.proofs.write_ticket.Statement.{statement}
 use Rattle.extensions.proofs.write_ticket.Tie as tie
@@ -17,7 +17,7 @@ returns : tie.Need-returns
 returns c =
     let a = c .before .before .before .args in
     let long : 256 ^ 2 ≤ length (vector 2 (a .ticket .now)) = rw (length-vector 2 (a .ticket .now)) (omega arith) in
-    rw (le-ltb (length (vector 2 (a .ticket .now))) (256 ^ 2) long) (refused BadValue (a .out .now))
+    rw (le-ltb (length (vector 2 (a .ticket .now))) (256 ^ 2) long) (refuses-answers BadValue (a .out .now))
 
 returns-2 : tie.Need-returns-2
 returns-2 c =

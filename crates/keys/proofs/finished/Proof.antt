@@ -2,7 +2,7 @@
 -- Assumes nothing.
 use mathlib.Core.Bool.{and-false}
 use borrow.Author.Tests.{eq-eqb, ne-eqb}
-use Rattle.refusal.proofs.Laws.{refused}
+use Rattle.refusal.proofs.Laws.{refuses-answers}
 use Rattle.keys.specs.Secrets.{verifyData}
 use borrow.Author.Needs.{needs}
 use Rattle.keys.proofs.finished.Statement.{statement}
@@ -10,11 +10,11 @@ use Rattle.keys.proofs.finished.Tie as tie
 
 returns : tie.Need-returns
 unfolding verifyData
-returns c = simp (ne-eqb _ _ (c .if1 .taken)) (refused _ _)
+returns c = simp (ne-eqb _ _ (c .if1 .taken)) (refuses-answers _ _)
 
 returns-2 : tie.Need-returns-2
 unfolding verifyData
-returns-2 c = simp (ne-eqb _ _ (c .if2 .taken), and-false) (refused _ _)
+returns-2 c = simp (ne-eqb _ _ (c .if2 .taken), and-false) (refuses-answers _ _)
 
 returns-3 : tie.Need-returns-3
 unfolding verifyData

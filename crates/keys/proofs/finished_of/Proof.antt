@@ -1,7 +1,7 @@
 -- `keys::finished_of` meets its contract: the transcript's hash, and the value over it.
 -- Assumes nothing.
 use mathlib.Core.Path.{refl}
-use Rattle.refusal.proofs.Laws.{refused, sized-gives, sized-refuses}
+use Rattle.refusal.proofs.Laws.{refuses-answers, sized-gives, sized-refuses}
 use Rattle.keys.proofs.Lengths.{hash-sized}
 use borrow.Author.Needs.{needs}
 use Rattle.keys.proofs.finished_of.Statement.{statement}
@@ -16,7 +16,7 @@ returns c =
 returns-2 : tie.Need-returns-2
 returns-2 c =
     let at-r = c .before in
-    rw (sized-refuses _ (hash-sized _) refl (at-r .before .before .before .hash-of .ensures) (at-r .r .given .1)) (refused _ _)
+    rw (sized-refuses _ (hash-sized _) refl (at-r .before .before .before .hash-of .ensures) (at-r .r .given .1)) (refuses-answers _ _)
 
 pub finished-of-spec : {M : Type 1} → statement M
 finished-of-spec =

@@ -2,7 +2,7 @@
 -- Assumes nothing.
 use mathlib.Core.Bool.{and-false}
 use borrow.Author.Tests.{le-leb, lt-leb}
-use Rattle.refusal.proofs.Laws.{refused}
+use Rattle.refusal.proofs.Laws.{refuses-answers}
 use Rattle.keys.specs.Hmac.{hmac}
 use borrow.Author.Needs.{needs}
 use Rattle.keys.proofs.hmac.Statement.{statement}
@@ -10,11 +10,11 @@ use Rattle.keys.proofs.hmac.Tie as tie
 
 returns : tie.Need-returns
 unfolding hmac
-returns c = simp (lt-leb _ _ (c .if1 .taken)) (refused _ _)
+returns c = simp (lt-leb _ _ (c .if1 .taken)) (refuses-answers _ _)
 
 returns-2 : tie.Need-returns-2
 unfolding hmac
-returns-2 c = simp (lt-leb _ _ (c .if2 .taken), and-false) (refused _ _)
+returns-2 c = simp (lt-leb _ _ (c .if2 .taken), and-false) (refuses-answers _ _)
 
 returns-3 : tie.Need-returns-3
 unfolding hmac

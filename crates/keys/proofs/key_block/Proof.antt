@@ -2,7 +2,7 @@
 -- Assumes nothing.
 use mathlib.Core.Bool.{and-false, and-true}
 use borrow.Author.Tests.{eq-eqb, ne-eqb, le-leb, lt-leb}
-use Rattle.refusal.proofs.Laws.{refused}
+use Rattle.refusal.proofs.Laws.{refuses-answers}
 use Rattle.keys.specs.Secrets.{keys}
 use borrow.Author.Needs.{needs}
 use Rattle.keys.proofs.key_block.Statement.{statement}
@@ -10,11 +10,11 @@ use Rattle.keys.proofs.key_block.Tie as tie
 
 returns : tie.Need-returns
 unfolding keys
-returns c = simp (ne-eqb _ _ (c .if1 .taken)) (refused _ _)
+returns c = simp (ne-eqb _ _ (c .if1 .taken)) (refuses-answers _ _)
 
 returns-2 : tie.Need-returns-2
 unfolding keys
-returns-2 c = simp (lt-leb _ _ (rw (c .before .key-block-length .ensures) at (c .if2 .taken)), and-false) (refused _ _)
+returns-2 c = simp (lt-leb _ _ (rw (c .before .key-block-length .ensures) at (c .if2 .taken)), and-false) (refuses-answers _ _)
 
 returns-3 : tie.Need-returns-3
 unfolding keys

@@ -5,7 +5,7 @@ use Prim.Native.Nat.{_≤_}
 use native.Mathlib.Omega.{arith}
 use lib.ListN.{length}
 use lib.Seq.{length-take-le}
-use Rattle.refusal.proofs.Laws.{refused, wrote-gives, refused-refuses}
+use Rattle.refusal.proofs.Laws.{refuses-answers, wrote-gives, refused-refuses}
 use Rattle.keys.specs.Secrets.{premaster}
 use Rattle.keys.proofs.Lengths.{premaster-most}
 use borrow.Author.Needs.{needs}
@@ -13,18 +13,18 @@ use Rattle.keys.proofs.master_under.Statement.{statement}
 use Rattle.keys.proofs.master_under.Tie as tie
 
 -- the premaster secret is within its buffer
-few : (c : tie.After-n) → c .n .given .0 .0 ≤ 132
-few c = wrote-gives (premaster _) (c .before .before .before .premaster .ensures) (c .n .given .1) .0
+premaster-short : (c : tie.After-n) → c .n .given .0 .0 ≤ 132
+premaster-short c = wrote-gives (premaster _) (c .before .before .before .premaster .ensures) (c .n .given .1) .0
 
 array-share-prefix-secret : tie.Need-array-share-prefix-secret
-array-share-prefix-secret c = let within = few (c .before) in search needs
+array-share-prefix-secret c = let within = premaster-short (c .before) in search needs
 
 slice-aggregate-master : tie.Need-slice-aggregate-master
 slice-aggregate-master c =
     let at-n = c .before .before in
     let buffer = at-n .before .before .before .premaster .last .1 .0 in
     let size : length buffer ≡ 132 = search needs in
-    sym (length-take-le _ buffer (omega (arith, few at-n)))
+    sym (length-take-le _ buffer (omega (arith, premaster-short at-n)))
 
 returns : tie.Need-returns
 returns c =
@@ -35,7 +35,7 @@ returns c =
 returns-2 : tie.Need-returns-2
 returns-2 c =
     let at-r = c .before in
-    rw (refused-refuses (premaster _) (premaster-most _) (at-r .before .before .before .premaster .ensures) (at-r .r .given .1)) (refused _ _)
+    rw (refused-refuses (premaster _) (premaster-most _) (at-r .before .before .before .premaster .ensures) (at-r .r .given .1)) (refuses-answers _ _)
 
 pub master-under-spec : {M : Type 1} → statement M
 master-under-spec =

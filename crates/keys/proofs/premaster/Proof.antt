@@ -6,7 +6,7 @@ use mathlib.Core.Bool.{and-false}
 use lib.ListN.{length}
 use lib.Seq.{length-take-le}
 use borrow.Author.Tests.{lt-leb}
-use Rattle.refusal.proofs.Laws.{refused}
+use Rattle.refusal.proofs.Laws.{refuses-answers}
 use Rattle.keys.specs.Secrets.{premaster}
 use Rattle.keys.proofs.Lengths.{premaster-given}
 use borrow.Author.Needs.{needs}
@@ -15,11 +15,11 @@ use Rattle.keys.proofs.premaster.Tie as tie
 
 returns : tie.Need-returns
 unfolding premaster
-returns c = simp (lt-leb _ _ (c .if1 .taken)) (refused _ _)
+returns c = simp (lt-leb _ _ (c .if1 .taken)) (refuses-answers _ _)
 
 returns-2 : tie.Need-returns-2
 unfolding premaster
-returns-2 c = simp (lt-leb _ _ (c .if2 .taken), and-false) (refused _ _)
+returns-2 c = simp (lt-leb _ _ (c .if2 .taken), and-false) (refuses-answers _ _)
 
 slice-aggregate-put : tie.Need-slice-aggregate-put
 slice-aggregate-put c =

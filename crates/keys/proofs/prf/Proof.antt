@@ -6,7 +6,7 @@ use mathlib.Core.Bool.{and-false}
 use lib.ListN.{length}
 use lib.Seq.{length-take-le}
 use borrow.Author.Tests.{le-leb, lt-leb}
-use Rattle.refusal.proofs.Laws.{refused}
+use Rattle.refusal.proofs.Laws.{refuses-answers}
 use Rattle.keys.specs.Prf.{prf}
 use borrow.Author.Needs.{needs}
 use Rattle.keys.proofs.prf.Statement.{statement}
@@ -14,15 +14,15 @@ use Rattle.keys.proofs.prf.Tie as tie
 
 returns : tie.Need-returns
 unfolding prf
-returns c = simp (lt-leb _ _ (c .if1 .taken)) (refused _ _)
+returns c = simp (lt-leb _ _ (c .if1 .taken)) (refuses-answers _ _)
 
 returns-2 : tie.Need-returns-2
 unfolding prf
-returns-2 c = simp (lt-leb _ _ (c .if2 .taken), and-false) (refused _ _)
+returns-2 c = simp (lt-leb _ _ (c .if2 .taken), and-false) (refuses-answers _ _)
 
 returns-3 : tie.Need-returns-3
 unfolding prf
-returns-3 c = simp (lt-leb _ _ (c .if3 .taken), and-false) (refused _ _)
+returns-3 c = simp (lt-leb _ _ (c .if3 .taken), and-false) (refuses-answers _ _)
 
 slice-aggregate-put : tie.Need-slice-aggregate-put
 slice-aggregate-put c =

@@ -6,16 +6,16 @@ use mathlib.Core.Bool.{and-false}
 use lib.ListN.{length}
 use lib.Seq.{length-take-le}
 use borrow.Author.Tests.{eq-eqb, ne-eqb}
-use Rattle.refusal.proofs.Laws.{refused}
+use Rattle.refusal.proofs.Laws.{refuses-answers}
 use borrow.Author.Needs.{needs}
 use Rattle.keys.proofs.prf_of_randoms.Statement.{statement}
 use Rattle.keys.proofs.prf_of_randoms.Tie as tie
 
 returns : tie.Need-returns
-returns c = simp (ne-eqb _ _ (c .if1 .taken)) (refused _ _)
+returns c = simp (ne-eqb _ _ (c .if1 .taken)) (refuses-answers _ _)
 
 returns-2 : tie.Need-returns-2
-returns-2 c = simp (ne-eqb _ _ (c .if2 .taken), and-false) (refused _ _)
+returns-2 c = simp (ne-eqb _ _ (c .if2 .taken), and-false) (refuses-answers _ _)
 
 slice-aggregate-prf : tie.Need-slice-aggregate-prf
 slice-aggregate-prf c =

@@ -7,7 +7,7 @@ use lib.ListN.{length, getD, replicate}
 use lib.Seq.{take-all}
 use mir.Syntax.{w16}
 use mir.Val as Val
-use Rattle.lists.proofs.Copies.{behind}
+use Rattle.lists.proofs.Copies.{copy-behind}
 use Rattle.saved.specs.Saved.{parts, saved, restored}
 use Rattle.saved.proofs.Saving.{Fits, put-joined, restored-saved}
 use borrow.Author.Needs.{needs}
@@ -77,19 +77,23 @@ returns c =
     let size : length r ≡ 388 = search (needs, c .append8 .ok) in
     let ours-size : length (made .pairs .result) ≡ 6 = search (needs, made .pairs .ok) in
     let head =
-    behind (replicate 388 0) (made .before .head .result) (one .append .result) 0 6 (one .append .ensures) refl (made .before .head .ensures) refl in
+    copy-behind (replicate 388 0) (made .before .head .result) (one .append .result) 0 6 (one .append .ensures) refl
+    (made .before .head .ensures) refl in
     let ours =
-    behind (one .append .result) (made .pairs .result) (two .append2 .result) 6 6 (two .append2 .ensures) head (made .pairs .ensures)
+    copy-behind (one .append .result) (made .pairs .result) (two .append2 .result) 6 6 (two .append2 .ensures) head (made .pairs .ensures)
     (rw (made .pairs .ensures) at ours-size) in
-    let hint = behind (two .append2 .result) (conn .setup .hint) (three .append3 .result) 12 128 (three .append3 .ensures) ours refl (ok .hint) in
+    let hint =
+    copy-behind (two .append2 .result) (conn .setup .hint) (three .append3 .result) 12 128 (three .append3 .ensures) ours refl (ok .hint) in
     let stand-in =
-    behind (three .append3 .result) (conn .setup .«stand_in») (four .append4 .result) 140 32 (four .append4 .ensures) hint refl (ok .standIn) in
-    let own = behind (four .append4 .result) (conn .setup .random) (five .append5 .result) 172 32 (five .append5 .ensures) stand-in refl (ok .own) in
-    let client = behind (five .append5 .result) (conn .client .random) (six .append6 .result) 204 32 (six .append6 .ensures) own refl (ok .client) in
+    copy-behind (three .append3 .result) (conn .setup .«stand_in») (four .append4 .result) 140 32 (four .append4 .ensures) hint refl (ok .standIn) in
+    let own =
+    copy-behind (four .append4 .result) (conn .setup .random) (five .append5 .result) 172 32 (five .append5 .ensures) stand-in refl (ok .own) in
+    let client =
+    copy-behind (five .append5 .result) (conn .client .random) (six .append6 .result) 204 32 (six .append6 .ensures) own refl (ok .client) in
     let master =
-    behind (six .append6 .result) (conn .secrets .master) (seven .append7 .result) 236 48 (seven .append7 .ensures) client refl (ok .master) in
+    copy-behind (six .append6 .result) (conn .secrets .master) (seven .append7 .result) 236 48 (seven .append7 .ensures) client refl (ok .master) in
     let all =
-    behind (seven .append7 .result) (transcript .result) r 284 104 (c .append8 .ensures) master (transcript .ensures .0) (ok .transcript) in
+    copy-behind (seven .append7 .result) (transcript .result) r 284 104 (c .append8 .ensures) master (transcript .ensures .0) (ok .transcript) in
     let whole : r ≡ saved conn = sym (take-all 388 r (omega arith)) ∙ all ∙ put-joined [] (parts conn) in
     (whole, ap restored whole ∙ restored-saved conn ok)
 

@@ -47,7 +47,7 @@ use Rattle.sha256.proofs.Sha256.update.Symbol.{name as #update}
 use Rattle.sha256.proofs.Sha256.update.Met as update-thm
 use Rattle.transcript.specs.Transcript.{added}
 use Rattle.transcript.proofs.Transcript as T
-use Rattle.transcript.proofs.Walk.{of-hash, coded, Held, spelled, hash-typed, opened, closed, copies}
+use Rattle.transcript.proofs.Walk.{of-hash, coded, Held, state-is-hash, hash-typed, opened, closed, copies}
 use Rattle.transcript.proofs.Walk.{with-hash, returned, proved, lent-args, lent-values, own-values, slice-value, token}
 use Rattle.transcript.proofs.add.Key.{name as #add}
 use Rattle.transcript.proofs.add as add
@@ -109,9 +109,9 @@ module _ {M : Type 1} (𝓤 : URA M) (H : Heap 𝓤) (A : Atoms 𝓤) (W : Given
         rewrite ! 5 (λ (w : Val). ‵ (fat fullShare S′.mir l₄ 0 w)) (ap only (LL.tells S.the-type S′.the-laws next _ is)) refl $
         -- [the message's token; the cell; the open borrow; obs; auth; _4; …; _3; …; _2; …; _1; …; room for _0; …]
         assigns ! (of-opd ! (copies ! 5 refl)) (from ! (hop ! (look ! 11 refl) (fld ! refl (stop !))))
-        (store-in ! 1 (sub ! 0 refl (whole !)) (hash-typed 𝓤 H A W next _ (spelled next u is))) $
+        (store-in ! 1 (sub ! 0 refl (whole !)) (hash-typed 𝓤 H A W next _ (state-is-hash next u is))) $
         assigns ! (of-opd ! (unit-lit !)) (from ! (stop !)) (init ! 13 refl (tt, tt)) $
-        move ! (1 ∷ 2 ∷ 3 ∷ 4 ∷ []) $ closed ! tt next (spelled next u is) b o $
+        move ! (1 ∷ 2 ∷ 3 ∷ 4 ∷ []) $ closed ! tt next (state-is-hash next u is) b o $
         returns ! (look ! 12 refl) $ forget ! 4 refl $ forget ! 6 refl $ forget ! 8 refl $ forget ! 10 refl $ forget ! 12 refl $
         move ! (12 ∷ 13 ∷ []) $ free1 ! $ move ! (10 ∷ 11 ∷ []) $ free1 ! $ move ! (8 ∷ 9 ∷ []) $ free1 ! $ move ! (6 ∷ 7 ∷ []) $ free1 ! $
         move ! (4 ∷ 5 ∷ []) $ free1 ! $ free0 ! $ by ! exits))))))))

@@ -7,7 +7,7 @@ use Rattle.server.specs.declared.Connection.{Connection}
 use Rattle.server.specs.declared.Answer.{Answer}
 use Rattle.server.specs.Alert.{alertStep}
 use Rattle.c_interface.proofs.Sizes.{alert-brief}
-use Rattle.c_interface.proofs.Keeping.{step-count, keeps}
+use Rattle.c_interface.proofs.Keeping.{step-count, step-keeps}
 use Rattle.c_interface.proofs.connection.tn_alert.Statement.{statement}
 use Rattle.c_interface.proofs.connection.tn_alert.Tie as tie
 
@@ -22,7 +22,8 @@ returns : tie.Need-returns
 returns c =
     let a = c .before .before .before .before .before .before .args in
     let answer = c .before .before .before .alert .ensures in
-    keeps (a .connection .now) [] (λ (x : Connection). alertStep x (a .level) (a .description)) (c .before .before .before .before .restore .ensures)
+    step-keeps (a .connection .now) [] (λ (x : Connection). alertStep x (a .level) (a .description))
+    (c .before .before .before .before .restore .ensures)
     (ap (λ (y : Answer). y .said) answer) (ap (λ (y : Answer). y .next) answer) (c .keep .ok) (c .keep .ensures .0) (c .keep .ensures .1)
 
 pub tn-alert-spec : {M : Type 1} → statement M

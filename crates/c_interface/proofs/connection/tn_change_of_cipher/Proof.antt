@@ -7,7 +7,7 @@ use Rattle.server.specs.declared.Connection.{Connection}
 use Rattle.server.specs.declared.Answer.{Answer}
 use Rattle.server.specs.Change.{changeStep}
 use Rattle.c_interface.proofs.Sizes.{change-brief}
-use Rattle.c_interface.proofs.Keeping.{step-count, keeps}
+use Rattle.c_interface.proofs.Keeping.{step-count, step-keeps}
 use Rattle.c_interface.proofs.connection.tn_change_of_cipher.Statement.{statement}
 use Rattle.c_interface.proofs.connection.tn_change_of_cipher.Tie as tie
 
@@ -21,7 +21,7 @@ returns : tie.Need-returns
 returns c =
     let a = c .before .before .before .before .before .before .args in
     let answer = c .before .before .before .change-of-cipher .ensures in
-    keeps (a .connection .now) [] (λ (x : Connection). changeStep x (x .phase)) (c .before .before .before .before .restore .ensures)
+    step-keeps (a .connection .now) [] (λ (x : Connection). changeStep x (x .phase)) (c .before .before .before .before .restore .ensures)
     (ap (λ (y : Answer). y .said) answer) (ap (λ (y : Answer). y .next) answer) (c .keep .ok) (c .keep .ensures .0) (c .keep .ensures .1)
 
 pub tn-change-of-cipher-spec : {M : Type 1} → statement M

@@ -12,7 +12,7 @@ use Rattle.server.specs.KeyExchange.{View, viewOf}
 use Rattle.server.specs.Message.{messageStep, handedOver}
 use Rattle.saved.specs.Saved.{restored}
 use Rattle.c_interface.specs.Connections.{masterAfter}
-use Rattle.c_interface.proofs.Keeping.{brief, keeps, reply-parts, master-handed, master-kept}
+use Rattle.c_interface.proofs.Keeping.{flight-count-small, step-keeps, reply-parts, master-handed, master-kept}
 use Rattle.c_interface.proofs.connection.tn_message.Statement.{statement}
 use Rattle.c_interface.proofs.connection.tn_message.Tie as tie
 
@@ -46,7 +46,7 @@ module _ (c : tie.After-message) where
 keep-requires : tie.Need-keep-requires
 keep-requires c κs =
     let reply = c .before .before .before .before .before .message in
-    brief (reply .result .said) (reply .ensures .1)
+    flight-count-small (reply .result .said) (reply .ensures .1)
 
 returns : tie.Need-returns
 returns c =
@@ -55,7 +55,7 @@ returns c =
     let master = a .master .now in
     let secret = ⊎-elim (λ w. w .2 ∙ master-handed (replied m) (over m (was m)) master (m .message .ensures .0 .0) (w .0 .taken))
     (λ w. w .1 ∙ master-kept (replied m) (over m (was m)) master (m .message .ensures .0 .0) (w .0 .left)) (c .before .before .before .if1 .came) in (
-      keeps (a .connection .now) (a .out .now) (stepOn m) (restored-as m) (parts m .0) (parts m .1) (c .keep .ok) (c .keep .ensures .0)
+      step-keeps (a .connection .now) (a .out .now) (stepOn m) (restored-as m) (parts m .0) (parts m .1) (c .keep .ok) (c .keep .ensures .0)
           (c .keep .ensures .1),
       record {
         left = m .message .ensures .0 .1 ∙ ap (λ (x : Connection). settled x (a .out .now) (stepOn m x) .out) (restored-as m);

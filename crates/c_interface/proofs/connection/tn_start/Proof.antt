@@ -6,7 +6,7 @@ use native.Mathlib.Omega.{arith}
 use mathlib.Core.Path.{refl, _∙_}
 use borrow.Author.Tests.{le-leb, lt-leb}
 use Rattle.server.specs.Connection.{Settings, suites, badSetting}
-use Rattle.c_interface.proofs.Keeping.{kept-same, start-count, starts}
+use Rattle.c_interface.proofs.Keeping.{kept-same, start-count, answer-starts}
 use Rattle.c_interface.proofs.connection.tn_start.Statement.{statement}
 use Rattle.c_interface.proofs.connection.tn_start.Tie as tie
 
@@ -14,7 +14,7 @@ returns : tie.Need-returns
 returns c =
     let a = c .before .before .before .before .before .args in
     rw (lt-leb (a .rule) 2 (omega (arith, c .before .if1 .taken)))
-    (starts {a = badSetting} refl (c .of-refusal .ok) (c .of-refusal .ensures) (kept-same refl refl refl))
+    (answer-starts {a = badSetting} refl (c .of-refusal .ok) (c .of-refusal .ensures) (kept-same refl refl refl))
 
 keep-requires : tie.Need-keep-requires
 keep-requires c κs =
@@ -29,7 +29,8 @@ returns-2 c =
     let n = c .before .before .before .before in
     let a = n .before .before .before .before .before .args in
     let answer = c .before .before .before .start .ensures in
-    starts (answer ∙ rw (n .named .ensures, le-leb (a .rule) 2 (n .before .if1 .left))) (c .keep .ok) (c .keep .ensures .0) (c .keep .ensures .1)
+    answer-starts (answer ∙ rw (n .named .ensures, le-leb (a .rule) 2 (n .before .if1 .left)))
+    (c .keep .ok) (c .keep .ensures .0) (c .keep .ensures .1)
 
 pub tn-start-spec : {M : Type 1} → statement M
 tn-start-spec =

@@ -3,7 +3,7 @@
 use borrow.Author.Needs.{needs}
 use native.Mathlib.Omega.{arith}
 use Rattle.endian.specs.Number.{Bytes}
-use Rattle.c_interface.proofs.Readings.{reading}
+use Rattle.c_interface.proofs.Readings.{reads-reading}
 use Rattle.c_interface.proofs.Places.{vector-fits}
 use Rattle.c_interface.proofs.reading.tn_read_client_key_exchange.Statement.{statement}
 use Rattle.c_interface.proofs.reading.tn_read_client_key_exchange.Tie as tie
@@ -15,7 +15,7 @@ put-part-requires c κs =
     rw (c .before .read-identity .ensures) (vector-fits 16 m b)
 
 returns : tie.Need-returns
-returns c = rw (c .before .before .read-identity .ensures) at (reading (c .put-part .ensures) (c .put-part .ok))
+returns c = rw (c .before .before .read-identity .ensures) at (reads-reading (c .put-part .ensures) (c .put-part .ok))
 
 pub tn-read-client-key-exchange-spec : {M : Type 1} → statement M
 tn-read-client-key-exchange-spec =

@@ -3,7 +3,7 @@
 use borrow.Author.Needs.{needs}
 use native.Mathlib.Omega.{arith}
 use Rattle.endian.specs.Number.{Bytes}
-use Rattle.c_interface.proofs.Readings.{reading}
+use Rattle.c_interface.proofs.Readings.{reads-reading}
 use Rattle.c_interface.proofs.Places.{finished-fits}
 use Rattle.c_interface.proofs.reading.tn_read_finished.Statement.{statement}
 use Rattle.c_interface.proofs.reading.tn_read_finished.Tie as tie
@@ -15,7 +15,7 @@ put-part-requires c κs =
     rw (c .before .read-finished .ensures) (finished-fits m b)
 
 returns : tie.Need-returns
-returns c = rw (c .before .before .read-finished .ensures) at (reading (c .put-part .ensures) (c .put-part .ok))
+returns c = rw (c .before .before .read-finished .ensures) at (reads-reading (c .put-part .ensures) (c .put-part .ok))
 
 pub tn-read-finished-spec : {M : Type 1} → statement M
 tn-read-finished-spec = tie.close (tie.spec (λ c κs. search needs) put-part-requires returns)

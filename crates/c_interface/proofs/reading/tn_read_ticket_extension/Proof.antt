@@ -3,7 +3,7 @@
 use borrow.Author.Needs.{needs}
 use native.Mathlib.Omega.{arith}
 use Rattle.endian.specs.Number.{Bytes}
-use Rattle.c_interface.proofs.Readings.{reading}
+use Rattle.c_interface.proofs.Readings.{reads-reading}
 use Rattle.c_interface.proofs.Places.{ticket-extension-fits}
 use Rattle.c_interface.proofs.reading.tn_read_ticket_extension.Statement.{statement}
 use Rattle.c_interface.proofs.reading.tn_read_ticket_extension.Tie as tie
@@ -15,7 +15,7 @@ put-part-requires c κs =
     rw (c .before .ticket .ensures) (ticket-extension-fits m b)
 
 returns : tie.Need-returns
-returns c = rw (c .before .before .ticket .ensures) at (reading (c .put-part .ensures) (c .put-part .ok))
+returns c = rw (c .before .before .ticket .ensures) at (reads-reading (c .put-part .ensures) (c .put-part .ok))
 
 pub tn-read-ticket-extension-spec : {M : Type 1} → statement M
 tn-read-ticket-extension-spec = tie.close (tie.spec (λ c κs. search needs) put-part-requires returns)

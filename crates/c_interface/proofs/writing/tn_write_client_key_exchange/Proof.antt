@@ -2,7 +2,7 @@
 -- Assumes nothing.
 use borrow.Author.Needs.{needs}
 use Rattle.messages.specs.KeyExchange.{clientKeyExchange}
-use Rattle.c_interface.proofs.Answers.{few, codes}
+use Rattle.c_interface.proofs.Answers.{answer-count-small, codes-answer}
 use Rattle.c_interface.proofs.Sizes.{written-small}
 use Rattle.c_interface.proofs.writing.tn_write_client_key_exchange.Statement.{statement}
 use Rattle.c_interface.proofs.writing.tn_write_client_key_exchange.Tie as tie
@@ -10,10 +10,10 @@ use Rattle.c_interface.proofs.writing.tn_write_client_key_exchange.Tie 
 of-answer-requires : tie.Need-of-answer-requires
 of-answer-requires c κs =
     let a = c .before .before .before .before .before .before .args in
-    few (c .before .before .write-identity .ensures) (written-small clientKeyExchange (a .identity .now))
+    answer-count-small (c .before .before .write-identity .ensures) (written-small clientKeyExchange (a .identity .now))
 
 returns : tie.Need-returns
-returns c = codes (c .before .before .before .write-identity .ensures) (c .of-answer .ok) (c .of-answer .ensures)
+returns c = codes-answer (c .before .before .before .write-identity .ensures) (c .of-answer .ok) (c .of-answer .ensures)
 
 pub tn-write-client-key-exchange-spec : {M : Type 1} → statement M
 tn-write-client-key-exchange-spec =

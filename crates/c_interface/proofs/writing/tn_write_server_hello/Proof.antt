@@ -2,7 +2,7 @@
 -- Assumes nothing.
 use borrow.Author.Needs.{needs}
 use Rattle.hellos.specs.ServerHello.{serverHello, serverGiven}
-use Rattle.c_interface.proofs.Answers.{few, codes}
+use Rattle.c_interface.proofs.Answers.{answer-count-small, codes-answer}
 use Rattle.c_interface.proofs.Sizes.{written-small}
 use Rattle.c_interface.proofs.writing.tn_write_server_hello.Statement.{statement}
 use Rattle.c_interface.proofs.writing.tn_write_server_hello.Tie as tie
@@ -11,10 +11,10 @@ of-answer-requires : tie.Need-of-answer-requires
 of-answer-requires c κs =
     let a = c .before .before .before .before .before .before .before .before .args in
     let fields = serverGiven (a .version) (a .random .now) (a .session-id .now) (a .suite) (a .compression) (a .present) (a .block .now) in
-    few (c .before .before .write .ensures) (written-small serverHello fields)
+    answer-count-small (c .before .before .write .ensures) (written-small serverHello fields)
 
 returns : tie.Need-returns
-returns c = codes (c .before .before .before .write .ensures) (c .of-answer .ok) (c .of-answer .ensures)
+returns c = codes-answer (c .before .before .before .write .ensures) (c .of-answer .ok) (c .of-answer .ensures)
 
 pub tn-write-server-hello-spec : {M : Type 1} → statement M
 tn-write-server-hello-spec =

@@ -2,7 +2,7 @@
 -- Assumes nothing.
 use borrow.Author.Needs.{needs}
 use Rattle.messages.specs.KeyExchange.{serverKeyExchange}
-use Rattle.c_interface.proofs.Answers.{few, codes}
+use Rattle.c_interface.proofs.Answers.{answer-count-small, codes-answer}
 use Rattle.c_interface.proofs.Sizes.{written-small}
 use Rattle.c_interface.proofs.writing.tn_write_server_key_exchange.Statement.{statement}
 use Rattle.c_interface.proofs.writing.tn_write_server_key_exchange.Tie as tie
@@ -10,10 +10,10 @@ use Rattle.c_interface.proofs.writing.tn_write_server_key_exchange.Tie 
 of-answer-requires : tie.Need-of-answer-requires
 of-answer-requires c κs =
     let a = c .before .before .before .before .before .before .args in
-    few (c .before .before .write-hint .ensures) (written-small serverKeyExchange (a .hint .now))
+    answer-count-small (c .before .before .write-hint .ensures) (written-small serverKeyExchange (a .hint .now))
 
 returns : tie.Need-returns
-returns c = codes (c .before .before .before .write-hint .ensures) (c .of-answer .ok) (c .of-answer .ensures)
+returns c = codes-answer (c .before .before .before .write-hint .ensures) (c .of-answer .ok) (c .of-answer .ensures)
 
 pub tn-write-server-key-exchange-spec : {M : Type 1} → statement M
 tn-write-server-key-exchange-spec =

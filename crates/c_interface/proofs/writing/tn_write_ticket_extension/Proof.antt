@@ -2,7 +2,7 @@
 -- Assumes nothing.
 use borrow.Author.Needs.{needs}
 use Rattle.extensions.specs.Extensions.{ticketExtension}
-use Rattle.c_interface.proofs.Answers.{few, codes}
+use Rattle.c_interface.proofs.Answers.{answer-count-small, codes-answer}
 use Rattle.c_interface.proofs.Sizes.{extension-small}
 use Rattle.c_interface.proofs.writing.tn_write_ticket_extension.Statement.{statement}
 use Rattle.c_interface.proofs.writing.tn_write_ticket_extension.Tie as tie
@@ -10,10 +10,10 @@ use Rattle.c_interface.proofs.writing.tn_write_ticket_extension.Tie as 
 of-answer-requires : tie.Need-of-answer-requires
 of-answer-requires c κs =
     let a = c .before .before .before .before .before .before .args in
-    few (c .before .before .write-ticket .ensures) (extension-small (ticketExtension (a .ticket .now)))
+    answer-count-small (c .before .before .write-ticket .ensures) (extension-small (ticketExtension (a .ticket .now)))
 
 returns : tie.Need-returns
-returns c = codes (c .before .before .before .write-ticket .ensures) (c .of-answer .ok) (c .of-answer .ensures)
+returns c = codes-answer (c .before .before .before .write-ticket .ensures) (c .of-answer .ok) (c .of-answer .ensures)
 
 pub tn-write-ticket-extension-spec : {M : Type 1} → statement M
 tn-write-ticket-extension-spec =

@@ -8,7 +8,7 @@ use mathlib.Core.List.{List, _++_, append-assoc}
 use lib.ListN.{length, drop, length-append}
 use Rattle.layout.specs.Layout.{message}
 use Rattle.hellos.specs.Hello.{frontBytes, tailBytes, given, between}
-use Rattle.layout.proofs.Puts.{front, behind}
+use Rattle.layout.proofs.Puts.{front, copy-behind-front}
 use Rattle.hellos.proofs.Hellos.{fronted, length-front, length-body, front-message, front-put}
 use Rattle.hellos.proofs.hello.put_all.Statement.{statement}
 use Rattle.hellos.proofs.hello.put_all.Tie as tie
@@ -23,10 +23,10 @@ abbrev tail : tie.Start → List ℕ
 tail s = let a = s .args in tailBytes (given (a .present) (a .block .now))
 
 -- the parts one behind the other are the message
-whole : (s : tie.Start) →
+parts-are-message : (s : tie.Start) →
     let a = s .args in
     (head s ++ middle s) ++ tail s ≡ message (a .kind) (frontBytes (a .version) (a .random .now) (a .session-id .now) (middle s ++ tail s))
-whole s =
+parts-are-message s =
     let a = s .args in
     let rest : List ℕ = middle s ++ tail s in
     let total : length rest ≡ length (middle s) + length (tail s) = length-append (middle s) (tail s) in
@@ -59,14 +59,14 @@ returns c =
     let one : first .last .1 .1 .1 .1 .1 .0 ≡ front (head s) out =
     front-put (a .kind) (a .body-len) (a .version) (a .random .now) id out _ (s .pre .0) (first .ensures .1) in
     let two : second .last .1 .1 .1 .1 .0 ≡ front (head s ++ middle s) out =
-    second .ensures .1 ∙ behind (head s) (middle s) out _ (first .result) one (first .ensures .0 ∙ sym long) in
+    second .ensures .1 ∙ copy-behind-front (head s) (middle s) out _ (first .result) one (first .ensures .0 ∙ sym long) in
     let both = length-append (head s) (middle s) in
     let place : second .result ≡ length (head s ++ middle s) = omega (arith, first .ensures .0, second .ensures .0, long, both) in
     let three : third .last .1 .1 .0 ≡ front ((head s ++ middle s) ++ tail s) out =
-    third .ensures .1 ∙ behind (head s ++ middle s) (tail s) out _ (second .result) two place in
+    third .ensures .1 ∙ copy-behind-front (head s ++ middle s) (tail s) out _ (second .result) two place in
     let total = length-append (head s ++ middle s) (tail s) in
     let size : length ((head s ++ middle s) ++ tail s) ≡ 4 + a .body-len = omega (arith, long, both, total, s .pre .2) in
-    (omega (arith, place, third .ensures .0, size, total), three ∙ ap₂ (λ (l : List ℕ) (k : ℕ). l ++ drop k out) (whole s) size)
+    (omega (arith, place, third .ensures .0, size, total), three ∙ ap₂ (λ (l : List ℕ) (k : ℕ). l ++ drop k out) (parts-are-message s) size)
 
 pub put-all-spec : {M : Type 1} → statement M
 put-all-spec =

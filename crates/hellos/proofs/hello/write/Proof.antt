@@ -8,11 +8,11 @@ use mathlib.Core.Path.{_≡_, sym, ap, _∙_}
 use mathlib.Core.Bool.{true, false, and-false}
 use mathlib.Core.List.{List, _++_}
 use lib.ListN.{length, drop, length-append}
-use Rattle.refusal.proofs.Laws.{short}
+use Rattle.refusal.proofs.Laws.{short-answers}
 use Rattle.layout.specs.Layout.{Layout, bytes, valid}
 use Rattle.hellos.specs.Hello.{Front, helloWith, between, frontGiven, frontRules, blockRules, tailBytes, given}
 use Rattle.layout.proofs.Layouts.{valid-within, valid-rules, valid-long, writes, writes-none}
-use Rattle.layout.proofs.Puts.{wrote}
+use Rattle.layout.proofs.Puts.{front-answers}
 use Rattle.hellos.proofs.Hellos.{front-rules, length-body, length-between, tail-bound}
 use Rattle.hellos.proofs.hello.write.Statement.{statement}
 use Rattle.hellos.proofs.hello.write.Tie as tie
@@ -95,7 +95,7 @@ returns-4 : tie.Need-returns-4
 returns-4 c =
     let s = start3 (c .before .before) in
     let n = sized (c .before .before) in
-    writes (layout s) (fields s) (out s) _ _ (ok (c .before)) (short (bytes (layout s) (fields s)) (out s) (omega arith))
+    writes (layout s) (fields s) (out s) _ _ (ok (c .before)) (short-answers (bytes (layout s) (fields s)) (out s) (omega arith))
 
 put-all-requires : tie.Need-put-all-requires
 put-all-requires c κs =
@@ -117,7 +117,7 @@ returns-5 c =
     ≡ length (bytes (layout s) (fields s)) = omega arith in
     let put = at .put-all .ensures .1 ∙ ap (λ (k : ℕ). bytes (layout s) (fields s) ++ drop k (out s)) size in
     writes (layout s) (fields s) (out s) _ _ (ok (at .before .before .before))
-    (wrote (bytes (layout s) (fields s)) (out s) _ _ (omega (arith, at .before .before .if4 .left)) put (at .put-all .ensures .0 ∙ size))
+    (front-answers (bytes (layout s) (fields s)) (out s) _ _ (omega (arith, at .before .before .if4 .left)) put (at .put-all .ensures .0 ∙ size))
 
 pub write-spec : {M : Type 1} → statement M
 write-spec =

@@ -1,7 +1,7 @@
 -- `keys::mac::block_of` meets its contract: a short key is copied over zeros, a long one hashed.
 -- Assumes nothing.
 use native.Mathlib.Omega.{arith}
-use Rattle.refusal.proofs.Laws.{front}
+use Rattle.refusal.proofs.Laws.{answer-in-front}
 use Rattle.sha256.proofs.Finish.{length-digest, sha256-within}
 use Rattle.keys.proofs.HmacSteps.{short-key, long-key}
 use borrow.Author.Needs.{needs}
@@ -18,7 +18,7 @@ returns-2 c =
     let start = c .before .before .before .before .before in
     let key = start .args .key .now in
     let hashed = rw (sha256-within key (start .pre)) at (c .before .hash .ensures) in
-    long-key key (c .before .hash .last .1 .0) (c .before .before .before .if1 .left) (front hashed (rw (length-digest key) (omega arith)))
+    long-key key (c .before .hash .last .1 .0) (c .before .before .before .if1 .left) (answer-in-front hashed (rw (length-digest key) (omega arith)))
 
 pub block-of-spec : {M : Type 1} → statement M
 block-of-spec =

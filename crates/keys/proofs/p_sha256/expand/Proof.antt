@@ -7,7 +7,7 @@ use Prim.Native.Nat.{_+_, _-_, _*_, _≤_, _<_}
 use native.Mathlib.Omega.{arith}
 use lib.ListN.{length, take}
 use Rattle.keys.specs.Prf.{A, P, text}
-use Rattle.keys.proofs.PrfSteps.{next-part, enough}
+use Rattle.keys.proofs.PrfSteps.{next-part, blocks-enough}
 use borrow.Author.Needs.{needs}
 use Rattle.keys.proofs.p_sha256.expand.Statement.{statement}
 use Rattle.keys.proofs.p_sha256.expand.Tie as tie
@@ -41,7 +41,7 @@ loop-again c =
     (search needs, search needs, search needs, search needs, longer (at-loop .loop .inv .4) made (rw size at (c .append .ensures)), λ h. stepped)
 
 returns : tie.Need-returns Inv-loop μ-loop
-returns c = enough _ _ _ _ _ (omega arith) (omega arith) (c .before .loop .inv .4)
+returns c = blocks-enough _ _ _ _ _ (omega arith) (omega arith) (c .before .loop .inv .4)
 
 pub expand-spec : {M : Type 1} → statement M
 expand-spec =

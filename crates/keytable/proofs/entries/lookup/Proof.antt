@@ -6,7 +6,7 @@ use Prim.Native.Nat.{ℕ, _≤_}
 use mathlib.Core.List.{List}
 use denote.Ref.{now}
 use lib.ListN.{length}
-use Rattle.refusal.proofs.Laws.{refused}
+use Rattle.refusal.proofs.Laws.{refuses-answers}
 use Rattle.keytable.specs.Inner.{Within}
 use Rattle.keytable.proofs.Matching.{key-listed, key-unlisted}
 use Rattle.keytable.proofs.entries.lookup.Statement.{statement}
@@ -45,7 +45,7 @@ returns c =
     rw (key-listed _ _ _ (h .first-line .ensures .1) _ _ (k .before .hit .given .1)) (c .before .before .key-into .ensures)
 
 returns-2 : tie.Need-returns-2
-returns-2 c = rw (key-unlisted _ _ _ (c .before .before .first-line .ensures .1) (c .enum-told .given .1)) (refused _ _)
+returns-2 c = rw (key-unlisted _ _ _ (c .before .before .first-line .ensures .1) (c .enum-told .given .1)) (refuses-answers _ _)
 
 pub lookup-spec : {M : Type 1} → statement M
 lookup-spec =

@@ -2,7 +2,7 @@
 -- Assumes nothing.
 use borrow.Author.Needs.{needs}
 use denote.Ref.{now}
-use Rattle.refusal.proofs.Laws.{gave, short, refused}
+use Rattle.refusal.proofs.Laws.{gives-answers, short-answers, refuses-answers}
 use Rattle.keytable.specs.Table.{decoded}
 use Rattle.keytable.proofs.Pairs.{length-decoded, digits-of-key}
 use Rattle.lists.proofs.Tests.{failed, passed}
@@ -10,10 +10,10 @@ use Rattle.keytable.proofs.hex.key_into.Statement.{statement}
 use Rattle.keytable.proofs.hex.key_into.Tie as tie
 
 returns : tie.Need-returns
-returns c = rw (failed _ _ (c .before .valid-key .ensures) (c .if1 .taken)) (refused _ _)
+returns c = rw (failed _ _ (c .before .valid-key .ensures) (c .if1 .taken)) (refuses-answers _ _)
 
 returns-2 : tie.Need-returns-2
-returns-2 c = rw (passed _ _ (c .before .before .valid-key .ensures) (c .before .if1 .left)) (short _ _ (rw length-decoded (c .if2 .taken)))
+returns-2 c = rw (passed _ _ (c .before .before .valid-key .ensures) (c .before .if1 .left)) (short-answers _ _ (rw length-decoded (c .if2 .taken)))
 
 decode-requires : tie.Need-decode-requires
 decode-requires c κs =
@@ -28,7 +28,7 @@ returns-3 c =
     let args = key .before .before .before .args in
     let text = now (args .text) in
     rw (passed _ _ (key .valid-key .ensures) (tests .before .if1 .left), c .before .before .decode .ensures)
-    (rw (length-decoded text) at (gave (decoded text) (now (args .out)) (rw (length-decoded text) (tests .if2 .left))))
+    (rw (length-decoded text) at (gives-answers (decoded text) (now (args .out)) (rw (length-decoded text) (tests .if2 .left))))
 
 pub key-into-spec : {M : Type 1} → statement M
 key-into-spec =

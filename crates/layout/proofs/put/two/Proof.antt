@@ -5,20 +5,20 @@ use native.Mathlib.Omega.{arith}
 use mathlib.Core.Path.{_≡_}
 use mathlib.Core.List.{_++_}
 use lib.ListN.{length-append}
-use Rattle.refusal.proofs.Laws.{short}
-use Rattle.layout.proofs.Puts.{front, copied, put-behind, wrote}
+use Rattle.refusal.proofs.Laws.{short-answers}
+use Rattle.layout.proofs.Puts.{front, copy-in-front, put-behind, front-answers}
 use Rattle.layout.proofs.put.two.Statement.{statement}
 use Rattle.layout.proofs.put.two.Tie as tie
 
 returns : tie.Need-returns
 returns c =
     let a = c .before .before .before .before .args in
-    short (a .head .now ++ a .tail .now) (a .out .now) (simp length-append (omega arith))
+    short-answers (a .head .now ++ a .tail .now) (a .out .now) (simp length-append (omega arith))
 
 returns-2 : tie.Need-returns-2
 returns-2 c =
     let a = c .before .before .before .before .before .args in
-    short (a .head .now ++ a .tail .now) (a .out .now) (simp length-append (omega arith))
+    short-answers (a .head .now ++ a .tail .now) (a .out .now) (simp length-append (omega arith))
 
 returns-3 : tie.Need-returns-3
 returns-3 c =
@@ -29,10 +29,10 @@ returns-3 c =
     let head = a .head .now in
     let tail = a .tail .now in
     let out = a .out .now in
-    let one : first .last .1 .0 ≡ front head out = copied head out (first .last .1 .0) (first .ensures .1) in
-    let two = copied tail _ (second .last .1 .0) (second .ensures .1) in
+    let one : first .last .1 .0 ≡ front head out = copy-in-front head out (first .last .1 .0) (first .ensures .1) in
+    let two = copy-in-front tail _ (second .last .1 .0) (second .ensures .1) in
     let both = put-behind head tail out (first .last .1 .0) (second .last .1 .0) (first .result) one (omega arith) two in
-    wrote (head ++ tail) out _ _ (simp length-append (omega arith)) both (simp length-append (omega arith))
+    front-answers (head ++ tail) out _ _ (simp length-append (omega arith)) both (simp length-append (omega arith))
 
 pub two-spec : {M : Type 1} → statement M
 two-spec =

@@ -13,14 +13,14 @@ use Rattle.server.proofs.calls.decide.Statement.{statement}
 use Rattle.server.proofs.calls.decide.Tie as tie
 
 -- the order of the tests, as far as the connection being over
-tested : (c : tie.After-is-over) →
+step-after-over : (c : tie.After-is-over) →
     let args = c .before .before .before .args in
     let v = viewOf (args .table .now) in
     let phase = args .c .phase in
     messageStep v (args .c) (args .m .now) phase
     ≡ cond (c .is-over .result) (refuse ConnectionOver)
     (afterTests (headerTest (awaited phase) (args .m .now)) (bodyStep v (args .c) (args .m .now) phase))
-tested c =
+step-after-over c =
     let args = c .before .before .before .args in
     let v = viewOf (args .table .now) in
     let phase = args .c .phase in
@@ -30,7 +30,7 @@ tested c =
 returns : tie.Need-returns
 returns c =
     let at-over = c .before .before in
-    same-step (tested at-over ∙ rw (c .before .if1 .taken)) (c .refused .ensures)
+    same-step (step-after-over at-over ∙ rw (c .before .if1 .taken)) (c .refused .ensures)
 
 body-requires : tie.Need-body-requires
 body-requires c κs = sym (c .before .before .test-header .ensures) ∙ c .enum-told .given .1
@@ -43,7 +43,7 @@ behind : (c : tie.After-test-header) {verdict : Verdict} → c .test-header .res
 behind c e =
     let args = c .before .before .before .before .before .args in
     let step = bodyStep (viewOf (args .table .now)) (args .c) (args .m .now) (args .c .phase) in
-    tested (c .before .before) ∙ rw (c .before .if1 .left) (ap (λ (v : Verdict). afterTests v step) (sym (c .test-header .ensures) ∙ e))
+    step-after-over (c .before .before) ∙ rw (c .before .if1 .left) (ap (λ (v : Verdict). afterTests v step) (sym (c .test-header .ensures) ∙ e))
 
 returns-2 : tie.Need-returns-2
 returns-2 c = same-step (behind (c .before .before .before) (c .before .enum-told .given .1)) (c .body .ensures)

@@ -37,8 +37,8 @@ put c =
     let start = entry c in
     rw (flight-bytes (start .args .outgoing), ← c .before .before .before .size .ensures) (c .put .ensures)
 
-few : (c : tie.After-put) → length (flightBytes (flightOf (entry c .args .outgoing))) ≤ longest
-few c =
+flight-short : (c : tie.After-put) → length (flightBytes (flightOf (entry c .args .outgoing))) ≤ longest
+flight-short c =
     let start = entry c in
     let at-size = c .before .before .before in
     rw (flight-bytes (start .args .outgoing), ← at-size .size .ensures)
@@ -48,13 +48,13 @@ returns : tie.Need-returns
 returns c =
     let at-put = c .before .before .before .before in
     let args = entry at-put .args in
-    sent (args .c) (args .next) (flightOf (args .outgoing)) (few at-put) (put at-put) (c .enum-told .given .1)
+    sent (args .c) (args .next) (flightOf (args .outgoing)) (flight-short at-put) (put at-put) (c .enum-told .given .1)
 
 returns-2 : tie.Need-returns-2
 returns-2 c =
     let at-put = c .before .before .before .before in
     let args = entry at-put .args in
-    not-sent (args .c) (args .next) (flightOf (args .outgoing)) (few at-put) (put at-put) (c .enum-told2 .given .1)
+    not-sent (args .c) (args .next) (flightOf (args .outgoing)) (flight-short at-put) (put at-put) (c .enum-told2 .given .1)
 
 pub send-spec : {M : Type 1} → statement M
 send-spec =

@@ -5,7 +5,7 @@ use Prim.Native.Nat.{_≤_}
 use Rattle.refusal.specs.Lent.{gives}
 use Rattle.sha256.specs.Hash.{limit}
 use borrow.Author.Tests.{lt-leb, le-leb}
-use Rattle.refusal.proofs.Laws.{refused}
+use Rattle.refusal.proofs.Laws.{refuses-answers}
 use Rattle.refusal.specs.declared.Refusal.the-variants.{BadValue}
 use Rattle.sha256.specs.State.{finished}
 use borrow.Author.Needs.{needs}
@@ -14,7 +14,7 @@ use Rattle.sha256.proofs.Sha256.finish.Tie as tie
 
 returns : tie.Need-returns
 unfolding finished
-returns c = rw (lt-leb _ _ (c .if1 .taken)) (refused BadValue _)
+returns c = rw (lt-leb _ _ (c .if1 .taken)) (refuses-answers BadValue _)
 
 returns-2 : tie.Need-returns-2
 unfolding finished

@@ -13,8 +13,8 @@ use borrow.Author.Needs.{needs}
 use Rattle.sha256.proofs.Sha256.padded.Statement.{statement}
 use Rattle.sha256.proofs.Sha256.padded.Tie as tie
 
-held : (c : tie.Start) → length (take (c .args .self .count % 64) (c .args .self .block)) ≡ c .args .self .count % 64
-held c =
+block-held : (c : tie.Start) → length (take (c .args .self .count % 64) (c .args .self .block)) ≡ c .args .self .count % 64
+block-held c =
     let size : length (c .args .self .block) ≡ 64 = search needs in
     length-take-le (c .args .self .count % 64) (c .args .self .block) (omega arith)
 
@@ -28,7 +28,7 @@ returns c =
       c .all-blocks .ensures,
       c .before .before .with-length .ensures,
       at-marked .marked .ensures,
-      padding-one front (s .count) (held start) (omega arith),
+      padding-one front (s .count) (block-held start) (omega arith),
     )
 
 returns-2 : tie.Need-returns-2
@@ -40,14 +40,14 @@ returns-2 c =
     let s = start .args .self in
     let front = take (s .count % 64) (s .block) in
     let first = front ++ (0x80 ∷ replicate (63 - s .count % 64) 0) in
-    let size : length first ≡ 64 = rw (length-marked front (63 - s .count % 64), held start) (omega arith) in
+    let size : length first ≡ 64 = rw (length-marked front (63 - s .count % 64), block-held start) (omega arith) in
     let second = take 56 (replicate 64 0) ++ be 8 (8 * s .count) in
     rw (
       c .all-blocks3 .ensures,
       at-second .with-length2 .ensures,
       at-first .all-blocks2 .ensures,
       at-marked .marked .ensures,
-      padding-two front (s .count) (held start) (omega arith),
+      padding-two front (s .count) (block-held start) (omega arith),
       hash-first (s .words) first second size,
     )
 

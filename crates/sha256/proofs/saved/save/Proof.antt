@@ -6,7 +6,7 @@ use lib.ListN.{length, replicate}
 use lib.Seq.{take-all}
 use Rattle.sha256.specs.Hash.{concatenated}
 use Rattle.sha256.specs.Saved.{saved, restored}
-use Rattle.lists.proofs.Copies.{behind}
+use Rattle.lists.proofs.Copies.{copy-behind}
 use Rattle.sha256.proofs.Saving.{Fits, restored-saved}
 use borrow.Author.Needs.{needs}
 use Rattle.sha256.proofs.saved.save.Statement.{statement}
@@ -47,9 +47,9 @@ returns c =
     let second = at-held .append2 in
     let third = c .append3 in
     let count = at-count .bytes64 in
-    let front = behind (replicate 104 0) (words .result) (first .result) 0 32 (first .ensures) refl (words .ensures) refl in
-    let held = behind (first .result) (state .block) (second .result) 32 64 (second .ensures) front refl (fits start .size) in
-    let all = behind (second .result) (count .result) r 96 8 (third .ensures) held (count .ensures) refl in
+    let front = copy-behind (replicate 104 0) (words .result) (first .result) 0 32 (first .ensures) refl (words .ensures) refl in
+    let held = copy-behind (first .result) (state .block) (second .result) 32 64 (second .ensures) front refl (fits start .size) in
+    let all = copy-behind (second .result) (count .result) r 96 8 (third .ensures) held (count .ensures) refl in
     let whole : r ≡ saved state = sym (take-all 104 r (omega arith)) ∙ all in
     (whole, ap restored whole ∙ restored-saved state (fits start))
 

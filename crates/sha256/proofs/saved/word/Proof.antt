@@ -4,7 +4,7 @@ use mathlib.Core.Path.{_≡_, sym, ap, _∙_}
 use native.Mathlib.Omega.{arith}
 use lib.ListN.{length}
 use Rattle.endian.specs.Number.{number}
-use Rattle.sha256_block.proofs.Steps.{four}
+use Rattle.sha256_block.proofs.Steps.{word-at-four}
 use borrow.Author.Needs.{needs}
 use Rattle.sha256.proofs.saved.word.Statement.{statement}
 use Rattle.sha256.proofs.saved.word.Tie as tie
@@ -13,7 +13,7 @@ returns : tie.Need-returns
 returns c =
     let start = c .before in
     let size : length (start .args .t1) ≡ 104 = search (needs, start .good) in
-    c .number32 .ensures ∙ ap number (sym (four (start .args .t1) (start .args .at) (omega arith)))
+    c .number32 .ensures ∙ ap number (sym (word-at-four (start .args .t1) (start .args .at) (omega arith)))
 
 pub word-spec : {M : Type 1} → statement M
 word-spec =
