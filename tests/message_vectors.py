@@ -1,6 +1,6 @@
-"""The input and the expected output of crates/message_vectors, from a parser that is written here.
+"""The input and the expected output of crates/message_vectors, from a parser and a writer that are written here.
 
-  message_vectors.py stdin    messages, and fields for the writers
+  message_vectors.py stdin    messages, fields for the writers, and the data of ticket extensions
   message_vectors.py stdout   what the program has to print of them
 
 The messages: document 01's V3 to V8, recordings of OpenSSL (tests/recorded, made by
@@ -8,7 +8,7 @@ record_messages.py), messages at the limits, and damaged variants of all of thes
 """
 import glob, os, random, sys
 
-from calls import field, literal, number, series
+from calls import field, literal, number, series, shown
 
 HERE = os.path.dirname(os.path.abspath(__file__))
 LIMIT = 16384
@@ -27,8 +27,8 @@ def client(session=b"", suites=b"\x00\xae", methods=b"\x00", block=None, version
     return message(1, body + (b"" if block is None else vector(2, block)))
 
 
-def server(session=b"", block=None):
-    body = b"\x03\x03" + bytes(range(32)) + vector(1, session) + b"\x00\xae\x00"
+def server(session=b"", block=None, suite=0x00AE):
+    body = b"\x03\x03" + bytes(range(32)) + vector(1, session) + suite.to_bytes(2, "big") + b"\x00"
     return message(2, body + (b"" if block is None else vector(2, block)))
 
 
@@ -142,12 +142,19 @@ def body(m, kind):
     return Reader(m, 4)
 
 
+def one_vector_at(r):
+    """Where the contents of the vector stand that is all there is."""
+    at, data = r.vector(2)
+    r.end()
+    return f"{at} {len(data)}"
+
+
 def block(r, is_client):
     if r.at == len(r.data):
         return "absent"
     _, contents = r.vector(2)
     r.end()
-    inner, seen, shown = Reader(contents), set(), ""
+    inner, seen, text = Reader(contents), set(), ""
     while inner.at < len(contents):
         kind = inner.number(2)
         _, data = inner.vector(2)
@@ -155,11 +162,9 @@ def block(r, is_client):
             raise Refused
         seen.add(kind)
         if is_client and kind == 35:
-            ticket = Reader(data)
-            ticket.vector(2)
-            ticket.end()
-        shown += f" {kind} {len(data)}"
-    return shown.strip()
+            one_vector_at(Reader(data))
+        text += f" {kind} {len(data)}"
+    return text.strip()
 
 
 def client_hello(m):
@@ -192,17 +197,12 @@ def server_hello(m):
 def ticket(m):
     r = body(m, 4)
     hint = r.number(4)
-    at, data = r.vector(2)
-    r.end()
-    return f"{hint} {at} {len(data)}"
+    return f"{hint} {one_vector_at(r)}"
 
 
 def one_vector(kind):
     def read(m):
-        r = body(m, kind)
-        at, data = r.vector(2)
-        r.end()
-        return f"{at} {len(data)}"
+        return one_vector_at(body(m, kind))
 
     return read
 
@@ -229,83 +229,191 @@ READERS = [
 
 
 def line(m):
-    shown = ""
+    text = ""
     for name, read in READERS:
-        shown += " " + name
+        text += " " + name
         try:
             said = read(m) + " same"
         except Refused:
             said = "50"
         if name == "ClientKeyExchange":
-            shown += " 0" if said == "50" else f" {len(m) - 6}"
-        shown += " " + " ".join(said.split())
-    return shown
+            text += " 0" if said == "50" else f" {len(m) - 6}"
+        text += " " + " ".join(said.split())
+    return text
 
 
 CLIENT, SERVER, TICKET, HINT, DONE, IDENTITY, FINISHED = 3, 2, 4, 12, 14, 16, 20
+EXTENSION, TICKET_DATA, TICKET_EXTENSION = 5, 6, 35
 TWICE, EMPTY_TICKET = extension(23) + extension(23), extension(35)
 
 
-def hello(kind, number_of, said, room=16400, block=None, sizes=(32, 0, 2, 1)):
-    """A hello's writer: a version or suite, the sizes of the ClientHello's fields, and what it answers."""
-    more = number(number_of) + bytes((block is not None,)) + (b"".join(number(n, 2) for n in sizes) if kind == CLIENT else b"")
-    return bytes((kind,)) + number(room, 2) + field(literal(block or b"")) + more, said
+def allow(condition):
+    if not condition:
+        raise Refused
 
 
-def one(kind, size, room, said):
+def limited(m):
+    allow(len(m) <= LIMIT)
+    return m
+
+
+def allow_block(contents, is_client):
+    """A hello may carry the blocks that its reader takes."""
+    if contents is not None:
+        block(Reader(vector(2, contents)), is_client)
+
+
+def write_client(version, sizes, contents):
+    random_size, session, suites, methods = sizes
+    allow(random_size == 32 and session <= 32 and suites >= 2 and suites % 2 == 0 and methods >= 1)
+    allow_block(contents, True)
+    return limited(client(bytes(session), bytes(suites), bytes(methods), contents, version))
+
+
+def write_server(suite, contents):
+    allow_block(contents, False)
+    return limited(server(block=contents, suite=suite))
+
+
+def write_one(kind, data):
+    """A message of one field; a ticket stands behind a lifetime hint of 1."""
+    if kind == DONE:
+        return message(kind, b"")
+    if kind == FINISHED:
+        allow(len(data) == 12)
+        return message(kind, data)
+    hint = number(1, 4) if kind == TICKET else b""
+    return limited(message(kind, hint + vector(2, data)))
+
+
+def answer(write, room, front=0):
+    """A line: how much was written or the refusal, how far the output has changed (all of that, or nothing),
+    and so many bytes at the front. R5 is for a field that the layout forbids or whose number its bytes do not
+    hold (OverflowError); only then comes R1, for an output that is too short."""
+    try:
+        written = write()
+    except (Refused, OverflowError):
+        return " 5 0"
+    if len(written) > room:
+        return " 1 0"
+    n = len(written)
+    return f" {n} {n}" + (" " + written[:front].hex() if front else "")
+
+
+def writer(kind, room, pieces):
+    return bytes((kind,)) + number(room, 2) + field(pieces)
+
+
+def hello(kind, number_of, room=16400, block=None, sizes=(32, 0, 2, 1)):
+    """A hello's writer: a version or suite, and the sizes of the ClientHello's fields."""
+    call = writer(kind, room, literal(block or b"")) + number(number_of) + bytes((block is not None,))
+    if kind == SERVER:
+        return call, answer(lambda: write_server(number_of, block), room)
+    return call + b"".join(number(n, 2) for n in sizes), answer(lambda: write_client(number_of, sizes, block), room)
+
+
+def one(kind, size, room):
     """The writer of a message with one field of so many bytes 07."""
-    return bytes((kind,)) + number(room, 2) + field(series(7, 0, size)), said
+    data = series(7, 0, size)
+    return writer(kind, room, data), answer(lambda: write_one(kind, shown(data)), room)
 
 
-# What the writers answer: R5 for what a layout forbids, else R1 where the output is too short, else a length.
-WRITERS = [
-    one(IDENTITY, 16379, 16400, "5"),
-    one(HINT, 16379, 3, "5"),
-    one(HINT, 16378, 16383, "1"),
-    one(TICKET, 16375, 16400, "5"),
-    one(TICKET, 2, 11, "1"),
-    one(TICKET, 16374, 16384, "wrote 16384"),
-    one(IDENTITY, 16378, 16384, "wrote 16384"),
-    one(FINISHED, 11, 16400, "5"),
-    one(FINISHED, 12, 15, "1"),
-    one(DONE, 0, 3, "1"),
-    one(DONE, 0, 16400, "wrote 4"),
-    hello(CLIENT, 65536, "5"),
-    hello(CLIENT, 771, "5", sizes=(31, 0, 2, 1)),
-    hello(CLIENT, 771, "5", sizes=(32, 33, 2, 1)),
-    hello(CLIENT, 771, "5", sizes=(32, 0, 3, 1)),
-    hello(CLIENT, 771, "5", sizes=(32, 0, 2, 0)),
-    hello(CLIENT, 771, "5", sizes=(32, 0, 2, 256)),
-    hello(CLIENT, 771, "5", sizes=(32, 0, 16342, 1)),
-    hello(CLIENT, 771, "wrote 16383", sizes=(32, 0, 16340, 1)),
-    hello(CLIENT, 771, "5", block=TWICE),
-    hello(CLIENT, 771, "5", block=EMPTY_TICKET),
-    hello(CLIENT, 771, "1", room=44),
-    hello(CLIENT, 771, "wrote 45", room=45),
-    hello(SERVER, 65536, "5"),
-    hello(SERVER, 174, "5", block=TWICE),
-    hello(SERVER, 174, "1", room=41),
-    hello(SERVER, 174, "wrote 48", block=EMPTY_TICKET),
+def any_extension(kind, size, room):
+    """The writer of an extension, for data of so many bytes 07, 08, .."""
+    data = series(7, 1, size)
+    return writer(EXTENSION, room, data) + number(kind), answer(lambda: extension(kind, shown(data)), room, 8)
+
+
+def ticket_extension(size, room):
+    """The writer of a SessionTicket extension, for a ticket of so many bytes 07, 08, .."""
+    data = series(7, 1, size)
+    return writer(TICKET_EXTENSION, room, data), answer(lambda: extension(35, vector(2, shown(data))), room, 8)
+
+
+def ticket_data(data):
+    """The reader of such an extension's data."""
+    try:
+        said = one_vector_at(Reader(data))
+    except Refused:
+        said = "50"
+    return bytes((TICKET_DATA,)) + field(literal(data)), " " + said
+
+
+# The calls beside the messages: each is its input and the line that it has to give.
+CALLS = [
+    one(IDENTITY, 16379, 16400),
+    one(HINT, 16379, 3),
+    one(HINT, 16378, 16383),
+    one(TICKET, 16375, 16400),
+    one(TICKET, 2, 11),
+    one(TICKET, 16374, 16384),
+    one(IDENTITY, 16378, 16384),
+    one(FINISHED, 11, 16400),
+    one(FINISHED, 12, 15),
+    one(DONE, 0, 3),
+    one(DONE, 0, 16400),
+    hello(CLIENT, 65536),
+    hello(CLIENT, 771, sizes=(31, 0, 2, 1)),
+    hello(CLIENT, 771, sizes=(32, 33, 2, 1)),
+    hello(CLIENT, 771, sizes=(32, 0, 3, 1)),
+    hello(CLIENT, 771, sizes=(32, 0, 2, 0)),
+    hello(CLIENT, 771, sizes=(32, 0, 2, 256)),
+    hello(CLIENT, 771, sizes=(32, 0, 16342, 1)),
+    hello(CLIENT, 771, sizes=(32, 0, 16340, 1)),
+    hello(CLIENT, 771, block=TWICE),
+    hello(CLIENT, 771, block=EMPTY_TICKET),
+    hello(CLIENT, 771, room=44),
+    hello(CLIENT, 771, room=45),
+    hello(SERVER, 65536),
+    hello(SERVER, 174, block=TWICE),
+    hello(SERVER, 174, room=41),
+    hello(SERVER, 174, block=EMPTY_TICKET),
+    any_extension(0, 0, 4),
+    any_extension(0, 0, 3),
+    any_extension(35, 1, 5),
+    any_extension(35, 1, 4),
+    any_extension(255, 255, 16400),
+    any_extension(256, 256, 260),
+    any_extension(256, 256, 259),
+    any_extension(0x1234, 0x0506, 16400),
+    any_extension(65535, 16396, 16400),
+    any_extension(65535, 16397, 16400),
+    any_extension(65535, 65535, 16400),
+    any_extension(65535, 65536, 16400),
+    any_extension(65536, 0, 16400),
+    any_extension(65536, 0, 0),
+    ticket_extension(0, 6),
+    ticket_extension(0, 5),
+    ticket_extension(1, 16400),
+    ticket_extension(256, 262),
+    ticket_extension(256, 261),
+    ticket_extension(16000, 16006),
+    ticket_extension(16000, 16005),
+    ticket_extension(65533, 16400),
+    ticket_extension(65534, 0),
+    ticket_data(b""),
+    ticket_data(b"\x00"),
+    ticket_data(b"\x00\x00"),
+    ticket_data(b"\x00\x01"),
+    ticket_data(b"\x00\x01\xaa"),
+    ticket_data(b"\x00\x01\xaa\xbb"),
+    ticket_data(b"\x01\x00\xaa"),
+    ticket_data(vector(2, bytes(258))),
+    ticket_data(b"\xff\xff"),
 ]
-
-
-def answer_line(said):
-    """How much was written or the refusal, and how far the output has changed: all that was written, or nothing."""
-    n = said.removeprefix("wrote ")
-    return f" {n} {n if n != said else 0}"
 
 
 def main():
     if sys.argv[1] == "stdin":
         for m in inputs():
             sys.stdout.buffer.write(b"\x01" + field(literal(m)))
-        for call, _ in WRITERS:
+        for call, _ in CALLS:
             sys.stdout.buffer.write(call)
     else:
         for m in inputs():
             print(line(m))
-        for _, said in WRITERS:
-            print(answer_line(said))
+        for _, said in CALLS:
+            print(said)
 
 
 main()

@@ -1,9 +1,11 @@
 // Reads calls from standard input. Of a message it prints what every layout reader says of it: 50, or where
 // the fields stand, and whether the writer makes the same message of them again. Of fields it prints what
-// a writer answers, among them values that no layout has and outputs that are too short.
-// tests/message_vectors.py makes the input, and prints the same lines from a parser of its own.
+// a writer answers, among them values that no layout has and outputs that are too short; of an extension
+// the bytes at its front too. tests/message_vectors.py makes the input, and prints the same lines from a
+// parser and a writer of its own.
 //
-// A call is 1 and a message, or a byte that names a writer, the output's room, and what it takes.
+// A call is 1 and a message, 6 and the data of a SessionTicket extension, or a byte that names a writer, the
+// output's room, and what it takes.
 use extensions::Step;
 use hellos::Block;
 use hellos::client_hello::Client;
@@ -58,19 +60,18 @@ fn is_present(block: Block) -> bool {
     }
 }
 
-// A block's contents; of an absent one, none.
-fn contents(block: Block, message: &[u8]) -> &[u8] {
+// Prints a block, and answers its contents; of an absent one, none.
+fn show_block(block: Block, message: &[u8]) -> &[u8] {
     match block {
-        Block::Absent => lines::part(message, 0, 0),
-        Block::At { start, len } => lines::part(message, start, len),
-    }
-}
-
-fn print_block(present: bool, block: &[u8]) {
-    if present {
-        print_extensions(block);
-    } else {
-        lines::text(b" absent");
+        Block::Absent => {
+            lines::text(b" absent");
+            lines::part(message, 0, 0)
+        }
+        Block::At { start, len } => {
+            let contents = lines::part(message, start, len);
+            print_extensions(contents);
+            contents
+        }
     }
 }
 
@@ -92,16 +93,14 @@ fn show_client(message: &[u8], out: &mut [u8]) {
             print_number(suites_len);
             print_number(methods_start);
             print_number(methods_len);
-            let present = is_present(block);
-            let extensions = contents(block, message);
-            print_block(present, extensions);
+            let extensions = show_block(block, message);
             let said = hellos::client_hello::write(
                 version,
                 lines::part(message, 6, 32),
                 lines::part(message, 39, session_len),
                 lines::part(message, suites_start, suites_len),
                 lines::part(message, methods_start, methods_len),
-                present,
+                is_present(block),
                 extensions,
                 out,
             );
@@ -125,16 +124,14 @@ fn show_server(message: &[u8], out: &mut [u8]) {
             print_number(session_len);
             print_number(suite);
             print_number(compression as usize);
-            let present = is_present(block);
-            let extensions = contents(block, message);
-            print_block(present, extensions);
+            let extensions = show_block(block, message);
             let said = hellos::server_hello::write(
                 version,
                 lines::part(message, 6, 32),
                 lines::part(message, 39, session_len),
                 suite,
                 compression,
-                present,
+                is_present(block),
                 extensions,
                 out,
             );
@@ -226,14 +223,22 @@ fn changed(out: &[u8]) -> usize {
     end
 }
 
-// A line: how many bytes were written, or the number of the refusal, and how far the output has changed.
+// How many bytes were written, or the number of the refusal, and how far the output has changed.
 fn print_said(said: Written, out: &[u8]) {
     match said {
         Written::Wrote(n) => print_number(n),
         Written::Refused(r) => print_refusal(r),
     }
     print_number(changed(out));
-    lines::text(b"\n");
+}
+
+// The first bytes of an extension that was written. How many there are says nothing of its type, nor of
+// the lengths that it states.
+fn print_front(said: Written, out: &[u8]) {
+    if let Written::Wrote(n) = said {
+        lines::text(b" ");
+        lines::hex(lines::part(lines::part(out, 0, n), 0, 8));
+    }
 }
 
 // A ClientHello's writer, for fields of 07s whose sizes come from the input.
@@ -265,14 +270,17 @@ fn try_server(block: &[u8], out: &mut [u8]) -> Written {
 }
 
 // What a writer answers, for one field, or a block and what else a hello takes: 2 and 3 stand for the
-// hellos, any other number for its message's type.
+// hellos, 5 for an extension, whose type follows, 35 for a SessionTicket extension, any other number for its
+// message's type.
 fn answer(kind: u8, out: &mut [u8]) -> Written {
-    let mut buffer = [0u8; 16400];
+    let mut buffer = lines::buffer();
     let size = lines::field(&mut buffer);
     let field = lines::part(&buffer, 0, size);
     match kind {
         2 => try_server(field, out),
         3 => try_client(field, out),
+        5 => extensions::write(lines::number24(), field, out),
+        35 => extensions::write_ticket(field, out),
         _ => write(kind, field, out),
     }
 }
@@ -286,6 +294,22 @@ fn try_writer(kind: u8) {
     let out = &mut lent[16400 - room..];
     let said = answer(kind, out);
     print_said(said, out);
+    if kind == 5 || kind == 35 {
+        print_front(said, out);
+    }
+    lines::text(b"\n");
+}
+
+// A line: where the ticket stands in the data of a SessionTicket extension.
+fn show_data(data: &[u8]) {
+    match extensions::ticket(data) {
+        Part::At { start, len } => {
+            print_number(start);
+            print_number(len);
+        }
+        Part::Refused => print_refusal(Refusal::DecodeError),
+    }
+    lines::text(b"\n");
 }
 
 // A call of the input, and whether there was one.
@@ -294,14 +318,19 @@ fn call() -> bool {
     if kind == 0 {
         return false;
     }
-    if kind != 1 {
+    if kind != 1 && kind != 6 {
         try_writer(kind);
         return true;
     }
-    let mut message = [0u8; 16400];
+    let mut buffer = [0u8; 16400];
     let mut out = [0u8; 16400];
-    let n = lines::field(&mut message);
-    show(lines::part(&message, 0, n), &mut out);
+    let n = lines::field(&mut buffer);
+    let bytes = lines::part(&buffer, 0, n);
+    if kind == 1 {
+        show(bytes, &mut out);
+    } else {
+        show_data(bytes);
+    }
     true
 }
 
