@@ -182,12 +182,9 @@ static inline uint8_t tn_alert_number(int32_t result)
  *
  * An alert of the client goes to tn_alert whenever it comes before phase 5. Records after phase 5, alerts among them, are the host's alone.
  *
- * WHICH SUITE, WHICH GATE. The library keeps neither for the host, which reads both from the messages:
- *
- *   - the suite from the answer to the ClientHello, with tn_read_server_hello over exactly its first message. That one is 4 bytes and as many as its bytes 1
- *     to 3 say, big-endian; with the messages behind it the reader answers alert 50. fields[2] is the suite, for tn_key_block and the records.
- *   - the identity from the ClientKeyExchange, with tn_read_client_key_exchange before tn_message is called, in phase 2: afterwards a refused connection is
- *     closed, and the name is wanted most where it was refused. It is what the client says, of any bytes, and nobody's until phase 5.
+ * WHICH SUITE, WHICH GATE. tn_suite tells the suite in phases 2 to 4, for tn_key_block and the records. The identity the host reads from the
+ * ClientKeyExchange, with tn_read_client_key_exchange before tn_message is called, in phase 2: afterwards a refused connection is closed, and the name is
+ * wanted most where it was refused. It is what the client says, of any bytes, and nobody's until phase 5.
  *
  * The randoms of tn_key_block are the bytes that were lent to tn_start and, of the ClientHello, TN_RANDOM_SIZE bytes from TN_HELLO_RANDOM_AT on.
  *

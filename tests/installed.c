@@ -88,9 +88,11 @@ static int32_t hello(uint32_t version, uint8_t *answer)
     expect("V7", n == 45 && memcmp(message, "\x01\x00\x00\x29", 4) == 0);
     expect("start", tn_start(connection, random, sizeof random, random, 0, random, sizeof random, TN_RULE_NONE) == 0);
     expect("phase 1", tn_phase(connection) == TN_PHASE_CLIENT_HELLO);
+    expect("no suite yet", tn_suite(connection) == 0);
     expect("another rule is R3", tn_start(connection, random, sizeof random, random, 0, random, sizeof random, 3) == TN_R3);
     int32_t result = tn_message(connection, bytes(""), 0, message, sizeof message, answer, TN_FLIGHT_SIZE, master);
     expect("phase 2 or closed", tn_phase(connection) == (tn_is_count(result) ? TN_PHASE_CLIENT_KEY_EXCHANGE : TN_PHASE_CLOSED));
+    expect("the suite told", tn_suite(connection) == (tn_is_count(result) ? TN_SUITE_PSK_NULL_SHA256 : 0));
     expect("a change of cipher here", tn_change_of_cipher(connection) == (tn_is_count(result) ? TN_ALERT_RESULT(TN_ALERT_UNEXPECTED_MESSAGE) : TN_R4));
     expect("an alert to what is closed", tn_alert(connection, 2, 40) == TN_R4);
     return result;

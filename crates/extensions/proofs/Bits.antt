@@ -1,16 +1,24 @@
--- What setting a clear bit of a number does to each of its bits, and that the number still fits its width.
+-- What setting a clear bit of a number does to the number and to each of its bits.
 -- Assumes nothing.
 use mathlib.Core.Path.{_≡_, sym, ap, _∙_}
 use mathlib.Core.Logic.{_≢_}
 use Prim.Native.Nat.{ℕ, _+_, _-_, _*_, _/_, _%_, _^_, _<_}
 use native.Mathlib.Omega.{arith}
 use native.Mathlib.Decide.{decLt}
-use native.Mathlib.Nat.{add-div-right, add-mul-div-left, div-lt-iff-lt-mul}
+use native.Mathlib.Nat.{add-div-right, add-mul-div-left}
 use lib.Pow.{pow-pos, pow-add, shl-exact, shr-shr}
+use lib.Bits.{bitAnd, bitOr, and-high, or-disjoint}
 
 -- the bit alone, as a shift gives it
 pub shifted-one : (k w : ℕ) → k < w → (1 * 2 ^ k) % 2 ^ w ≡ 2 ^ k
 shifted-one k w inside = shl-exact {a = 1} 1 k w (omega arith) (omega arith) ∙ (omega arith)
+
+-- joining a clear bit is adding it
+pub joined-clear : (x k : ℕ) → x / 2 ^ k % 2 ≡ 0 → bitOr x (2 ^ k) ≡ x + 2 ^ k
+joined-clear x k clear =
+    let double : 2 ^ (1 + k) - 2 ^ k ≡ 2 ^ k = rw (pow-add 2 1 k) (omega arith) in
+    let apart : bitAnd x (2 ^ k) ≡ 0 = ap (bitAnd x) (sym double) ∙ and-high x 1 k ∙ ap (λ (y : ℕ). y * 2 ^ k) clear ∙ (omega arith) in
+    or-disjoint x (2 ^ k) apart
 
 pub set-same : (x k : ℕ) → x / 2 ^ k % 2 ≡ 0 → (x + 2 ^ k) / 2 ^ k % 2 ≡ 1
 set-same x k clear = rw (add-div-right x (pow-pos k)) (omega arith)
@@ -32,12 +40,3 @@ set-other x k j apart clear = elim (decLt j k) [
   | yes h ↦ set-above x j k (k - j - 1) (omega arith)
   | no h ↦ set-below x j k (j - k - 1) (omega arith) clear
 ]
-
-pub set-fits : (x k w : ℕ) → k < w → x < 2 ^ w → x / 2 ^ k % 2 ≡ 0 → x + 2 ^ k < 2 ^ w
-set-fits x k w inside small clear =
-    let d : ℕ = w - k - 1 in
-    let whole : 2 ^ w ≡ 2 * 2 ^ d * 2 ^ k =
-    ap (λ (i : ℕ). 2 ^ i) (omega arith) ∙ pow-add 2 (1 + d) k ∙ ap (λ (y : ℕ). y * 2 ^ k) (pow-add 2 1 d) in
-    let high : x / 2 ^ k < 2 * 2 ^ d = div-lt-iff-lt-mul (pow-pos k) .1 (rw whole at small) in
-    let next : (x + 2 ^ k) / 2 ^ k < 2 * 2 ^ d = rw (add-div-right x (pow-pos k)) (omega arith) in
-    rw whole (div-lt-iff-lt-mul (pow-pos k) .0 next)

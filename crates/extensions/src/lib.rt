@@ -69,7 +69,7 @@ fn with_bit(word: usize, bit: usize) -> usize
     requires { ⌜ (bit < 64) × (word / 2 ^ bit % 2 ≡ 0) ⌝ }
     ensures { λ r. ⌜ r ≡ word + 2 ^ bit ⌝ }
 {
-    word + (1 << bit)
+    word | (1 << bit)
 }
 
 // The nearest part above `part` of those seen, of which `nearest` was, when an extension of another is there.

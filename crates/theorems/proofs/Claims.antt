@@ -1,5 +1,6 @@
 -- Every claim, by the theorem that proves it.
 -- Assumes nothing.
+use mathlib.Core.Path.{refl}
 use Rattle.refusal.proofs.Laws.{refusal-keeps, answer-keeps-rest, short-exactly}
 use Rattle.sha256.proofs.Padding.{zeros-fill, zeros-least}
 use Rattle.sha256.proofs.Finish.{finish-absorbed}
@@ -18,6 +19,7 @@ use Rattle.theorems.proofs.Over.{over-stays}
 use Rattle.theorems.proofs.Rules.{rules-apply}
 use Rattle.theorems.proofs.Suites.{suites-in-order}
 use Rattle.theorems.proofs.Handed.{handed-once}
+use Rattle.theorems.proofs.Numbers.{label-texts, numbers-in-c}
 use Rattle.theorems.proofs.Sameness.{sameness, sameness-of-lookups}
 use Rattle.theorems.proofs.Completion.{completes-exactly}
 use Rattle.theorems.proofs.FromC.{sameness-from-c, completes-exactly-from-c}
@@ -30,10 +32,12 @@ claims =
       answerKeepsRest = answer-keeps-rest;
       shortExactly = short-exactly;
       codesApart = codes-apart;
+      numbersInC = numbers-in-c;
       overStays = over-stays;
       hashedInParts = finish-absorbed;
       paddingFills = zeros-fill;
       paddingLeast = zeros-least;
+      labelTexts = label-texts;
       clientHelloInverse = client-inverse;
       serverHelloInverse = server-inverse;
       serverKeyExchangeInverse = vector-inverse 12;
@@ -50,6 +54,7 @@ claims =
       malformedUnlisted = malformed-unlisted;
       worked = Worked.worked;
       suitesInOrder = suites-in-order;
+      masterHanded = λ flight next. refl;
       masterHandedOnce = λ v c m. handed-once (c .phase) _;
       rulesApply = rules-apply;
       sameness = sameness;

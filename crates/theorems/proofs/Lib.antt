@@ -9,6 +9,7 @@ pub mod Worked
 pub mod Rules
 pub mod Over
 pub mod Suites
+pub mod Numbers
 pub mod Handed
 pub mod FromC
 pub mod Claims

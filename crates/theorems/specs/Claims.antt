@@ -32,6 +32,8 @@ use Rattle.keytable.specs.WellFormed.{WellFormed, Listed}
 use Rattle.server.specs.declared.Phase.{Phase}
 use Rattle.server.specs.declared.Connection.{Connection}
 use Rattle.server.specs.KeyExchange.{View}
+use Rattle.server.specs.Flight.{Flight}
+use Rattle.server.specs.Step.{accept}
 use Rattle.server.specs.Message.{messageStep, handedOver}
 use Rattle.c_interface.specs.Codes.{coded}
 use Rattle.theorems.specs.Demand3.{Sameness, CompletesExactly}
@@ -40,6 +42,7 @@ use Rattle.theorems.specs.FromC.{SamenessFromC, CompletesExactlyFromC}
 use Rattle.theorems.specs.Rules.{RulesApply}
 use Rattle.theorems.specs.Over.{OverStays}
 use Rattle.theorems.specs.Suites.{SuitesInOrder}
+use Rattle.theorems.specs.Numbers.{LabelTexts, NumbersInC}
 use Rattle.theorems.specs.Worked.{BytesWorkedThrough}
 
 pub record Claims : Type 1 where
@@ -49,11 +52,13 @@ pub record Claims : Type 1 where
   pub shortExactly : (room : ℕ) (wanted : Outcome) → ¬ (wanted ≡ refuses ShortOutput)
       → (within room wanted ≡ refuses ShortOutput) ↔ ((bytes : List ℕ) × (wanted ≡ gives bytes) × (room < length bytes))
   pub codesApart : (v w : Written) → coded v ≡ coded w → v ≡ w
+  pub numbersInC : NumbersInC
   pub overStays : OverStays
-  -- demand 2: the hash
+  -- demand 2: the hash, and the PRF's labels
   pub hashedInParts : (m : List ℕ) → finished (absorb fresh m) ≡ sha256 m
   pub paddingFills : (n : ℕ) → (n + 1 + zeros n) % 64 ≡ 56
   pub paddingLeast : (n z : ℕ) → (n + 1 + z) % 64 ≡ 56 → zeros n ≤ z
+  pub labelTexts : LabelTexts
   -- each layout with its reader, by name and number
   pub clientHelloInverse : Inverse clientHello readClientHello
   pub serverHelloInverse : Inverse serverHello readServerHello
@@ -77,6 +82,7 @@ pub record Claims : Type 1 where
   pub worked : BytesWorkedThrough
   -- the server's choices
   pub suitesInOrder : SuitesInOrder
+  pub masterHanded : (flight : Flight) (next : Connection) → handedOver Phase.KeyExchange (accept flight next) ≡ some (next .secrets .master)
   pub masterHandedOnce : (v : View) (c : Connection) (m secret : List ℕ) → handedOver (c .phase) (messageStep v c m (c .phase)) ≡ some secret
       → c .phase ≡ Phase.KeyExchange
   -- demand 3

@@ -5,6 +5,7 @@ pub mod Agreeing
 pub mod Rules
 pub mod Over
 pub mod Suites
+pub mod Numbers
 pub mod Worked
 pub mod FromC
 pub mod Claims

@@ -1,22 +1,14 @@
--- `extensions::with_bit`: the sum fits, since the bit was clear (Bits).
+-- `extensions::with_bit`: joining the bit is adding it, since it was clear (Bits).
 -- Assumes nothing.
 use borrow.Author.Needs.{needs}
-use native.Mathlib.Omega.{arith}
-use mathlib.Core.Path.{ap}
-use Prim.Native.Nat.{ℕ, _+_}
-use Rattle.extensions.proofs.Bits.{shifted-one, set-fits}
+use mathlib.Core.Path.{ap, _∙_}
+use lib.Bits.{bitOr}
+use Rattle.extensions.proofs.Bits.{shifted-one, joined-clear}
 use Rattle.extensions.proofs.with_bit.Statement.{statement}
 use Rattle.extensions.proofs.with_bit.Tie as tie
 
-add-result : tie.Need-add-result
-add-result c =
-    record {
-      fits = rw (shifted-one (c .args .bit) 64 (c .pre .0))
-          (set-fits (c .args .word) (c .args .bit) 64 (c .pre .0) (omega arith) (c .pre .1));
-    }
-
 returns : tie.Need-returns
-returns c = ap (λ (y : ℕ). c .args .word + y) (shifted-one (c .args .bit) 64 (c .pre .0))
+returns c = ap (bitOr (c .args .word)) (shifted-one (c .args .bit) 64 (c .pre .0)) ∙ joined-clear (c .args .word) (c .args .bit) (c .pre .1)
 
 pub with-bit-spec : {M : Type 1} → statement M
-with-bit-spec = tie.close (tie.spec (λ c. search needs) add-result returns)
+with-bit-spec = tie.close (tie.spec (λ c. search needs) returns)
