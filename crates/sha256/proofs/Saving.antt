@@ -4,7 +4,7 @@ use mathlib.Core.Path.{_≡_, refl}
 use Prim.Native.Nat.{ℕ, _+_, _*_, _^_, _<_}
 use native.Mathlib.Omega.{arith}
 use mathlib.Core.List.{List}
-use lib.ListN.{length, length-append}
+use lib.ListN.{length}
 use Rattle.lists.specs.Lists.{part}
 use Rattle.lists.proofs.Parts.{part-there, take-window}
 use Rattle.endian.specs.Number.{be, number}
@@ -29,10 +29,6 @@ pub record Fits (s : Sha256) : Type 0 where
   pub h : s .words .h < 2 ^ 32
   pub size : length (s .block) ≡ 64
   pub count : s .count < 2 ^ 64
-
-pub length-saved : (s : Sha256) → Fits s → length (saved s) ≡ 104
-unfolding saved concatenated
-length-saved s fits = simp (length-append, fits .size)
 
 pub restored-saved : (s : Sha256) → Fits s → restored (saved s) ≡ s
 unfolding restored saved concatenated

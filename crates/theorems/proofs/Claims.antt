@@ -2,10 +2,12 @@
 -- Assumes nothing.
 use mathlib.Core.Path.{refl}
 use Rattle.refusal.proofs.Laws.{refusal-keeps, answer-keeps-rest, short-exactly}
+use Rattle.endian.proofs.Numbers.{be-injective, number-injective}
+use Rattle.endian.proofs.Vectors.{split-vector, split-none, split-writable, vector-injective}
 use Rattle.sha256.proofs.Padding.{zeros-fill, zeros-least}
 use Rattle.sha256.proofs.Finish.{finish-absorbed}
 use Rattle.utf8.proofs.Ranges.{valid-text}
-use Rattle.extensions.proofs.Blocks.{ticket-numbered, ticket-read}
+use Rattle.extensions.proofs.Blocks.{ticket-numbered, ticket-written, ticket-read}
 use Rattle.hellos.proofs.ClientHellos.{client-inverse}
 use Rattle.hellos.proofs.ServerHellos.{server-inverse}
 use Rattle.messages.proofs.KeyExchanges.{vector-inverse}
@@ -13,6 +15,8 @@ use Rattle.messages.proofs.FixedMessages.{fixed-inverse}
 use Rattle.messages.proofs.NewSessionTickets.{ticket-inverse}
 use Rattle.keytable.proofs.Agreement.{sound, complete}
 use Rattle.keytable.proofs.Lookups.{lookup-exact, malformed-unlisted}
+use Rattle.keytable.proofs.Laws.{removable, removed-had}
+use Rattle.saved.proofs.Saving.{cleared-closed}
 use Rattle.c_interface.proofs.Apart.{codes-apart}
 use Rattle.theorems.specs.Claims.{Claims}
 use Rattle.theorems.proofs.Over.{over-stays}
@@ -34,10 +38,17 @@ claims =
       codesApart = codes-apart;
       numbersInC = numbers-in-c;
       overStays = over-stays;
+      clearedClosed = cleared-closed;
       hashedInParts = finish-absorbed;
       paddingFills = zeros-fill;
       paddingLeast = zeros-least;
       labelTexts = label-texts;
+      numbersApart = be-injective;
+      bytesApart = number-injective;
+      vectorRead = split-vector;
+      vectorCut = split-none;
+      vectorStated = split-writable;
+      vectorsApart = vector-injective;
       clientHelloInverse = client-inverse;
       serverHelloInverse = server-inverse;
       serverKeyExchangeInverse = vector-inverse 12;
@@ -46,12 +57,15 @@ claims =
       finishedInverse = fixed-inverse 20 12;
       newSessionTicketInverse = ticket-inverse;
       ticketExtensionRead = ticket-numbered;
+      ticketExtensionAccepted = ticket-written;
       ticketExtensionOnly = ticket-read;
       utf8Twice = valid-text;
       testedSoundly = sound;
       testedCompletely = complete;
       lookupExact = lookup-exact;
       malformedUnlisted = malformed-unlisted;
+      lineRemovable = removable;
+      removedHad = removed-had;
       worked = Worked.worked;
       suitesInOrder = suites-in-order;
       masterHanded = λ flight next. refl;

@@ -2,22 +2,22 @@
 -- field, and tests/claims compares the two. proofs/Claims.antt proves it by one value.
 use mathlib.Core.Path.{_≡_}
 use mathlib.Core.Logic.{_↔_}
-use Prim.Native.Nat.{ℕ, _+_, _%_, _≤_, _<_}
+use Prim.Native.Nat.{ℕ, _+_, _%_, _^_, _≤_, _<_}
 use mathlib.Core.Bool.{true, false}
-use mathlib.Core.List.{List, [], _∷_}
+use mathlib.Core.List.{List, [], _∷_, _++_}
 use mathlib.Core.Option.{none, some}
-use lib.ListN.{length, take, drop}
+use lib.ListN.{length, take, drop, replicate}
 use Rattle.refusal.specs.declared.Refusal.{Refusal}
 use Rattle.refusal.specs.declared.Refusal.the-variants.{ShortOutput}
 use Rattle.refusal.specs.declared.Written.{Written}
 use Rattle.refusal.specs.declared.Written.the-variants.{Wrote, Refused}
 use Rattle.refusal.specs.Lent.{Outcome, gives, refuses, within, answer, after}
-use Rattle.endian.specs.Number.{Bytes}
+use Rattle.endian.specs.Number.{Bytes, be, number}
 use Rattle.sha256.specs.Message.{zeros}
 use Rattle.sha256.specs.Hash.{sha256}
 use Rattle.sha256.specs.State.{fresh, absorb, finished}
 use Rattle.layout.specs.Layout.{Inverse}
-use Rattle.endian.specs.Vector.{vector, writable, stated}
+use Rattle.endian.specs.Vector.{vector, writable, Split, stated, split}
 use Rattle.extensions.specs.Extensions.{extensionsIn, ticketExtension, ticketShape}
 use Rattle.utf8.specs.Utf8.{validUtf8}
 use Rattle.utf8.specs.Ranges.{Text}
@@ -27,14 +27,16 @@ use Rattle.messages.specs.KeyExchange.{serverKeyExchange, clientKeyExchange, re
 use Rattle.messages.specs.Fixed as Fixed
 use Rattle.messages.specs.Fixed.{serverHelloDone, readFixed}
 use Rattle.messages.specs.NewSessionTicket.{newSessionTicket, readTicket}
-use Rattle.keytable.specs.Table.{validIdentity, wellFormed, keyOf}
-use Rattle.keytable.specs.WellFormed.{WellFormed, Listed}
+use Rattle.keytable.specs.Table.{decoded, validIdentity, wellFormed, keyOf}
+use Rattle.keytable.specs.WellFormed.{Line, text, WellFormed, Listed, LineRemoved}
 use Rattle.server.specs.declared.Phase.{Phase}
 use Rattle.server.specs.declared.Connection.{Connection}
 use Rattle.server.specs.KeyExchange.{View}
+use Rattle.server.specs.Connection.{ended}
 use Rattle.server.specs.Flight.{Flight}
 use Rattle.server.specs.Step.{accept}
 use Rattle.server.specs.Message.{messageStep, handedOver}
+use Rattle.saved.specs.Saved.{restored}
 use Rattle.c_interface.specs.Codes.{coded}
 use Rattle.theorems.specs.Demand3.{Sameness, CompletesExactly}
 use Rattle.theorems.specs.Agreeing.{SamenessOfLookups}
@@ -54,11 +56,21 @@ pub record Claims : Type 1 where
   pub codesApart : (v w : Written) → coded v ≡ coded w → v ≡ w
   pub numbersInC : NumbersInC
   pub overStays : OverStays
+  pub clearedClosed : restored (replicate 388 0) ≡ ended Phase.Closed
   -- demand 2: the hash, and the PRF's labels
   pub hashedInParts : (m : List ℕ) → finished (absorb fresh m) ≡ sha256 m
   pub paddingFills : (n : ℕ) → (n + 1 + zeros n) % 64 ≡ 56
   pub paddingLeast : (n z : ℕ) → (n + 1 + z) % 64 ≡ 56 → zeros n ≤ z
   pub labelTexts : LabelTexts
+  -- numbers and vectors, for any width
+  pub numbersApart : (w m n : ℕ) → m < 256 ^ w → n < 256 ^ w → be w m ≡ be w n → m ≡ n
+  pub bytesApart : (xs bs : List ℕ) → Bytes xs → Bytes bs → length xs ≡ length bs → number xs ≡ number bs → xs ≡ bs
+  pub vectorRead : (w : ℕ) (xs rest : List ℕ) → writable w xs ≡ true → split w (vector w xs ++ rest) ≡ some (record { contents = xs; rest = rest })
+  pub vectorCut : (w : ℕ) (bs : List ℕ) → Bytes bs
+      → (split w bs ≡ none) ↔ ((xs rest : List ℕ) → writable w xs ≡ true → bs ≡ vector w xs ++ rest → ⊥)
+  pub vectorStated : (w : ℕ) (bs : List ℕ) (s : Split) → Bytes bs → writable w (s .contents) ≡ false → split w bs ≡ some s → ⊥
+  pub vectorsApart : (w : ℕ) (xs ys rest rest′ : List ℕ) → writable w xs ≡ true → writable w ys ≡ true
+      → vector w xs ++ rest ≡ vector w ys ++ rest′ → (xs ≡ ys) × (rest ≡ rest′)
   -- each layout with its reader, by name and number
   pub clientHelloInverse : Inverse clientHello readClientHello
   pub serverHelloInverse : Inverse serverHello readServerHello
@@ -69,6 +81,7 @@ pub record Claims : Type 1 where
   pub newSessionTicketInverse : Inverse newSessionTicket readTicket
   pub ticketExtensionRead : (ticket : List ℕ) → length ticket < 65534
       → extensionsIn (0x00 ∷ 0x23 ∷ vector 2 (vector 2 ticket)) ≡ some (ticketExtension ticket ∷ [])
+  pub ticketExtensionAccepted : (ticket : List ℕ) → writable 2 ticket ≡ true → ticketShape true (record { kind = 35; contents = vector 2 ticket }) ≡ true
   pub ticketExtensionOnly : (d : List ℕ) → Bytes d → ticketShape true (record { kind = 35; contents = d }) ≡ true
       → (d ≡ vector 2 (take (stated 2 d) (drop 2 d))) × (writable 2 (take (stated 2 d) (drop 2 d)) ≡ true)
   -- texts
@@ -78,6 +91,9 @@ pub record Claims : Type 1 where
   pub testedCompletely : (t : List ℕ) → WellFormed t → wellFormed t ≡ true
   pub lookupExact : (t : List ℕ) (w : WellFormed t) (i k : List ℕ) → (keyOf t i ≡ some k) ↔ Listed i k (w .lines)
   pub malformedUnlisted : (t : List ℕ) → wellFormed t ≡ true → (i : List ℕ) → validIdentity i ≡ false → keyOf t i ≡ none
+  pub lineRemovable : (t : List ℕ) (w : WellFormed t) (xs : List Line) (l : Line) (ys : List Line) → w .lines ≡ xs ++ (l ∷ ys)
+      → LineRemoved (l .identity) t (text (xs ++ ys))
+  pub removedHad : (identity t t' : List ℕ) (r : LineRemoved identity t t') → wellFormed t ≡ true → keyOf t identity ≡ some (decoded (r .hex))
   -- the worked bytes
   pub worked : BytesWorkedThrough
   -- the server's choices
