@@ -7,22 +7,19 @@ static struct answer wanted;
 
 /* ---- what a call leaves in a connection */
 
-static int32_t phase_of(const uint8_t connection[TN_CONNECTION_SIZE])
+/* What a call tells of a connection that it only reads. */
+static int32_t told(const char *name, int32_t (*call)(const uint8_t *), const uint8_t connection[TN_CONNECTION_SIZE])
 {
-    begin("tn_phase");
+    begin(name);
     struct lent *c = lend((struct bytes){connection, TN_CONNECTION_SIZE});
-    int32_t phase = tn_phase(c->bytes);
+    int32_t said = call(c->bytes);
     finish();
-    return phase;
+    return said;
 }
 
-static int32_t suite_of(const uint8_t connection[TN_CONNECTION_SIZE])
+static int32_t phase_of(const uint8_t connection[TN_CONNECTION_SIZE])
 {
-    begin("tn_suite");
-    struct lent *c = lend((struct bytes){connection, TN_CONNECTION_SIZE});
-    int32_t suite = tn_suite(c->bytes);
-    finish();
-    return suite;
+    return told("tn_phase", tn_phase, connection);
 }
 
 /* Connections that a call has closed or completed have the same bytes, whoever the client was: those of the first one that was seen. */
@@ -50,7 +47,7 @@ static void keep(struct pair *p, const struct lent *c, int32_t result)
 {
     memcpy(p->connection, c->bytes, TN_CONNECTION_SIZE);
     expect_number(phase_of(p->connection), p->model.phase);
-    expect_number(suite_of(p->connection), model_suite(&p->model));
+    expect_number(told("tn_suite", tn_suite, p->connection), model_suite(&p->model));
     if (!tn_is_host_refusal(result) && (p->model.phase == TN_PHASE_CLOSED || p->model.phase == TN_PHASE_COMPLETE))
         expect_over(p->connection, p->model.phase);
 }
