@@ -1,8 +1,9 @@
--- Document 01, "Numbers that come back", as a table: for each refusal its number, who is given it, and what becomes of the connection.
+-- Document 01, "Numbers that come back", with the numbers of document 02's P1, as a table: for each refusal its number, who is given it, and what becomes of the connection.
 use Prim.Native.Nat.{ℕ}
 use mathlib.Core.Bool.{Bool, true, false}
 use Rattle.refusal.specs.declared.Refusal.{Refusal}
-use Rattle.refusal.specs.declared.Refusal.the-variants.{ShortOutput, BadTable, BadSetting, ConnectionOver, BadValue, UnexpectedMessage, HandshakeFailure, IllegalParameter, DecodeError, DecryptError, ProtocolVersion, UnknownPskIdentity}
+use Rattle.refusal.specs.declared.Refusal.the-variants.{ShortOutput, BadTable, BadSetting, ConnectionOver, BadValue, AlreadyListed, NotListed, TableFull}
+use Rattle.refusal.specs.declared.Refusal.the-variants.{UnexpectedMessage, HandshakeFailure, IllegalParameter, DecodeError, DecryptError, ProtocolVersion, UnknownPskIdentity}
 
 -- An R number is for the host, and any other for the client, as a fatal alert.
 pub data Receiver : Type 0 where
@@ -31,6 +32,9 @@ row BadTable = R 2 unchanged
 row BadSetting = R 3 noneMade
 row ConnectionOver = R 4 unchanged
 row BadValue = R 5 noneInvolved
+row AlreadyListed = R 6 noneInvolved
+row NotListed = R 7 noneInvolved
+row TableFull = R 8 noneInvolved
 row UnexpectedMessage = alert 10
 row HandshakeFailure = alert 40
 row IllegalParameter = alert 47

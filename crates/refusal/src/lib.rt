@@ -1,4 +1,4 @@
-// The numbers that come back (document 01) as one enum, and what every call that is lent memory
+// The numbers that come back (document 01, and document 02's requests) as one enum, and what every call that is lent memory
 // tells its caller: so many bytes stand at the front of that memory, or a refusal, and then nothing
 // was written.
 //
@@ -18,6 +18,12 @@ pub enum Refusal {
     ConnectionOver,
     // R5: value to be written that its layout forbids, or a length outside its limit
     BadValue,
+    // R6: identity already listed
+    AlreadyListed,
+    // R7: identity not listed
+    NotListed,
+    // R8: a 257th line, or a table of over 65,536 bytes
+    TableFull,
     // The rest are TLS alerts, under their names in RFC 5246 section 7.2 and RFC 4279 section 6.
     UnexpectedMessage,
     HandshakeFailure,
@@ -45,6 +51,9 @@ pub fn number(r: Refusal) -> u8
         Refusal::BadSetting => 3,
         Refusal::ConnectionOver => 4,
         Refusal::BadValue => 5,
+        Refusal::AlreadyListed => 6,
+        Refusal::NotListed => 7,
+        Refusal::TableFull => 8,
         Refusal::UnexpectedMessage => 10,
         Refusal::HandshakeFailure => 40,
         Refusal::IllegalParameter => 47,
@@ -66,6 +75,9 @@ pub fn for_client(r: Refusal) -> bool
         Refusal::BadSetting => false,
         Refusal::ConnectionOver => false,
         Refusal::BadValue => false,
+        Refusal::AlreadyListed => false,
+        Refusal::NotListed => false,
+        Refusal::TableFull => false,
         Refusal::UnexpectedMessage => true,
         Refusal::HandshakeFailure => true,
         Refusal::IllegalParameter => true,

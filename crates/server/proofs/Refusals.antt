@@ -3,9 +3,9 @@
 use mathlib.Core.Path.{_≡_, refl}
 use mathlib.Core.Bool.{cond}
 use Rattle.refusal.specs.declared.Refusal.{Refusal}
-use Rattle.refusal.specs.declared.Refusal.the-variants.{ShortOutput, BadTable, BadSetting, ConnectionOver, BadValue, UnexpectedMessage}
-use Rattle.refusal.specs.declared.Refusal.the-variants.{HandshakeFailure, IllegalParameter, DecodeError, DecryptError, ProtocolVersion}
-use Rattle.refusal.specs.declared.Refusal.the-variants.{UnknownPskIdentity}
+use Rattle.refusal.specs.declared.Refusal.the-variants.{ShortOutput, BadTable, BadSetting, ConnectionOver, BadValue, AlreadyListed, NotListed, TableFull}
+use Rattle.refusal.specs.declared.Refusal.the-variants.{UnexpectedMessage, HandshakeFailure, IllegalParameter, DecodeError, DecryptError}
+use Rattle.refusal.specs.declared.Refusal.the-variants.{ProtocolVersion, UnknownPskIdentity}
 use Rattle.refusal.specs.Table.{toClient}
 use Rattle.server.specs.declared.Phase.{Phase}
 use Rattle.server.specs.declared.Connection.{Connection}
@@ -17,6 +17,9 @@ alerts-close BadTable c = refl
 alerts-close BadSetting c = refl
 alerts-close ConnectionOver c = refl
 alerts-close BadValue c = refl
+alerts-close AlreadyListed c = refl
+alerts-close NotListed c = refl
+alerts-close TableFull c = refl
 alerts-close UnexpectedMessage c = refl
 alerts-close HandshakeFailure c = refl
 alerts-close IllegalParameter c = refl
