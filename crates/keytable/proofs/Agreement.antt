@@ -1,18 +1,18 @@
 -- The test of a table (`wellFormed`) and what a well-formed table is (`WellFormed`) agree: `sound` and `complete`.
 -- Assumes nothing.
 use mathlib.Core.Path.{_≡_, refl, sym, ap, ap₂, _∙_}
-use Prim.Native.Nat.{ℕ}
+use Prim.Native.Nat.{ℕ, _≤_}
 use mathlib.Core.Bool.{true, _&&_}
 use mathlib.Core.List.{List, [], _∷_, map}
 use lib.ListN.{length, length-map}
 use lib.Dec.{leb}
 use borrow.Author.Tests.{leb-true, le-leb}
 use Rattle.lists.specs.Lists.{each, distinct, same, Each, Distinct}
-use Rattle.keytable.specs.Table.{colon, upto, past, lines, identityOf, validIdentity, validKey, validLine, ended, wellFormed}
+use Rattle.keytable.specs.Table.{colon, upto, past, lines, joined, identityOf, validIdentity, validKey, validLine, ended, wellFormed}
 use Rattle.keytable.specs.WellFormed.{Line, ValidLine, identityIn, WellFormed}
 use Rattle.lists.proofs.Tests.{and-left, and-right, both}
 use Rattle.keytable.proofs.Tests.{identity-sound, identity-complete, key-sound, key-complete}
-use Rattle.keytable.proofs.Texts.{upto-append, past-append, parted, lineOf, text-lines, identity-no-colon, lines-text, ended-text}
+use Rattle.keytable.proofs.Texts.{upto-append, past-append, parted, lineOf, joined-lines, text-parted, identity-no-colon, lines-text, ended-text, lines-joined}
 use Rattle.lists.proofs.Equal.{same-refl, same-not}
 use Rattle.lists.proofs.Distinct.{distinct-sound, distinct-complete}
 
@@ -76,17 +76,26 @@ well-formed-tests t h =
       and-right (size && ended t && few && all) _ h,
     )
 
+-- valid lines of different identities, not too many and not too long, are a well-formed table
+module _ (ls : List (List ℕ)) (good : each validLine ls ≡ true) where
+  pub joined-formed : distinct same (map identityOf ls) ≡ true → length ls ≤ 256 → length (joined ls) ≤ 65536 → WellFormed (joined ls)
+  joined-formed other few small = record {
+    lines = map parted ls;
+    is = sym (text-parted ls good);
+    valid = lines-sound ls good;
+    distinct = rw (identities-parted ls) (identities-sound (map identityOf ls) other);
+    few-lines = rw (length-map ls parted) few;
+    few-bytes = small;
+  }
+
+  pub joined-back : lines (joined ls) ≡ ls
+  joined-back = lines-joined ls good (lines-sound ls good)
+
 pub sound : (t : List ℕ) → wellFormed t ≡ true → WellFormed t
 sound t h =
     let (size, end, few, good, other) = well-formed-tests t h in
-    record {
-      lines = map parted (lines t);
-      is = sym (text-lines t end good);
-      valid = lines-sound (lines t) good;
-      distinct = rw (identities-parted (lines t)) (identities-sound (map identityOf (lines t)) other);
-      few-lines = rw (length-map (lines t) parted) (leb-true (length (lines t)) 256 few);
-      few-bytes = leb-true (length t) 65536 size;
-    }
+    let small : length (joined (lines t)) ≤ 65536 = rw (joined-lines t end) (leb-true (length t) 65536 size) in
+    rw (joined-lines t end) at (joined-formed (lines t) good other (leb-true (length (lines t)) 256 few) small)
 
 pub complete : (t : List ℕ) → WellFormed t → wellFormed t ≡ true
 unfolding wellFormed

@@ -5,7 +5,7 @@ use Prim.Native.Nat.{ℕ}
 use native.Mathlib.Omega.{arith}
 use mathlib.Core.Bool.{Bool, true, false, cond}
 use mathlib.Core.List.{List, [], _∷_, _++_, map, append-assoc, map-append}
-use mathlib.Core.Option.{Option, none, some}
+use mathlib.Core.Option.{none, some}
 use lib.Dec.{eqb}
 use Rattle.lists.specs.Lists.{each, Each}
 use Rattle.keytable.specs.Table.{lineEnd, colon, upto, past, before, lines, identityOf, validIdentity, validKey, validLine, ended, wellFormed}
@@ -20,17 +20,9 @@ use Rattle.keytable.proofs.Texts.{digit-no-colon, identity-no-colon, he
 use Rattle.keytable.proofs.Lines.{lines-cons}
 use Rattle.keytable.proofs.Agreement.{identities-sound, line-sound, well-formed-tests}
 use Rattle.keytable.proofs.Lookups.{own-text, other-text, key-is}
+use Rattle.keytable.proofs.Spots.{first-append}
 
 -- ---- lists of lines
-
-first-append : (i : List ℕ) (xs ys : List (List ℕ)) → firstText i (xs ++ ys) ≡ orElse (firstText i xs) (firstText i ys)
-first-append i [] ys = refl
-first-append i (x ∷ xs) ys = go (keyText i x) (first-append i xs ys)
-  where
-    go : (o : Option (List ℕ)) → firstText i (xs ++ ys) ≡ orElse (firstText i xs) (firstText i ys)
-        → orElse o (firstText i (xs ++ ys)) ≡ orElse (orElse o (firstText i xs)) (firstText i ys)
-    go none ih = ih
-    go (some s) ih = refl
 
 lines-append : (a b : List ℕ) → ended a ≡ true → lines (a ++ b) ≡ lines a ++ lines b
 lines-append [] b h = refl

@@ -5,5 +5,6 @@ pub mod Lines
 pub mod Lookups
 pub mod Matching
 pub mod Pairs
+pub mod Spots
 pub mod Tests
 pub mod Texts

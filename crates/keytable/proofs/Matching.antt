@@ -1,6 +1,6 @@
--- The comparison of an identity with the front of a line, byte by byte, and what it makes of a lookup.
+-- The comparison of an identity with the front of a line, byte by byte, and what it makes of the search for a line.
 -- Assumes nothing.
-use mathlib.Core.Path.{_≡_, refl, sym, ap, _∙_}
+use mathlib.Core.Path.{_≡_, refl, sym, _∙_}
 use Prim.Native.Nat.{ℕ, suc, _+_, _-_, _≤_, _<_}
 use native.Mathlib.Omega.{arith}
 use mathlib.Core.List.{List, [], _∷_}
@@ -9,13 +9,12 @@ use lib.ListN.{length, drop, getD, drop-of-length-le}
 use lib.Seq.{drop-cons}
 use native.Mathlib.Numerals.{add-one}
 use borrow.Author.Tests.{eq-eqb, ne-eqb}
-use Rattle.keytable.specs.declared.entries.Hit.{Hit}
-use Rattle.keytable.specs.declared.entries.Hit.the-variants.{Text, Nothing}
-use Rattle.keytable.specs.Table.{colon, lineEnd, lines, upto, keyText, firstText, keyIn, keyOfText, keyOf}
+use Rattle.keytable.specs.declared.entries.Hit.the-variants.{Text}
+use Rattle.keytable.specs.Table.{colon, lineEnd, lines, upto, keyText, placed}
 use Rattle.lists.specs.Lists.{part}
-use Rattle.keytable.specs.Inner.{hitText}
+use Rattle.lists.proofs.Parts.{length-part}
 use Rattle.lists.proofs.Walks.{left-cons}
-use Rattle.keytable.proofs.Lines.{line-here}
+use Rattle.keytable.proofs.Lines.{line-within, line-here}
 
 -- a part that is not empty: its first element, and the part after it
 part-cons : (s : List ℕ) (from to : ℕ) → from < to → to ≤ length s → part from (to - from) s ≡ getD s from 0 ∷ part (from + 1) (to - (from + 1)) s
@@ -62,22 +61,17 @@ module _ (t identity : List ℕ) (at k end : ℕ) where
 
 -- the search from `at` on, where a line stands that ends at `end`
 module _ (t identity : List ℕ) (at end : ℕ) (h : at < length t) (e : end ≡ at + length (upto lineEnd (drop at t)))
-    (now : firstText identity (lines t) ≡ firstText identity (lines (drop at t))) where
+    (now : placed 0 identity (lines t) ≡ placed at identity (lines (drop at t))) where
   here : lines (drop at t) ≡ part at (end - at) t ∷ lines (drop (end + 1) t)
   here = line-here t at end (omega arith) e h
 
-  pub search-on : keyText identity (part at (end - at) t) ≡ none → firstText identity (lines t) ≡ firstText identity (lines (drop (end + 1) t))
-  search-on m = now ∙ rw here (rw m)
+  line-ends : at + length (part at (end - at) t) ≡ end
+  line-ends =
+      let within = line-within t at end (omega arith) e in
+      omega (arith, length-part t at (end - at) (omega arith))
 
-  pub search-hit : (text : List ℕ) → keyText identity (part at (end - at) t) ≡ some text → some text ≡ firstText identity (lines t)
-  search-hit text m = sym (now ∙ rw here (rw m))
+  pub search-on : keyText identity (part at (end - at) t) ≡ none → placed 0 identity (lines t) ≡ placed (end + 1) identity (lines (drop (end + 1) t))
+  search-on m = now ∙ rw here (rw (m, line-ends))
 
--- what a lookup comes to where the search ended
-module _ (t identity : List ℕ) (hit : Hit) (e : hitText t hit ≡ firstText identity (lines t)) where
-  pub key-listed : (from to : ℕ) → hit ≡ Text from to → keyOf t identity ≡ keyIn (part from (to - from) t)
-  unfolding keyOf
-  key-listed from to h = ap keyOfText (sym e ∙ ap (hitText t) h)
-
-  pub key-unlisted : hit ≡ Nothing → keyOf t identity ≡ none
-  unfolding keyOf
-  key-unlisted h = ap keyOfText (sym e ∙ ap (hitText t) h)
+  pub search-hit : (text : List ℕ) → keyText identity (part at (end - at) t) ≡ some text → Text (at + length identity + 1) end ≡ placed 0 identity (lines t)
+  search-hit text m = sym (now ∙ rw here (rw (m, line-ends)))

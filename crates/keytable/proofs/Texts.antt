@@ -4,13 +4,13 @@ use mathlib.Core.Path.{_≡_, refl, sym, ap, ap₂, _∙_}
 use mathlib.Core.Logic.{inl, inr}
 use Prim.Native.Nat.{ℕ, _<_}
 use native.Mathlib.Omega.{arith}
-use mathlib.Core.Bool.{Bool, true, false}
-use mathlib.Core.List.{List, [], _∷_, _++_, map, append-assoc}
+use mathlib.Core.Bool.{Bool, true, false, cond}
+use mathlib.Core.List.{List, [], _∷_, _++_, map, append-assoc, append-nil}
 use lib.ListN.{length}
 use lib.Dec.{eqb}
 use borrow.Author.Tests.{eq-eqb, ne-eqb, eqb-true}
 use Rattle.lists.specs.Lists.{each, Each}
-use Rattle.keytable.specs.Table.{lineEnd, colon, lines, upto, past, identityOf, validIdentity, validKey, validLine, ended}
+use Rattle.keytable.specs.Table.{lineEnd, colon, lines, joined, upto, past, identityOf, validIdentity, validKey, validLine, ended}
 use Rattle.keytable.specs.WellFormed.{Plain, HexDigit, Line, ValidLine, text}
 use Rattle.lists.proofs.Tests.{and-left, and-right}
 use Rattle.lists.proofs.Every.{every-append, every-map}
@@ -51,21 +51,31 @@ ended-end [] (c ∷ r) = refl
 ended-end (b ∷ []) r = ended-end [] r
 ended-end (b ∷ c ∷ s) r = ended-end (c ∷ s) r
 
--- the lines, each with its 0A
-abbrev joined : List (List ℕ) → List ℕ
-joined [] = []
-joined (l ∷ ls) = l ++ (lineEnd ∷ joined ls)
+pub ended-joined : (ls : List (List ℕ)) → ended (joined ls) ≡ true
+ended-joined [] = refl
+ended-joined (l ∷ ls) = ended-end l (joined ls) ∙ ended-joined ls
 
-joined-lines : (t : List ℕ) → ended t ≡ true → joined (lines t) ≡ t
-joined-lines [] h = refl
-joined-lines (b ∷ []) h = rw h (ap (λ (x : ℕ). x ∷ []) (sym (eqb-true b lineEnd h)))
-joined-lines (b ∷ c ∷ s) h = go (eqb b lineEnd) refl (lines (c ∷ s)) refl (joined-lines (c ∷ s) h)
+-- the 0A that the last line lacks
+abbrev pub missing : List ℕ → List ℕ
+missing t = cond (ended t) [] (lineEnd ∷ [])
+
+pub joined-all : (t : List ℕ) → joined (lines t) ≡ t ++ missing t
+joined-all [] = refl
+joined-all (b ∷ []) = go (eqb b lineEnd) refl
   where
-    go : (t : Bool) → eqb b lineEnd ≡ t → (ls : List (List ℕ)) → lines (c ∷ s) ≡ ls → joined (lines (c ∷ s)) ≡ c ∷ s
-        → joined (lines (b ∷ c ∷ s)) ≡ b ∷ c ∷ s
+    go : (t : Bool) → eqb b lineEnd ≡ t → joined (lines (b ∷ [])) ≡ b ∷ missing (b ∷ [])
+    go true e = rw e (ap (λ (x : ℕ). x ∷ []) (sym (eqb-true b lineEnd e)))
+    go false e = rw e
+joined-all (b ∷ c ∷ s) = go (eqb b lineEnd) refl (lines (c ∷ s)) refl (joined-all (c ∷ s))
+  where
+    go : (t : Bool) → eqb b lineEnd ≡ t → (ls : List (List ℕ)) → lines (c ∷ s) ≡ ls → joined (lines (c ∷ s)) ≡ c ∷ s ++ missing (c ∷ s)
+        → joined (lines (b ∷ c ∷ s)) ≡ b ∷ c ∷ s ++ missing (c ∷ s)
     go true e ls le ih = rw e (ap₂ (λ (x : ℕ) (r : List ℕ). x ∷ r) (sym (eqb-true b lineEnd e)) ih)
     go false e [] le ih = let z : _≡_ {A = ℕ} 0 1 = cc in absurd (omega arith)
     go false e (l ∷ ls) le ih = rw e (rw le (ap (λ (r : List ℕ). b ∷ r) (rw le at ih)))
+
+pub joined-lines : (t : List ℕ) → ended t ≡ true → joined (lines t) ≡ t
+joined-lines t h = joined-all t ∙ rw h (append-nil t)
 
 -- ---- the parts of a line
 
@@ -83,17 +93,13 @@ valid-parted l h =
     let k = key-sound (past colon l) (and-right (validIdentity (identityOf l)) (validKey (past colon l)) h) in
     rejoined colon l (omega arith)
 
-text-parted : (ls : List (List ℕ)) → each validLine ls ≡ true → text (map parted ls) ≡ joined ls
+pub text-parted : (ls : List (List ℕ)) → each validLine ls ≡ true → text (map parted ls) ≡ joined ls
 text-parted [] h = refl
 text-parted (l ∷ ls) h =
     text-cons (parted l) (map parted ls)
     ∙ ap₂ (λ (a : List ℕ) (b : List ℕ). a ++ (lineEnd ∷ b))
     (valid-parted l (and-left (validLine l) (each validLine ls) h))
     (text-parted ls (and-right (validLine l) (each validLine ls) h))
-
--- a table whose lines are valid and ended is the text of its lines
-pub text-lines : (t : List ℕ) → ended t ≡ true → each validLine (lines t) ≡ true → text (map parted (lines t)) ≡ t
-text-lines t e h = text-parted (lines t) h ∙ joined-lines t e
 
 -- ---- valid lines
 
@@ -132,3 +138,14 @@ lines-text (l ∷ ls) h =
 pub ended-text : (ls : List Line) → ended (text ls) ≡ true
 ended-text [] = refl
 ended-text (l ∷ ls) = ap ended (text-cons l ls) ∙ ended-end (lineOf l) (text ls) ∙ ended-text ls
+
+-- and so are those of valid lines, each with its 0A
+pub lines-joined : (ls : List (List ℕ)) → each validLine ls ≡ true → Each ValidLine (map parted ls) → lines (joined ls) ≡ ls
+lines-joined ls v good =
+    ap lines (sym (text-parted ls v)) ∙ lines-text (map parted ls) good ∙ go ls v
+  where
+    go : (xs : List (List ℕ)) → each validLine xs ≡ true → map lineOf (map parted xs) ≡ xs
+    go [] h = refl
+    go (x ∷ xs) h =
+        ap₂ (λ (a : List ℕ) (b : List (List ℕ)). a ∷ b) (valid-parted x (and-left (validLine x) (each validLine xs) h))
+        (go xs (and-right (validLine x) (each validLine xs) h))

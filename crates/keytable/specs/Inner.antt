@@ -1,25 +1,12 @@
 -- What the contracts of this crate's private functions cite, and no public contract does.
 use mathlib.Core.Path.{_≡_}
-use Prim.Native.Nat.{ℕ, _+_, _-_, _*_, _%_, _≤_, _<_}
+use Prim.Native.Nat.{ℕ, _+_, _*_, _%_, _≤_, _<_}
 use mathlib.Core.Bool.{Bool}
 use mathlib.Core.List.{List, [], _∷_, map}
-use mathlib.Core.Option.{Option, none, some}
 use lib.ListN.{length, take, drop, getD}
-use Rattle.lists.specs.Lists.{part}
 use Rattle.keytable.specs.Table.{lineEnd, colon, upto, plain, hexDigit}
 use Rattle.keytable.specs.declared.classes.Class.{Class}
 use Rattle.keytable.specs.declared.classes.Class.the-variants.{Plain, HexDigit}
-use Rattle.keytable.specs.declared.entries.Hit.{Hit}
-use Rattle.keytable.specs.declared.entries.Hit.the-variants.{Text, Nothing}
-
--- the part of the table that a hit names
-abbrev pub hitText : List ℕ → Hit → Option (List ℕ)
-hitText table (Text from to) = some (part from (to - from) table)
-hitText table Nothing = none
-
-abbrev pub Within : List ℕ → Hit → Type 0
-Within table (Text from to) = (from ≤ to) × (to ≤ length table)
-Within table Nothing = Unit
 
 -- the test for a class of bytes
 abbrev pub belongs : Class → ℕ → Bool

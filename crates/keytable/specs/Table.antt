@@ -2,7 +2,7 @@
 -- key that stands in it for an identity.
 use Prim.Native.Nat.{ℕ, _+_, _-_, _*_, _%_}
 use mathlib.Core.Bool.{Bool, true, cond, not, _&&_}
-use mathlib.Core.List.{List, [], _∷_, map}
+use mathlib.Core.List.{List, [], _∷_, _++_, map}
 use mathlib.Core.Option.{Option, none, some}
 use lib.ListN.{length}
 use lib.Dec.{leb, ltb, eqb}
@@ -12,6 +12,8 @@ use Rattle.refusal.specs.declared.Refusal.{Refusal}
 use Rattle.refusal.specs.declared.Refusal.the-variants.{BadTable, UnknownPskIdentity}
 use Rattle.keytable.specs.declared.Judged.{Judged}
 use Rattle.keytable.specs.declared.Judged.the-variants.{Good, Refused}
+use Rattle.keytable.specs.declared.entries.Hit.{Hit}
+use Rattle.keytable.specs.declared.entries.Hit.the-variants.{Text, Nothing}
 use Rattle.utf8.specs.Utf8.{validUtf8}
 
 abbrev pub lineEnd : ℕ
@@ -35,6 +37,11 @@ line b ls = cond (eqb b lineEnd) ([] ∷ ls) (before b ls)
 abbrev pub lines : List ℕ → List (List ℕ)
 lines [] = []
 lines (b ∷ s) = line b (lines s)
+
+-- the text of lines, each with its 0A
+abbrev pub joined : List (List ℕ) → List ℕ
+joined [] = []
+joined (l ∷ ls) = l ++ (lineEnd ∷ joined ls)
 
 -- ---- keys
 
@@ -128,6 +135,16 @@ orElse none o = o
 abbrev pub firstText : List ℕ → List (List ℕ) → Option (List ℕ)
 firstText identity [] = none
 firstText identity (l ∷ ls) = orElse (keyText identity l) (firstText identity ls)
+
+abbrev pub orLater : Option (List ℕ) → Hit → Hit → Hit
+orLater (some s) here later = here
+orLater none here later = later
+
+-- Where that text stands, from its start to the end of its line: the lines stand from `at` on, each with its 0A.
+abbrev pub placed : ℕ → List ℕ → List (List ℕ) → Hit
+placed at identity [] = Nothing
+placed at identity (l ∷ ls) =
+    orLater (keyText identity l) (Text (at + length identity + 1) (at + length l)) (placed (at + length l + 1) identity ls)
 
 abbrev pub keyIn : List ℕ → Option (List ℕ)
 keyIn s = cond (validKey s) (some (decoded s)) none

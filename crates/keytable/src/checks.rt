@@ -9,7 +9,7 @@ use crate::entries::line_end;
 use crate::hex::valid_key;
 
 // Whether s is 1 to 128 bytes of UTF-8 that an identity may have.
-fn valid_identity(s: &[u8]) -> bool
+pub fn valid_identity(s: &[u8]) -> bool
     ensures { λ r. ⌜ r ≡ validIdentity (now (s .entry)) ⌝ }
 {
     if s.len() < 1 {

@@ -2,16 +2,15 @@
 ghost use mathlib.Core.Path.{_≡_};
 ghost use Prim.Native.Nat.{_≤_, _+_};
 ghost use lib.ListN.{length, drop};
-ghost use Rattle.keytable.specs.Table.{lineEnd, upto, lines, firstText, keyOf, found};
-ghost use Rattle.keytable.specs.Inner.{hitText, Within};
+ghost use Rattle.keytable.specs.Table.{lineEnd, upto, lines, placed, keyOf, found};
 ghost use Rattle.refusal.specs.Lent.{Answers};
 use crate::hex::key_into;
 use refusal::Refusal;
 use refusal::Written;
 
-// What a search finds: the part of the table, from a start to an end, that follows the identity and
-// its colon in the first line that begins with them.
-enum Hit {
+// What a search finds: the part of the table, from a start to its line's end, that follows the
+// identity and its colon in the first line that begins with them.
+pub enum Hit {
     Text(usize, usize),
     Nothing,
 }
@@ -25,9 +24,8 @@ pub(crate) fn line_end(table: &[u8], at: usize) -> usize
 }
 
 // The search ends at the first line that matches.
-fn first_line(table: &[u8], identity: &[u8]) -> Hit
-    ensures { λ r. ⌜ Within (now (table .entry)) r ⌝ }
-    ensures { λ r. ⌜ hitText (now (table .entry)) r ≡ firstText (now (identity .entry)) (lines (now (table .entry))) ⌝ }
+pub fn first_line(table: &[u8], identity: &[u8]) -> Hit
+    ensures { λ r. ⌜ r ≡ placed 0 (now (identity .entry)) (lines (now (table .entry))) ⌝ }
 {
     let mut at = 0;
     let hit = 'lines: loop {

@@ -1,12 +1,15 @@
-// The key table (document 01, "The key table"): the test that a table is well formed, and the lookup of an
-// identity's key.
+// The key table (document 01, "The key table"): the test that a table is well formed, where an
+// identity's line stands, and the lookup of its key.
 mod checks;
 mod classes;
 mod distinct;
 mod entries;
 mod hex;
 
+pub use checks::valid_identity;
 pub use checks::well_formed;
+pub use entries::Hit;
+pub use entries::first_line;
 pub use entries::lookup;
 use refusal::Refusal;
 ghost use mathlib.Core.Path.{_≡_};

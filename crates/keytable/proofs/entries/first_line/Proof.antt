@@ -11,7 +11,7 @@ use mathlib.Core.List.{List}
 use mathlib.Core.Option.{none}
 use denote.Ref.{now}
 use lib.ListN.{length, drop, drop-of-length-le}
-use Rattle.keytable.specs.Table.{lines, keyText, firstText}
+use Rattle.keytable.specs.Table.{lines, keyText, placed}
 use Rattle.lists.specs.Lists.{part}
 use Rattle.keytable.proofs.Lines.{line-within}
 use Rattle.keytable.proofs.Matching.{Matched, match-more, match-other, match-colon, match-longer, match-end, search-on, search-hit}
@@ -25,7 +25,7 @@ abbrev μ-loop : tie.MeasureT-loop
 μ-loop table identity at end k₀ k = end - (at + k)
 
 abbrev Inv-lines : tie.InvT-lines
-Inv-lines table identity at₀ at = (at ≤ length table + 1) × (firstText identity (lines table) ≡ firstText identity (lines (drop at table)))
+Inv-lines table identity at₀ at = (at ≤ length table + 1) × (placed 0 identity (lines table) ≡ placed at identity (lines (drop at table)))
 
 abbrev μ-lines : tie.MeasureT-lines
 μ-lines table identity at₀ at = length table + 1 - at
@@ -48,7 +48,7 @@ module _ (c : tie.After-line-end Inv-loop μ-loop Inv-lines μ-lines) where
   within = line-within table _ _ (search needs) (c .line-end .ensures)
 
   on : keyText identity (part place (c .line-end .result - place) table) ≡ none
-      → firstText identity (lines table) ≡ firstText identity (lines (drop (c .line-end .result + 1) table))
+      → placed 0 identity (lines table) ≡ placed (c .line-end .result + 1) identity (lines (drop (c .line-end .result + 1) table))
   on = search-on table identity _ _ (c .before .if1 .left) (c .line-end .ensures) (c .before .before .lines .inv .1)
 
 loop-holds : tie.Need-loop-holds Inv-loop μ-loop Inv-lines μ-lines
@@ -112,17 +112,16 @@ lines-again c = (omega (arith, within (c .before .before)), on (c .before .befor
 returns : tie.Need-returns Inv-loop μ-loop Inv-lines μ-lines
 returns c =
     let args = c .before .before .before .before .args in
-    let none-left = ap (λ (l : List ℕ). firstText (now (args .identity)) (lines l)) (drop-of-length-le _ (c .if1 .taken)) in
-    (tt, sym (c .before .lines .inv .1 ∙ none-left))
+    let none-left = ap (λ (l : List ℕ). placed (c .before .lines .at) (now (args .identity)) (lines l)) (drop-of-length-le _ (c .if1 .taken)) in
+    sym (c .before .lines .inv .1 ∙ none-left)
 
 returns-2 : tie.Need-returns-2 Inv-loop μ-loop Inv-lines μ-lines
 returns-2 c =
     let i = c .before .before .before in
-    let f = i .before .before in (
-      (search needs, within f),
-      search-hit (table f) (identity f) _ _ (f .before .if1 .left) (f .line-end .ensures) (f .before .before .lines .inv .1) _
-          (match-colon _ _ _ _ _ (i .loop-test .taken) (within f) (c .before .before .if2 .taken) (c .if3 .taken) (i .before .loop .inv .2)),
-    )
+    let f = i .before .before in
+    let text = match-colon _ _ _ _ _ (i .loop-test .taken) (within f) (c .before .before .if2 .taken) (c .if3 .taken) (i .before .loop .inv .2) in
+    rw (c .before .before .if2 .taken)
+    (search-hit (table f) (identity f) _ _ (f .before .if1 .left) (f .line-end .ensures) (f .before .before .lines .inv .1) _ text)
 
 pub first-line-spec : {M : Type 1} → statement M
 first-line-spec =
