@@ -1,0 +1,9 @@
+pub mod After
+pub mod Counting
+pub mod Digits
+pub mod Laws
+pub mod Moving
+pub mod Outcomes
+pub mod Places
+pub mod Results
+pub mod Writing

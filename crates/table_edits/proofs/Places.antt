@@ -1,0 +1,189 @@
+-- Where an identity's line stands in a well-formed table, and what the edits make of the table there. Assumes nothing.
+use mathlib.Core.Path.{_≡_, refl, sym, ap, ap₂, _∙_}
+use Prim.Native.Nat.{ℕ, suc, _+_, _-_, _≤_}
+use native.Mathlib.Omega.{arith}
+use mathlib.Core.Bool.{Bool, true, false, cond}
+use mathlib.Core.List.{List, [], _∷_, _++_, map, append-assoc, append-nil, map-append}
+use mathlib.Core.Option.{Option, none, some, Option·none-ne-some}
+use lib.ListN.{length, take, drop, length-append}
+use lib.Seq.{take-at, drop-at, drop-drop}
+use Rattle.lists.specs.Lists.{each, same, Each}
+use Rattle.lists.proofs.Tests.{and-left, and-right}
+use Rattle.lists.proofs.Equal.{same-refl, same-not}
+use Rattle.lists.proofs.Every.{each-append, every-map}
+use Rattle.lists.proofs.Distinct.{any-append, distinct-middle}
+use Rattle.keytable.specs.declared.entries.Hit.the-variants.{Text, Nothing}
+use Rattle.keytable.specs.Table.{lineEnd, colon, upto, past, lines, joined, keyText, firstText, placed, identityOf, validIdentity, validLine, wellFormed}
+use Rattle.keytable.specs.WellFormed.{Plain, LineRemoved}
+use Rattle.keytable.proofs.Tests.{identity-sound}
+use Rattle.keytable.proofs.Texts.{Without, upto-append, ended-joined, joined-lines, parted, valid-parted, line-no-end}
+use Rattle.keytable.proofs.Agreement.{identities-sound, line-sound, well-formed-tests}
+use Rattle.keytable.proofs.Lookups.{own-text}
+use Rattle.keytable.proofs.Spots.{Spot, spot, nowhere, joined-append}
+use Rattle.table_edits.specs.Edits.{lineWith, isLineOf, listed, others, linesAfter, replace, retire, lowerHex}
+use Rattle.table_edits.specs.Inner.{spliced}
+
+-- ---- lines of other identities
+
+Others : List ℕ → List (List ℕ) → Type 0
+Others i ls = Each (λ x. ¬ (i ≡ x)) (map identityOf ls)
+
+module _ (i : List ℕ) where
+  not-listed : (ls : List (List ℕ)) → Others i ls → listed i ls ≡ false
+  unfolding Others
+  not-listed [] d = refl
+  not-listed (l ∷ ls) d = rw (same-not i (identityOf l) (d .0)) (not-listed ls (d .1))
+
+  others-stay : (ls : List (List ℕ)) → Others i ls → others i ls ≡ ls
+  unfolding Others
+  others-stay [] d = refl
+  others-stay (l ∷ ls) d = rw (same-not i (identityOf l) (d .0)) (ap (λ (r : List (List ℕ)). l ∷ r) (others-stay ls (d .1)))
+
+  replace-stays : (k : List ℕ) (ls : List (List ℕ)) → Others i ls → linesAfter (replace i k) ls ≡ ls
+  unfolding Others
+  replace-stays k [] d = refl
+  replace-stays k (l ∷ ls) d = rw (same-not i (identityOf l) (d .0)) (ap (λ (r : List (List ℕ)). l ∷ r) (replace-stays k ls (d .1)))
+
+  pub others-append : (xs ys : List (List ℕ)) → others i (xs ++ ys) ≡ others i xs ++ others i ys
+  others-append [] ys = refl
+  others-append (x ∷ xs) ys = go (isLineOf i x) (others-append xs ys)
+    where
+      go : (b : Bool) → others i (xs ++ ys) ≡ others i xs ++ others i ys
+          → cond b (others i (xs ++ ys)) (x ∷ others i (xs ++ ys)) ≡ cond b (others i xs) (x ∷ others i xs) ++ others i ys
+      go true ih = ih
+      go false ih = ap (λ (r : List (List ℕ)). x ∷ r) ih
+
+  pub few-others : (ls : List (List ℕ)) → length (others i ls) ≤ length ls
+  few-others [] = omega arith
+  few-others (l ∷ ls) = go (isLineOf i l) (few-others ls)
+    where
+      go : (b : Bool) → length (others i ls) ≤ length ls → length (cond b (others i ls) (l ∷ others i ls)) ≤ suc (length ls)
+      go true ih = omega arith
+      go false ih = omega arith
+
+-- valid lines in which nothing follows the identity and a colon are those of others
+unlisted : (i : List ℕ) (ls : List (List ℕ)) → each validLine ls ≡ true → firstText i ls ≡ none → listed i ls ≡ false
+unlisted i [] v e = refl
+unlisted i (l ∷ ls) v e = go (keyText i l) refl (λ f. unlisted i ls (and-right (validLine l) (each validLine ls) v) f)
+  where
+    go : (o : Option (List ℕ)) → keyText i l ≡ o → (firstText i ls ≡ none → listed i ls ≡ false) → listed i (l ∷ ls) ≡ false
+    go (some s) h ih = absurd (Option·none-ne-some s (sym (rw h at e)))
+    go none h ih =
+        let own : i ≡ identityOf l → ⊥ = λ m.
+        let whole = valid-parted l (and-left (validLine l) (each validLine ls) v) in
+        let found : keyText i l ≡ some (past colon l) =
+        ap₂ keyText m (sym whole) ∙ own-text (upto colon l) (past colon l) in
+        Option·none-ne-some (past colon l) (sym h ∙ found) in
+        rw (same-not i (identityOf l) own) (ih (rw h at e))
+
+module _ (t i : List ℕ) (w : wellFormed t ≡ true) where
+  pub absent-unlisted : placed 0 i (lines t) ≡ Nothing → listed i (lines t) ≡ false
+  absent-unlisted e = unlisted i (lines t) (well-formed-tests t w .3) (nowhere i 0 (lines t) e)
+
+  whole : joined (lines t) ≡ t
+  whole = joined-lines t (well-formed-tests t w .1)
+
+  module _ (good : validIdentity i ≡ true) (from to : ℕ) (e : placed 0 i (lines t) ≡ Text from to) where
+    abbrev line : Spot i 0 (lines t) from to
+    line = spot i 0 (lines t) from to e
+
+    no-colon : Without colon i
+    no-colon = every-map Plain _ (λ b h. h .no-colon) i (identity-sound i good .plain)
+
+    own-line : identityOf (i ++ (colon ∷ line .hex)) ≡ i
+    own-line = upto-append colon i (line .hex) no-colon
+
+    own : isLineOf i (i ++ (colon ∷ line .hex)) ≡ true
+    own = ap (same i) own-line ∙ same-refl i
+
+    others-around : Others i (line .front) × Others i (line .back)
+    unfolding Others
+    others-around =
+        distinct-middle (map identityOf (line .front)) i (map identityOf (line .back))
+        (rw identities at (identities-sound (map identityOf (lines t)) (well-formed-tests t w .4)))
+      where
+        identities : map identityOf (lines t) ≡ map identityOf (line .front) ++ (i ∷ map identityOf (line .back))
+        identities =
+            ap (map identityOf) (line .split) ∙ map-append identityOf (line .front) ((i ++ (colon ∷ line .hex)) ∷ line .back)
+            ∙ ap (λ (x : List ℕ). map identityOf (line .front) ++ (x ∷ map identityOf (line .back))) own-line
+
+    pub present-listed : listed i (lines t) ≡ true
+    present-listed =
+        ap (listed i) (line .split) ∙ any-append (isLineOf i) (line .front) ((i ++ (colon ∷ line .hex)) ∷ line .back)
+        ∙ rw (not-listed i (line .front) (others-around .0), own)
+
+    pub replaced-lines : (k : List ℕ) → linesAfter (replace i k) (lines t) ≡ line .front ++ (lineWith i k ∷ line .back)
+    replaced-lines k =
+        ap (linesAfter (replace i k)) (line .split)
+        ∙ map-append (λ l. cond (isLineOf i l) (lineWith i k) l) (line .front) ((i ++ (colon ∷ line .hex)) ∷ line .back)
+        ∙ rw (replace-stays i k (line .front) (others-around .0), own, replace-stays i k (line .back) (others-around .1))
+
+    pub retired-lines : linesAfter (retire i) (lines t) ≡ line .front ++ line .back
+    retired-lines =
+        ap (others i) (line .split) ∙ others-append i (line .front) ((i ++ (colon ∷ line .hex)) ∷ line .back)
+        ∙ rw (others-stay i (line .front) (others-around .0), own, others-stay i (line .back) (others-around .1))
+
+    -- the line's parts in the table: what stands before the key's digits, the digits, and what stands behind them
+    abbrev ahead : List ℕ
+    ahead = joined (line .front) ++ (i ++ (colon ∷ []))
+
+    abbrev behind : List ℕ
+    behind = lineEnd ∷ joined (line .back)
+
+    parts : t ≡ ahead ++ (line .hex ++ behind)
+    parts =
+        sym whole ∙ ap joined (line .split) ∙ joined-append (line .front) ((i ++ (colon ∷ line .hex)) ∷ line .back) ∙ simp append-assoc
+
+    length-ahead : length ahead ≡ from
+    length-ahead =
+        let a = length-append (joined (line .front)) (i ++ (colon ∷ [])) in
+        let b = length-append i (colon ∷ []) in
+        omega (arith, line .starts)
+
+    drop-digits : drop to t ≡ behind
+    drop-digits =
+        let size : length (ahead ++ line .hex) ≡ to = length-append ahead (line .hex) ∙ omega (arith, length-ahead, line .ends) in
+        ap (drop to) (parts ∙ sym (append-assoc ahead (line .hex) behind)) ∙ drop-at (ahead ++ line .hex) behind to size
+
+    -- the identity and its colon stand before the digits, and a 0A behind them
+    pub line-bounds : (length i + 1 ≤ from) × (from ≤ to) × (to + 1 ≤ length t)
+    line-bounds =
+        let a = ap length parts ∙ length-append ahead (line .hex ++ behind) in
+        let b = length-append (line .hex) behind in
+        let c = length-ahead in
+        (omega (arith, line .starts), omega (arith, line .ends), omega (arith, line .ends))
+
+    pub replaced-text : (k : List ℕ) → spliced from to (lowerHex k) t ≡ joined (linesAfter (replace i k) (lines t))
+    replaced-text k =
+        let grouped : ahead ++ lowerHex k ++ behind ≡ joined (line .front) ++ (lineWith i k ++ behind) = simp append-assoc in
+        ap₂ (λ (a : List ℕ) (b : List ℕ). a ++ lowerHex k ++ b) (ap (take from) parts ∙ take-at ahead (line .hex ++ behind) from length-ahead) drop-digits
+        ∙ grouped ∙ sym (ap joined (replaced-lines k) ∙ joined-append (line .front) (lineWith i k ∷ line .back))
+
+    pub retired-text : (start : ℕ) → start ≡ from - 1 - length i → spliced start (to + 1) [] t ≡ joined (linesAfter (retire i) (lines t))
+    retired-text start e =
+        let at : length (joined (line .front)) ≡ start = omega (arith, line .starts) in
+        let first : t ≡ joined (line .front) ++ ((i ++ (colon ∷ [])) ++ (line .hex ++ behind)) =
+        parts ∙ append-assoc (joined (line .front)) (i ++ (colon ∷ [])) (line .hex ++ behind) in
+        ap₂ (λ (a : List ℕ) (b : List ℕ). a ++ [] ++ b)
+        (ap (take start) first ∙ take-at (joined (line .front)) ((i ++ (colon ∷ [])) ++ (line .hex ++ behind)) start at)
+        (sym (drop-drop 1 to t) ∙ ap (drop 1) drop-digits)
+        ∙ rw (append-nil (joined (line .front)))
+        (sym (ap joined retired-lines ∙ joined-append (line .front) (line .back)))
+
+    -- demand 3's "without one identity's line"
+    pub line-removed : LineRemoved i t (joined (linesAfter (retire i) (lines t)))
+    line-removed =
+        let l : List ℕ = i ++ (colon ∷ line .hex) in
+        let all = rw (line .split) at (well-formed-tests t w .3) in
+        let valid : validLine l ≡ true =
+        and-left (validLine l) (each validLine (line .back)) (each-append validLine (line .front) (l ∷ line .back) all .1) in
+        record {
+          front = joined (line .front);
+          hex = line .hex;
+          back = joined (line .back);
+          starts = ended-joined (line .front);
+          one-line = rw (valid-parted l valid) at (line-no-end (parted l) (line-sound l valid));
+          one-colon = no-colon;
+          first = parts ∙ simp append-assoc;
+          second = ap joined retired-lines ∙ joined-append (line .front) (line .back);
+        }
