@@ -16,7 +16,7 @@
  * written as an array, as `uint32_t fields[9]`, is a pointer to so many elements. The caller sees to it that
  *
  *   - each pointer points to as many bytes or elements as its length or its type says, and is not null, also where the length is 0;
- *   - memory that is lent to be written (`out`, `fields`, `connection`, `master`) overlaps no other argument of the same call;
+ *   - memory that is lent to be written (`out`, `memory`, `fields`, `connection`, `master`) overlaps no other argument of the same call;
  *   - nobody else writes to any of it before the call returns.
  *
  * Nothing else is asked: there is no length, no byte and no order of calls that may not be given.
@@ -26,10 +26,10 @@
  * One `int32_t`, of which three kinds never meet:
  *
  *   0 and above   accepted. Of a call that is lent an `out`: so many bytes were written at its front, and the rest of it is as it was.
- *   -1 .. -5      refused to the host: TN_R1 .. TN_R5. Nothing that was lent is changed.
+ *   -1 .. -8      refused to the host: TN_R1 .. TN_R8. Nothing that was lent is changed.
  *   -1000 - a     refused to the client: the host sends the fatal alert a. Nothing that was lent is changed, except that the connection is closed.
  *
- * So a refusal never writes to `out`, `fields` or `master`. The tests `tn_is_count`, `tn_is_host_refusal` and `tn_is_alert` below tell the kinds apart.
+ * So a refusal never writes to `out`, `memory`, `fields` or `master`. The tests `tn_is_count`, `tn_is_host_refusal` and `tn_is_alert` below tell the kinds apart.
  */
 #ifndef TURRETNAIL_H
 #define TURRETNAIL_H
@@ -74,6 +74,9 @@ extern "C" {
 #define TN_R3 (-3) /* a bad setting at tn_start; no connection was made */
 #define TN_R4 (-4) /* the connection is complete or closed */
 #define TN_R5 (-5) /* a value to be written that its layout forbids, or a length outside its limit */
+#define TN_R6 (-6) /* the identity is listed already (tn_table_add) */
+#define TN_R7 (-7) /* the identity is not listed (tn_table_replace, tn_table_retire) */
+#define TN_R8 (-8) /* the edited table would have a 257th line, or more than 65,536 bytes */
 
 /*
  * The alerts that the library gives (RFC 5246 section 7.2, RFC 4279 section 6). The library sends nothing: where a call on a connection gives an alert, the
@@ -108,7 +111,7 @@ static inline bool tn_is_count(int32_t result)
     return result >= 0;
 }
 
-/* Whether it was refused to the host, with one of TN_R1 to TN_R5. */
+/* Whether it was refused to the host, with one of TN_R1 to TN_R8. */
 static inline bool tn_is_host_refusal(int32_t result)
 {
     return result < 0 && result > -1000;
@@ -389,6 +392,35 @@ int32_t tn_table_test(const uint8_t *table, size_t table_len);
  * The table is not tested: in one that is not well formed the first line that begins with the identity and a colon decides, bytes behind the last 0A being
  * a line too. Where that line's key is no valid one the answer is 115, whatever later lines hold. */
 int32_t tn_table_lookup(const uint8_t *table, size_t table_len, const uint8_t *identity, size_t identity_len, uint8_t *out, size_t out_len);
+
+/*
+ * Edits of a table where it stands: its bytes are the first `length` of the lent `memory`. Each gives the length of the edited table, which stands at the
+ * front of the memory then; the bytes behind it are as they were, whatever they hold. Every other line keeps its bytes and its place in the order.
+ *
+ *   tn_table_add       adds the line of the identity and the key, as the last one
+ *   tn_table_replace   gives the identity that key, in its line's place
+ *   tn_table_retire    takes the identity's line out
+ *
+ * A key is handed over as its bytes, 1 to TN_PSK_LIMIT, and stands in the table in lower-case hex.
+ *
+ * A SHORTER TABLE LEAVES KEYS BEHIND IT. After a retire, or a replace by a shorter key, the bytes between the new end and the old one still hold what stood
+ * there: the end of the old table, keys among it. Clear them before the memory goes to anybody else, and write no more than the new length to a file.
+ *
+ * Order of the tests:
+ *
+ *   TN_R2   the first `length` bytes are no well-formed table (a last line without its 0A too), or `length` is past memory_len
+ *   TN_R5   an identity that no table may have, listed or not; a key of no bytes or over TN_PSK_LIMIT
+ *   TN_R6   add: the identity is listed already
+ *   TN_R7   replace, retire: the identity is not listed
+ *   TN_R8   the edited table would have more than TN_TABLE_LINES lines or TN_TABLE_LIMIT bytes
+ *   TN_R1   the memory is shorter than the edited table
+ *
+ * TN_TABLE_LIMIT bytes of memory are always enough. An added line takes identity_len + 2 * key_len + 2 bytes.
+ */
+int32_t tn_table_add(uint8_t *memory, size_t memory_len, size_t length, const uint8_t *identity, size_t identity_len, const uint8_t *key, size_t key_len);
+int32_t tn_table_replace(uint8_t *memory, size_t memory_len, size_t length, const uint8_t *identity, size_t identity_len, const uint8_t *key,
+                         size_t key_len);
+int32_t tn_table_retire(uint8_t *memory, size_t memory_len, size_t length, const uint8_t *identity, size_t identity_len);
 
 /* 1 where the bytes are valid UTF-8 (RFC 3629), else 0. */
 int32_t tn_valid_utf8(const uint8_t *bytes, size_t bytes_len);

@@ -7,9 +7,9 @@ use mathlib.Core.Bool.{cond}
 use lib.Dec.{eqb}
 use lib.IntN.{ℤ, pos, negsuc}
 use Rattle.refusal.specs.declared.Refusal.{Refusal}
-use Rattle.refusal.specs.declared.Refusal.the-variants.{ShortOutput, BadTable, BadSetting, ConnectionOver, BadValue, UnexpectedMessage}
-use Rattle.refusal.specs.declared.Refusal.the-variants.{HandshakeFailure, IllegalParameter, DecodeError, DecryptError, ProtocolVersion}
-use Rattle.refusal.specs.declared.Refusal.the-variants.{UnknownPskIdentity}
+use Rattle.refusal.specs.declared.Refusal.the-variants.{ShortOutput, BadTable, BadSetting, ConnectionOver, BadValue, AlreadyListed, NotListed, TableFull}
+use Rattle.refusal.specs.declared.Refusal.the-variants.{UnexpectedMessage, HandshakeFailure, IllegalParameter, DecodeError, DecryptError}
+use Rattle.refusal.specs.declared.Refusal.the-variants.{ProtocolVersion, UnknownPskIdentity}
 use Rattle.refusal.specs.declared.Written.{Written}
 use Rattle.refusal.specs.declared.Written.the-variants.{Wrote, Refused}
 use Rattle.c_interface.specs.Codes.{refusalCode, coded}
@@ -22,13 +22,16 @@ refusalBelow n =
     (cond (eqb n 2) BadSetting
     (cond (eqb n 3) ConnectionOver
     (cond (eqb n 4) BadValue
+    (cond (eqb n 5) AlreadyListed
+    (cond (eqb n 6) NotListed
+    (cond (eqb n 7) TableFull
     (cond (eqb n 1009) UnexpectedMessage
     (cond (eqb n 1039) HandshakeFailure
     (cond (eqb n 1046) IllegalParameter
     (cond (eqb n 1049) DecodeError
     (cond (eqb n 1050) DecryptError
     (cond (eqb n 1069) ProtocolVersion
-    UnknownPskIdentity))))))))))
+    UnknownPskIdentity)))))))))))))
 
 said : ℤ → Written
 said (pos n) = Wrote n
@@ -41,6 +44,9 @@ refusal-said BadTable = refl
 refusal-said BadSetting = refl
 refusal-said ConnectionOver = refl
 refusal-said BadValue = refl
+refusal-said AlreadyListed = refl
+refusal-said NotListed = refl
+refusal-said TableFull = refl
 refusal-said UnexpectedMessage = refl
 refusal-said HandshakeFailure = refl
 refusal-said IllegalParameter = refl

@@ -7,11 +7,11 @@ use native.Mathlib.Omega.{arith}
 use mathlib.Core.Bool.{Bool, true, false, cond, not, _&&_, _||_, and-eq-true-iff}
 use mathlib.Core.List.{List, _++_}
 use mathlib.Core.Option.{Option, none, some}
-use lib.ListN.{length, length-take}
+use lib.ListN.{length, take, length-take}
 use lib.Dec.{leb, ltb, eqb}
 use borrow.Author.Tests.{leb-true, ltb-true}
 use Rattle.refusal.specs.declared.Refusal.{Refusal}
-use Rattle.refusal.specs.declared.Refusal.the-variants.{BadValue, ConnectionOver, IllegalParameter}
+use Rattle.refusal.specs.declared.Refusal.the-variants.{BadTable, BadValue, TableFull, ConnectionOver, IllegalParameter}
 use Rattle.refusal.specs.Lent.{Outcome, gives, refuses}
 use Rattle.endian.specs.Vector.{writable}
 use Rattle.sha256.specs.Hash.{limit, sha256, digest}
@@ -25,8 +25,9 @@ use Rattle.keys.proofs.Lengths.{length-premaster}
 use Rattle.layout.specs.Layout.{Layout, bytes, written, valid}
 use Rattle.layout.specs.Place.{contents}
 use Rattle.extensions.specs.Extensions.{Ext, extensionBytes, extensionWritten}
-use Rattle.keytable.specs.Table.{keyOf, found}
+use Rattle.keytable.specs.Table.{lines, joined, tableRefusal, keyOf, found}
 use Rattle.keytable.proofs.Lookups.{key-size}
+use Rattle.table_edits.specs.Edits.{Edit, subject, listed, linesAfter, allowed, misplaced, sized, unless, edited, editedIn}
 use Rattle.server.specs.declared.Phase.{Phase}
 use Rattle.server.specs.declared.Connection.{Connection}
 use Rattle.server.specs.Connection.{ended}
@@ -125,6 +126,28 @@ lookup-small table identity = go (keyOf table identity) refl
     go : (o : Option (List ℕ)) → keyOf table identity ≡ o → Small (found o)
     go none e = omega arith
     go (some key) e = let n = key-size table identity key e in omega arith
+
+sized-small : (ls : List (List ℕ)) → Small (sized ls)
+sized-small ls = bytes-if-small (leb (length ls) 256 && leb (length (joined ls)) 65536) (joined ls) TableFull (λ ok.
+    let most : length (joined ls) ≤ 65536 =
+    leb-true (length (joined ls)) 65536 (and-eq-true-iff (leb (length ls) 256) (leb (length (joined ls)) 65536) .0 ok .1) in
+    omega arith)
+
+unless-small : (r : Option Refusal) (o : Outcome) → Small o → Small (unless r o)
+unless-small none o h = h
+unless-small (some r) o h = omega arith
+
+pub edit-small : (memory : List ℕ) (n : ℕ) (e : Edit) → Small (editedIn memory n e)
+unfolding edited editedIn
+edit-small memory n e =
+    let t = take n memory in
+    let made : Outcome = sized (linesAfter e (lines t)) in
+    let placed : Outcome = unless (misplaced e (listed (subject e) (lines t))) made in
+    let named : Outcome = unless (cond (allowed e) none (some BadValue)) placed in
+    outcome-if-small (leb n (length memory)) (edited e t) BadTable
+    (unless-small (tableRefusal t) named
+    (unless-small (cond (allowed e) none (some BadValue)) placed
+    (unless-small (misplaced e (listed (subject e) (lines t))) made (sized-small (linesAfter e (lines t))))))
 
 -- ---- the server's steps
 
