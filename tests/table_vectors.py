@@ -1,15 +1,17 @@
 #!/usr/bin/env python3
-"""The input of the program table_vectors, and what it must print, from Python's UTF-8 decoder and regular expressions.
+"""The input of the program table_vectors, and what it must print, from Python's UTF-8 decoder, regular expressions and lists.
 
-  table_vectors.py stdin    document 01's V9 to V11, and good and damaged texts and tables
+  table_vectors.py stdin    document 01's V9 to V11, good and damaged texts and tables, and document 02's edits of tables
   table_vectors.py stdout   what the key table's functions say of them
 """
 import re
 import sys
 
-from calls import field, literal, series, shown
+from calls import field, literal, number, series, shown
 
-LINE = re.compile(rb"([^\x00-\x1f\x7f:]{1,128}):((?:[0-9A-Fa-f]{2}){1,64})\n")
+EDITS = {"add": 4, "replace": 5, "retire": 6}
+IDENTITY = re.compile(rb"[^\x00-\x1f\x7f:]{1,128}")
+LINE = re.compile(rb"(" + IDENTITY.pattern + rb"):((?:[0-9A-Fa-f]{2}){1,64})\n")
 
 
 def utf8(text):
@@ -44,6 +46,32 @@ def key(table, identity):
     return None
 
 
+def edited(name, memory, length, identity, key):
+    """The refusal or the table's new length, and the memory afterwards, from the table's lines as a list."""
+    table = memory[:length]
+    if length > len(memory) or not well_formed(table):
+        return "R2", memory
+    if not IDENTITY.fullmatch(identity) or not utf8(identity) or name != "retire" and not 1 <= len(key) <= 64:
+        return "R5", memory
+    before = [line.split(b":") for line in table.split(b"\n")[:-1]]
+    listed = identity in [line[0] for line in before]
+    if listed == (name == "add"):
+        return "R6" if listed else "R7", memory
+    line = [identity, key.hex().encode("ascii")]
+    if name == "add":
+        after = before + [line]
+    elif name == "replace":
+        after = [line if other[0] == identity else other for other in before]
+    else:
+        after = [other for other in before if other[0] != identity]
+    text = b"".join(b":".join(line) + b"\n" for line in after)
+    if len(after) > 256 or len(text) > 65536:
+        return "R8", memory
+    if len(text) > len(memory):
+        return "R1", memory
+    return str(len(text)), text + memory[len(text) :]
+
+
 def call(kind, room, first, second=b""):
     global calls
     calls += bytes((kind, room)) + field(first) + field(second)
@@ -76,15 +104,30 @@ def print_key(table, identity):
     print_room(table, identity, 64)
 
 
-def sized(number, identity, digits):
+def print_edit(name, table, identity, key, room, length=None):
+    """The table is given in pieces, and so many bytes EE follow it. Its own length is told, or another one."""
+    global calls
+    memory = table + series(0xEE, 0, room)
+    if length is None:
+        length = len(shown(table))
+    call(EDITS[name], 0, literal(identity), memory)
+    calls += field(literal(key)) + number(length)
+    said, left = edited(name, shown(memory), length, identity, key)
+    lines.append(name + " " + identity.hex() + " " + said + (" [" + left.hex() + "]" if len(left) <= 512 else ""))
+
+
+def sized(n, identity, digits):
     """A line in pieces, with an identity and a key of these sizes."""
-    return literal(b"%03d" % number) + series(ord("x"), 0, identity - 3) + literal(b":") + series(ord("a"), 0, digits) + literal(b"\n")
+    return literal(b"%03d" % n) + series(ord("x"), 0, identity - 3) + literal(b":") + series(ord("a"), 0, digits) + literal(b"\n")
 
 
-def print_sizes(name, count, identity, digits, number, last_identity, last_digits):
-    pieces = [sized(i, identity, digits) for i in range(count)]
-    pieces.append(sized(number, last_identity, last_digits))
-    print_table(name, b"".join(pieces))
+def of_sizes(count, identity, digits, last, last_identity, last_digits):
+    """A table in pieces: so many lines and a last one."""
+    return b"".join(sized(n, identity, digits) for n in range(count)) + sized(last, last_identity, last_digits)
+
+
+def print_sizes(name, *sizes):
+    print_table(name, of_sizes(*sizes))
 
 
 TEXTS = [
@@ -163,6 +206,64 @@ SIZES = [
     ("the last as another", 255, 128, 126, 254, 128, 126),
 ]
 
+V9 = b"gate7:abcd\n"
+THREE = b"gate:00\ngate7:aBCd\ngate71:02\n"
+OPEN = b"gate7:abcd"
+
+# the edit, the table, the identity, the key, the room behind the table, and the length that is told where it is not the table's
+CHANGES = [
+    # V9's table
+    ("add", V9, b"gate8", "00ff", 12),
+    ("replace", V9, b"gate7", "1234", 2),
+    ("retire", V9, b"gate7", "", 2),
+    ("add", V9, b"gate7", "1234", 12),
+    ("replace", V9, b"gate71", "1234", 2),
+    ("retire", V9, b"gate", "", 2),
+    # the first line, the one between and the last; keys as long, shorter and longer; the same key in lower case
+    ("replace", THREE, b"gate", "ff", 0),
+    ("replace", THREE, b"gate7", "ef", 3),
+    ("replace", THREE, b"gate71", "c0ffee", 5),
+    ("replace", THREE, b"gate", "0123456789abcdef", 15),
+    ("replace", THREE, b"gate7", "abcd", 1),
+    ("retire", THREE, b"gate", "", 1),
+    ("retire", THREE, b"gate7", "", 1),
+    ("retire", THREE, b"gate71", "", 1),
+    ("add", THREE, "\u00e9\u20ac\U0001f600 ~".encode("utf-8"), "9a", 20),
+    # keys of 0, 1, 64 and 65 bytes, R5 before R6 and R7
+    ("add", V9, b"gate7", "", 20),
+    ("add", V9, b"a", "c5" * 64, 140),
+    ("add", V9, b"gate7", "c5" * 65, 140),
+    ("replace", V9, b"gate8", "", 20),
+    ("replace", V9, b"gate7", "00", 20),
+    ("replace", V9, b"gate7", "c5" * 64, 130),
+    ("replace", V9, b"gate8", "c5" * 65, 130),
+    # an identity of 128 bytes
+    ("add", V9, b"x" * 128, "00", 132),
+    # as much room as it takes, and one byte less
+    ("add", V9, b"gate8", "00ff", 11),
+    ("add", V9, b"gate8", "00ff", 10),
+    ("replace", V9, b"gate7", "123456", 2),
+    ("replace", V9, b"gate7", "123456", 1),
+    # no bytes
+    ("add", b"", b"a", "00", 5),
+    ("add", b"", b"a", "00", 0),
+    ("retire", b"", b"a", "", 0),
+    # not well formed: R2 before R5, R6, R7 and R1
+    ("add", OPEN, b"gate7", "00", 20),
+    ("replace", OPEN, b"gate8", "", 20),
+    ("retire", OPEN, b"gate:7", "", 20),
+    ("retire", b"a:00\na:01\n", b"a", "", 0),
+    # a length past the memory, past the table, and shorter: the first line alone, a part of it, no bytes
+    ("add", V9, b"gate8", "00", 12, 24),
+    ("replace", V9, b"", "12", 0, 12),
+    ("retire", V9, b"gate7", "", 2, 12),
+    ("add", THREE, b"gate71", "03", 1, 8),
+    ("retire", THREE, b"gate", "", 1, 7),
+    ("add", THREE, b"a", "00", 1, 0),
+]
+
+BAD = [b"", b"x" * 129, b"gate:7", b"gate\x1f", b"gate\x7f", b"gate\xc3"]
+
 calls, lines = b"", []
 for text in TEXTS:
     print_text(bytes.fromhex(text))
@@ -189,6 +290,34 @@ for table, identity in [
     (b"", b"a"),
 ]:
     print_key(table, identity)
+
+for name, table, identity, key, *rest in CHANGES:
+    print_edit(name, literal(table), identity, bytes.fromhex(key), *rest)
+# identities that no table may have: R5 before R7 and R1
+for identity in BAD:
+    for name in EDITS:
+        print_edit(name, literal(V9), identity, b"\x12\x34", 2)
+
+# 255, 256 and 257 lines: R5 and R6 before R8, R8 before R1
+LINES = [b"%03d:aa\n" % n for n in range(257)]
+for count, name, identity, key, room in [
+    (255, "add", b"256", "aa", 7),
+    (256, "add", b"256", "aa", 7),
+    (256, "add", b"256", "aa", 0),
+    (256, "add", b"255", "aa", 0),
+    (256, "add", b"", "aa", 0),
+    (256, "replace", b"128", "bbbb", 2),
+    (257, "retire", b"128", "", 0),
+]:
+    print_edit(name, literal(b"".join(LINES[:count])), identity, bytes.fromhex(key), room)
+
+# 65,536 bytes, and one or two more, by a line and by a key: R8 before R1
+LONG = of_sizes(253, 128, 128, 253, 127, 2)
+LAST = literal(b"end:" + b"aa" * 63 + b"\n")
+for identity, room in [(b"new", 131), (b"new", 130), (b"news", 132), (b"news", 0)]:
+    print_edit("add", LONG, identity, b"\xaa" * 63, room)
+for size, room in [(63, 0), (64, 2), (64, 0)]:
+    print_edit("replace", LONG + LAST, b"end", b"\xbb" * size, room)
 
 if sys.argv[1] == "stdin":
     sys.stdout.buffer.write(calls)
