@@ -1,6 +1,6 @@
 /*
- * A first program over the installed library, valid as C and as C++: document 01's worked bytes (V1 to V12) through the C interface, and the way that the
- * three kinds of results are told apart. Run by tests/installed.
+ * A first program over the installed library, valid as C and as C++: document 01's worked bytes (V1 to V12) through the C interface, edits of its key
+ * table, and the way that the three kinds of results are told apart. Run by tests/installed.
  */
 #include <stdio.h>
 #include <stdlib.h>
@@ -79,6 +79,25 @@ static void table(void)
                       && tn_valid_utf8(bytes("\xF4\x8F\xBF\xBF"), 4) == 1);
 }
 
+/* V9's table with a second gate and without it again. */
+static void edits(void)
+{
+    uint8_t memory[32];
+    memset(memory, 0xEE, sizeof memory);
+    memcpy(memory, "gate7:abcd\n", 11);
+    expect("add, R1", tn_table_add(memory, 21, 11, bytes("gate8"), 5, bytes("\xAB\xCD"), 2) == TN_R1);
+    expect("add", wrote(tn_table_add(memory, sizeof memory, 11, bytes("gate8"), 5, bytes("\xAB\xCD"), 2), memory, "gate7:abcd\ngate8:abcd\n", 22));
+    expect("add, R6", tn_table_add(memory, sizeof memory, 22, bytes("gate8"), 5, bytes("\xAB\xCD"), 2) == TN_R6);
+    expect("replace", wrote(tn_table_replace(memory, sizeof memory, 22, bytes("gate7"), 5, bytes("\x0A\x1B\x2C"), 3), memory,
+                            "gate7:0a1b2c\ngate8:abcd\n", 24));
+    expect("replace, R7", tn_table_replace(memory, sizeof memory, 24, bytes("gate9"), 5, bytes("\xAB\xCD"), 2) == TN_R7);
+    expect("the table again", tn_table_replace(memory, sizeof memory, 24, bytes("gate7"), 5, bytes("\xAB\xCD"), 2) == 22
+                                  && tn_table_retire(memory, sizeof memory, 22, bytes("gate8"), 5) == 11);
+    expect("what stays behind it", memcmp(memory, "gate7:abcd\ngate8:abcd\nd\n", 24) == 0 && memory[24] == 0xEE);
+    expect("retire, R2", tn_table_retire(memory, sizeof memory, 10, bytes("gate7"), 5) == TN_R2);
+    expect("retire, R5", tn_table_retire(memory, sizeof memory, 11, bytes("gate:"), 5) == TN_R5);
+}
+
 /* V7 and V12: the smallest ClientHello of a version, and the server's answer to it. */
 static int32_t hello(uint32_t version, uint8_t *answer)
 {
@@ -114,6 +133,7 @@ int main(void)
     tn_clear_stack(TN_STACK_LIMIT);
     messages();
     table();
+    edits();
     tn_clear_stack(TN_STACK_LIMIT);
     expect("V12, 0x0302", hello(0x0302, answer) == TN_ALERT_RESULT(TN_ALERT_PROTOCOL_VERSION));
     expect("V12, 0x0304", hello(0x0304, answer) == 46 && answer[4] == 3 && answer[5] == 3);

@@ -11,14 +11,20 @@ enum { DAMAGED = 8, MESSAGE = 9 }; /* the slots of `damaged` and of whole messag
 struct bytes drawn(size_t slot, size_t n);
 struct bytes clean_text(size_t slot, size_t n);               /* of UTF-8 */
 struct bytes drawn_text(size_t slot, size_t n);               /* the same, now and then damaged */
+struct bytes plain_text(size_t slot, size_t n);               /* of small letters */
 struct bytes drawn_block(size_t slot, size_t most);           /* extensions, now and then damaged */
 struct bytes drawn_hello(struct hello *h, bool of_client);    /* fields and the whole message, allowed or not */
 struct bytes drawn_login(void);                               /* mostly a hello that the server accepts */
 struct bytes drawn_table(size_t slot);
 struct bytes drawn_identity(size_t slot, struct bytes table); /* mostly one that the table has */
+size_t key_in_line(size_t size);                              /* how long a key may be in a line of 8 to 258 bytes, its 0A among them */
 struct bytes damaged(struct bytes b);                         /* a copy, changed in a few places; its length may be another */
 struct bytes copied(size_t slot, struct bytes b);
 size_t drawn_room(int32_t said);                              /* mostly enough, often one short */
+
+/* A well-formed table of so many lines and bytes, fewer if lines can't be that long. Line `odd` has the identity ODD and a key of odd_key bytes. */
+#define ODD "odd"
+struct bytes full_table(size_t slot, size_t lines, size_t size, size_t odd, size_t odd_key);
 
 /* ---- one call each, compared */
 
@@ -26,6 +32,21 @@ void compare_readers(struct bytes message);
 void compare_extensions(struct bytes block);
 void compare_table(struct bytes table, struct bytes identity);
 void compare_utf8(struct bytes text);
+
+/* ---- a table in memory, and its edits */
+
+#define MEMORY_LIMIT 70000
+
+struct memory {
+    uint8_t bytes[MEMORY_LIMIT];
+    size_t n, length; /* the table is the first `length` bytes; a length past the memory may be given too */
+};
+
+/* The text in memory of n bytes, as much of it as has room there, with drawn bytes behind it; the table is the whole text. */
+void memory_set(struct memory *m, struct bytes text, size_t n);
+
+/* One edit, compared; the memory is as the call left it, and what the call gave comes back. */
+int32_t memory_edit(struct memory *m, enum edit kind, struct bytes identity, struct bytes key);
 
 /* ---- a connection and its model */
 
@@ -47,12 +68,14 @@ void probe(const uint8_t connection[TN_CONNECTION_SIZE], struct bytes table, str
 void secrets_round(void);
 void layouts_round(void);
 void table_round(void);
+void edits_round(void);
 void server_round(void);
 
 /* ---- sweeps, the same in every run */
 
 void every_suite(void);
 void every_character(void);
+void every_edit(void);
 void every_alert(void);
 void every_bit(void);
 

@@ -100,6 +100,18 @@ struct bytes drawn_text(size_t slot, size_t n)
     return b;
 }
 
+static void put_letters(uint8_t *at, size_t n)
+{
+    for (size_t i = 0; i < n; i++)
+        at[i] = (uint8_t)between('a', 'z');
+}
+
+struct bytes plain_text(size_t slot, size_t n)
+{
+    put_letters(slots[slot], n);
+    return (struct bytes){slots[slot], n};
+}
+
 /* ---- extensions and hellos */
 
 static size_t put_extension(uint8_t *at, size_t type, size_t n)
@@ -187,10 +199,20 @@ struct bytes drawn_login(void)
 
 /* ---- tables */
 
+/* The end of a line behind its identity: a key of so many bytes, in digits of either case. */
+static size_t put_key(size_t slot, size_t n, size_t key)
+{
+    static const char digits[] = "0123456789abcdefABCDEF";
+    slots[slot][n++] = ':';
+    for (size_t i = 0; i < 2 * key; i++)
+        slots[slot][n++] = (uint8_t)digits[below(22)];
+    slots[slot][n++] = '\n';
+    return n;
+}
+
 /* One line at the end of a table: an identity of so many bytes, a number in front where there is one and it has room, and a key of so many. */
 static size_t put_line(size_t slot, size_t n, int number, size_t identity, size_t key)
 {
-    static const char digits[] = "0123456789abcdefABCDEF";
     size_t front = number < 0 || identity < 4 ? 0 : (size_t)sprintf((char *)slots[slot] + n, "%d.", number);
     struct bytes text = once_in(80) ? drawn_text(7, identity - front) : clean_text(7, identity - front);
     n += front;
@@ -198,11 +220,15 @@ static size_t put_line(size_t slot, size_t n, int number, size_t identity, size_
         bool plain = text.at[i] >= 0x20 && text.at[i] != 0x7f && text.at[i] != ':';
         slots[slot][n++] = plain || once_in(80) ? text.at[i] : (uint8_t)'_';
     }
-    slots[slot][n++] = ':';
-    for (size_t i = 0; i < 2 * key; i++)
-        slots[slot][n++] = (uint8_t)digits[below(22)];
-    slots[slot][n++] = '\n';
-    return n;
+    return put_key(slot, n, key);
+}
+
+/* The same of letters, never damaged: the number keeps the identity, of 4 bytes or more, apart from the others. */
+static size_t put_plain_line(size_t slot, size_t n, size_t number, size_t identity, size_t key)
+{
+    size_t front = (size_t)sprintf((char *)slots[slot] + n, "%zu.", number);
+    put_letters(slots[slot] + n + front, identity - front);
+    return put_key(slot, n + identity, key);
 }
 
 static struct bytes table_of(size_t slot, size_t lines, size_t identity, size_t key)
@@ -213,21 +239,34 @@ static struct bytes table_of(size_t slot, size_t lines, size_t identity, size_t 
     return (struct bytes){slots[slot], n};
 }
 
-/* 256 lines and 65,534 to 65,538 bytes: in the longest lines that fill the table just so, numbers keep the identities apart. */
+/* 256 lines and 65,534 to 65,538 bytes: the longest lines that fill the table just so. */
 static struct bytes fullest_table(size_t slot)
 {
-    static const char letters[] = "abcdefghijklmnopqrstuvwxyz";
     size_t n = 0;
-    for (int i = 0; i < 256; i++) {
-        size_t identity = i == 255 ? between(126, 128) : 128, key = i == 255 ? between(63, 64) : 63;
-        size_t front = (size_t)sprintf((char *)slots[slot] + n, "%d.", i);
-        for (size_t k = front; k < identity; k++)
-            slots[slot][n + k] = (uint8_t)letters[below(26)];
-        n += identity;
-        slots[slot][n++] = ':';
-        memset(slots[slot] + n, 'a', 2 * key);
-        n += 2 * key;
-        slots[slot][n++] = '\n';
+    for (size_t i = 0; i < 255; i++)
+        n = put_plain_line(slot, n, i, 128, 63);
+    n = put_plain_line(slot, n, 255, between(126, 128), between(63, 64));
+    return (struct bytes){slots[slot], n};
+}
+
+size_t key_in_line(size_t size)
+{
+    size_t most = (size - 6) / 2;
+    return between(size > 130 ? (size - 129) / 2 : 1, most < 64 ? most : 64);
+}
+
+struct bytes full_table(size_t slot, size_t lines, size_t size, size_t odd, size_t odd_key)
+{
+    size_t n = 0, kept = strlen(ODD) + 2 * odd_key + 2; /* for the odd line, as long as it is to come */
+    for (size_t i = 0; i < lines; i++) {
+        if (i == odd) {
+            memcpy(slots[slot] + n, ODD, strlen(ODD));
+            n = put_key(slot, n + strlen(ODD), odd_key);
+            kept = 0;
+            continue;
+        }
+        size_t line = (size - n - kept) / (lines - i - (i < odd ? 1 : 0)), longest = line < 258 ? line : 258, key = key_in_line(longest);
+        n = put_plain_line(slot, n, i, longest - 2 * key - 2, key);
     }
     return (struct bytes){slots[slot], n};
 }

@@ -55,6 +55,9 @@ static const struct {
     {"tn_read_ticket_extension", {0, ALERT(50), 99}},
     {"tn_table_test", {0, TN_R2, 99}},
     {"tn_table_lookup", {1, 2, TN_R1, ALERT(115), 99}},
+    {"tn_table_add", {2, TN_R1, TN_R2, TN_R5, TN_R6, TN_R8, 99}},
+    {"tn_table_replace", {2, TN_R1, TN_R2, TN_R5, TN_R7, TN_R8, 99}},
+    {"tn_table_retire", {0, 2, TN_R2, TN_R5, TN_R7, 99}},
     {"tn_valid_utf8", {0, 1, 99}},
 };
 
@@ -88,6 +91,7 @@ int main(int count, char **arguments)
     draw_from(seed);
     every_suite();
     every_character();
+    every_edit();
     every_alert();
     every_bit();
     for (unsigned long i = 0; i < rounds; i++) {
@@ -96,6 +100,7 @@ int main(int count, char **arguments)
         secrets_round();
         layouts_round();
         table_round();
+        edits_round();
         server_round();
     }
     if (rounds >= FEW)

@@ -1,6 +1,6 @@
 /*
- * The library's functions a second time, written from document 01 and the RFCs alone, over libcrypto. Nothing here was taken from the library; each gives
- * what the export of its name has to come to, the test of the room (R1) left out where it says "answer".
+ * The library's functions a second time, written from document 01, the request for the table's edits and the RFCs alone, over libcrypto. Nothing here
+ * was taken from the library; each gives what the export of its name has to come to, the test of the room (R1) left out where it says "answer".
  */
 #ifndef MODEL_H
 #define MODEL_H
@@ -60,6 +60,11 @@ int32_t model_next_extension(struct bytes block, size_t at, uint32_t fields[3]);
 bool model_utf8(struct bytes text);
 bool model_table_test(struct bytes table);
 void model_lookup(struct bytes table, struct bytes identity, struct answer *a);
+
+enum edit { ADD, REPLACE, RETIRE };
+
+/* The edited table, of the one that is the first `length` bytes of the memory. To retire an identity takes no key: any may be given. */
+void model_edit(struct bytes memory, size_t length, enum edit kind, struct bytes identity, struct bytes key, struct answer *a);
 
 /* ---- the server (model_server.c) */
 

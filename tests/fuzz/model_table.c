@@ -1,6 +1,7 @@
-/* The key table a second time, written from document 01, "The key table", and the grammar of RFC 3629 section 4. */
+/* The key table a second time, written from document 01, "The key table", the grammar of RFC 3629 section 4, and the request for the edits. */
 #include "model.h"
 
+#include <stdio.h>
 #include <string.h>
 
 /* ---- UTF-8: the grammar's rows, each with the bytes that may come first and second; the others are 80 to BF */
@@ -52,7 +53,12 @@ bool model_utf8(struct bytes text)
 /* ---- lines */
 
 struct line {
-    struct bytes identity, key;
+    struct bytes text, identity, key; /* the text without its 0A */
+};
+
+struct list {
+    struct line lines[257]; /* one more than a table may have */
+    size_t n;
 };
 
 static int hex(uint8_t b)
@@ -90,13 +96,13 @@ static bool take_line(struct bytes *table, struct bytes *line)
     return end != NULL;
 }
 
-static bool split(struct bytes text, struct line *l)
+static bool split(struct line *l)
 {
-    const uint8_t *colon = text.n > 0 ? memchr(text.at, ':', text.n) : NULL;
+    const uint8_t *colon = l->text.n > 0 ? memchr(l->text.at, ':', l->text.n) : NULL;
     if (!colon)
         return false;
-    l->identity = (struct bytes){text.at, (size_t)(colon - text.at)};
-    l->key = (struct bytes){colon + 1, text.n - l->identity.n - 1};
+    l->identity = (struct bytes){l->text.at, (size_t)(colon - l->text.at)};
+    l->key = (struct bytes){colon + 1, l->text.n - l->identity.n - 1};
     return true;
 }
 
@@ -105,23 +111,36 @@ static bool same(struct bytes a, struct bytes b)
     return a.n == b.n && (a.n == 0 || memcmp(a.at, b.at, a.n) == 0);
 }
 
-bool model_table_test(struct bytes table)
+/* Which line has the identity; the count of lines where none has. */
+static size_t place_of(const struct list *list, struct bytes identity)
 {
-    static struct line lines[256];
-    size_t n = 0;
+    size_t i = 0;
+    while (i < list->n && !same(list->lines[i].identity, identity))
+        i++;
+    return i;
+}
+
+/* The table's lines; false where it is not well formed. */
+static bool take_apart(struct bytes table, struct list *list)
+{
+    list->n = 0;
     if (table.n > 65536)
         return false;
     while (table.n > 0) {
-        struct bytes text;
         struct line l;
-        if (n == 256 || !take_line(&table, &text) || !split(text, &l) || !is_identity(l.identity) || !is_key(l.key))
+        if (list->n == 256 || !take_line(&table, &l.text) || !split(&l) || !is_identity(l.identity) || !is_key(l.key))
             return false;
-        for (size_t i = 0; i < n; i++)
-            if (same(lines[i].identity, l.identity))
-                return false;
-        lines[n++] = l;
+        if (place_of(list, l.identity) < list->n)
+            return false;
+        list->lines[list->n++] = l;
     }
     return true;
+}
+
+bool model_table_test(struct bytes table)
+{
+    static struct list list;
+    return take_apart(table, &list);
 }
 
 /* The first line that begins with the identity and a colon decides; bytes after the last 0A are a line too. */
@@ -140,5 +159,64 @@ void model_lookup(struct bytes table, struct bytes identity, struct answer *a)
             a->bytes[i] = (uint8_t)(hex(key.at[2 * i]) * 16 + hex(key.at[2 * i + 1]));
         a->said = (int32_t)(key.n / 2);
         return;
+    }
+}
+
+/* ---- edits: the table is taken apart into its lines, one of them is put in or taken out, and a table is put together of them anew */
+
+/* The line of an identity and a key, without its 0A. */
+static struct bytes line_of(struct bytes identity, struct bytes key)
+{
+    static char text[300];
+    size_t n = identity.n;
+    memcpy(text, identity.at, n);
+    text[n++] = ':';
+    for (size_t i = 0; i < key.n; i++)
+        n += (size_t)sprintf(text + n, "%02x", key.at[i]);
+    return (struct bytes){(const uint8_t *)text, n};
+}
+
+static void change_list(struct list *list, enum edit kind, size_t place, struct bytes text)
+{
+    switch (kind) {
+    case ADD: list->lines[list->n++].text = text; break;
+    case REPLACE: list->lines[place].text = text; break;
+    default:
+        for (list->n--; place < list->n; place++)
+            list->lines[place] = list->lines[place + 1];
+    }
+}
+
+static void put_together(const struct list *list, struct answer *a)
+{
+    size_t n = 0;
+    for (size_t i = 0; i < list->n; i++) {
+        struct bytes text = list->lines[i].text;
+        memcpy(a->bytes + n, text.at, text.n);
+        n += text.n;
+        a->bytes[n++] = '\n';
+    }
+    a->said = (int32_t)n;
+}
+
+void model_edit(struct bytes memory, size_t length, enum edit kind, struct bytes identity, struct bytes key, struct answer *a)
+{
+    static struct list list;
+    bool formed = length <= memory.n && take_apart((struct bytes){memory.at, length}, &list);
+    bool bad_key = kind != RETIRE && (key.n < 1 || key.n > 64);
+    size_t place = formed ? place_of(&list, identity) : 0;
+    if (!formed) {
+        a->said = TN_R2;
+    } else if (!is_identity(identity) || bad_key) {
+        a->said = TN_R5;
+    } else if (kind == ADD && place < list.n) {
+        a->said = TN_R6;
+    } else if (kind != ADD && place == list.n) {
+        a->said = TN_R7;
+    } else {
+        change_list(&list, kind, place, kind == RETIRE ? identity : line_of(identity, key));
+        put_together(&list, a);
+        if (list.n > 256 || a->said > 65536)
+            a->said = TN_R8;
     }
 }

@@ -2,7 +2,7 @@
 """The fuzzer's first inputs, in the form that target.c gives: seeds.py DIRECTORY.
 
 Whole handshakes for each suite, hint and rule, refusals of each kind, one message of each layout, key
-tables and the recorded messages of other programs.
+tables and their edits, and the recorded messages of other programs.
 """
 import pathlib
 import sys
@@ -13,6 +13,7 @@ sys.path.insert(0, str(TESTS))
 from handshakes import EVERY, TABLE, drawn, exchange, extension, hello, message, vector
 
 ENOUGH = 180
+ADD, REPLACE, RETIRE = range(3)
 
 
 def table(text=TABLE):
@@ -33,6 +34,10 @@ def finished(room=ENOUGH, place=0, bits=0):
 
 def probe(place, over):
     return b"\6" + place.to_bytes(2, "big") + vector(1, over)
+
+
+def edit(kind, identity, key=b"", room=ENOUGH, more=0):
+    return bytes([8, kind, room, more % 256]) + vector(1, identity) + vector(1, key)
 
 
 CHANGE = b"\3"
@@ -89,6 +94,23 @@ def tables():
         yield start() + send(HELLO) + table(text) + send(exchange(b"a")) + send(exchange(b"gate7"))
 
 
+def edits():
+    """Logins with an edited table, a series that leaves none of its lines, and each refusal."""
+    key = drawn("another key")
+    for change in (edit(ADD, b"gate8", key), edit(REPLACE, b"gate7", key), edit(RETIRE, b"gate7"), edit(ADD, b"gate7", key),
+                   edit(REPLACE, b"gate7", b"\1"), edit(RETIRE, b"gate8"), edit(ADD, b"gate8", key * 2) + edit(RETIRE, b"gate8")):
+        for name in (b"gate7", b"gate8", b"gate"):
+            yield start() + send(HELLO) + table() + change + send(exchange(name)) + CHANGE + finished()
+    yield table(b"") + edit(ADD, b"a", b"\1", 5) + edit(ADD, b"b", b"\xAB", 5) + edit(REPLACE, b"a", key) + edit(RETIRE, b"b") + edit(RETIRE, b"a")
+    for change in (edit(ADD, b"gate8", key, 0), edit(REPLACE, b"gate7", key, 59), edit(ADD, b"a", key, more=1), edit(ADD, b"a", key, more=-1),
+                   edit(REPLACE, b"gate7", key, 3, 4), edit(RETIRE, b"gate7", more=127), edit(ADD, "Küche".encode(), key, more=-10),
+                   edit(ADD, b"", key), edit(REPLACE, b"a:", key), edit(RETIRE, b"\xc0\x80"), edit(ADD, b"b" * 129, key),
+                   edit(ADD, b"b" * 128, bytes(62), 255), edit(ADD, b"a"), edit(REPLACE, b"gate7", bytes(65)), edit(REPLACE, b"gate", bytes(64))):
+        yield table() + change + edit(REPLACE, b"gate7", b"\xAB\xCD")
+    for count in (255, 256):
+        yield table(lines(count)) + edit(ADD, b"a", key) + edit(ADD, b"7", key) + edit(ADD, b"b", key, 0) + edit(RETIRE, b"0") + edit(ADD, b"0", key)
+
+
 def starts():
     for hint in (b"h" * 129, b"\xc0\x80", b"\xed\xa0\x80", b"\xf4\x8f\xbf\xbf", "é€😀".encode()):
         yield start(hint=hint) + send(HELLO)
@@ -112,6 +134,6 @@ def recorded():
 
 if __name__ == "__main__":
     directory = pathlib.Path(sys.argv[1])
-    for make in (logins, hellos, messages, tables, starts, longest, recorded):
+    for make in (logins, hellos, messages, tables, edits, starts, longest, recorded):
         for i, contents in enumerate(make()):
             (directory / f"{make.__name__}-{i:02}").write_bytes(contents)

@@ -1,5 +1,7 @@
-/* The key table and UTF-8 against a parser of their own. */
+/* The key table, its edits and UTF-8 against a parser of their own. */
 #include "compare.h"
+
+#include <string.h>
 
 void compare_utf8(struct bytes text)
 {
@@ -7,6 +9,13 @@ void compare_utf8(struct bytes text)
     struct lent *t = lend(text);
     expect_number(tn_valid_utf8(t->bytes, t->n), model_utf8(text) ? 1 : 0);
     finish();
+}
+
+static void expect_lookup(struct bytes table, struct bytes identity, const struct answer *wanted)
+{
+    begin("tn_table_lookup");
+    struct lent *t = lend(table), *i = lend(identity), *out = lend_room(drawn_room(wanted->said));
+    settle(tn_table_lookup(t->bytes, t->n, i->bytes, i->n, out->bytes, out->n), out, wanted);
 }
 
 void compare_table(struct bytes table, struct bytes identity)
@@ -17,10 +26,7 @@ void compare_table(struct bytes table, struct bytes identity)
     expect_number(tn_table_test(t->bytes, t->n), model_table_test(table) ? 0 : TN_R2);
     finish();
     model_lookup(table, identity, &wanted);
-    begin("tn_table_lookup");
-    t = lend(table);
-    struct lent *i = lend(identity), *out = lend_room(drawn_room(wanted.said));
-    settle(tn_table_lookup(t->bytes, t->n, i->bytes, i->n, out->bytes, out->n), out, &wanted);
+    expect_lookup(table, identity, &wanted);
 }
 
 void table_round(void)
@@ -31,6 +37,153 @@ void table_round(void)
     compare_utf8(drawn_text(0, draw_length(128, 3000)));
     compare_utf8(drawn(0, between(1, 5)));
 }
+
+/* ---- edits */
+
+void memory_set(struct memory *m, struct bytes text, size_t n)
+{
+    m->n = n < MEMORY_LIMIT ? n : MEMORY_LIMIT;
+    m->length = text.n;
+    memmove(m->bytes, text.at, text.n < m->n ? text.n : m->n); /* the text may stand there already */
+    if (text.n < m->n)
+        draw_bytes(m->bytes + text.n, m->n - text.n);
+}
+
+int32_t memory_edit(struct memory *m, enum edit kind, struct bytes identity, struct bytes key)
+{
+    static const char *const names[] = {"tn_table_add", "tn_table_replace", "tn_table_retire"};
+    static struct answer wanted;
+    int32_t result;
+    model_edit((struct bytes){m->bytes, m->n}, m->length, kind, identity, key, &wanted);
+    begin(names[kind]);
+    struct lent *l = lend((struct bytes){m->bytes, m->n}), *i = lend(identity), *k = lend(key);
+    switch (kind) {
+    case ADD: result = tn_table_add(l->bytes, l->n, m->length, i->bytes, i->n, k->bytes, k->n); break;
+    case REPLACE: result = tn_table_replace(l->bytes, l->n, m->length, i->bytes, i->n, k->bytes, k->n); break;
+    default: result = tn_table_retire(l->bytes, l->n, m->length, i->bytes, i->n);
+    }
+    settle(result, l, &wanted);
+    memcpy(m->bytes, l->bytes, m->n);
+    if (result >= 0)
+        m->length = (size_t)result;
+    return result;
+}
+
+static const struct bytes odd_name = {(const uint8_t *)ODD, sizeof ODD - 1};
+
+static struct bytes drawn_key(size_t slot)
+{
+    return drawn(slot, once_in(16) ? draw_length(64, 66000) : between(0, 66));
+}
+
+/* Mostly an identity that can be edited so, at times one that no table may have. */
+static struct bytes drawn_name(size_t slot, struct bytes table, enum edit kind)
+{
+    size_t n = once_in(4) ? between(126, 130) : below(40);
+    if (kind != ADD || once_in(4))
+        return drawn_identity(slot, table);
+    return once_in(3) ? drawn_text(slot, n) : plain_text(slot, n);
+}
+
+/* The text's length, or that of some lines at its front, so that what stands behind the table are lines too. */
+static size_t drawn_table_length(struct bytes text)
+{
+    size_t n = once_in(5) ? below(text.n + 1) : text.n;
+    while (n < text.n && n > 0 && text.at[n - 1] != '\n')
+        n--;
+    return n;
+}
+
+/* A length that the table does not have, mostly past the memory. */
+static size_t another_length(const struct memory *m)
+{
+    switch (below(6)) {
+    case 0: return m->n + 1;
+    case 1: return m->n + below(70000);
+    case 2: return SIZE_MAX - below(3);
+    case 3: return between(65535, 65538);
+    case 4: return m->length - 1; /* without the last line's end */
+    default: return below(m->n + 1);
+    }
+}
+
+/* An edit of the text's first bytes, in memory that is mostly long enough before and after it, often just so. */
+static void edit_text(struct bytes text, size_t length, enum edit kind, struct bytes identity, struct bytes key)
+{
+    static struct memory m;
+    static struct answer edited;
+    model_edit(text, length, kind, identity, key, &edited);
+    size_t after = edited.said > 0 ? (size_t)edited.said : 0, needed = after > length ? after : length;
+    memory_set(&m, text, once_in(4) ? length : once_in(4) ? text.n + needed : drawn_room((int32_t)needed));
+    m.length = length;
+    if (once_in(10))
+        m.length = another_length(&m);
+    memory_edit(&m, kind, identity, key);
+}
+
+/* 255 or 256 lines, mostly so long that the added line, or the longer key of the odd one, takes the table to 65,535 to 65,538 bytes. */
+static void edits_at_the_limits(void)
+{
+    size_t lines = between(255, 256), old = between(1, 64), odd = once_in(3) ? 0 : once_in(2) ? lines - 1 : below(lines);
+    struct bytes table = full_table(6, lines, once_in(3) ? lines * between(10, 60) : between(65500, 65538), odd, old);
+    size_t gap = table.n < 65536 ? 65536 - table.n : 0, line = gap < 9 ? 8 : gap > 255 ? 258 : gap + below(4) - 1, key = key_in_line(line);
+    struct bytes listed = once_in(3) ? drawn_identity(0, table) : odd_name;
+    edit_text(table, table.n, ADD, once_in(3) ? listed : plain_text(1, line - 2 * key - 2), drawn(2, key));
+    key = old + gap / 2 + below(2);
+    edit_text(table, table.n, REPLACE, listed, drawn(2, key <= 64 ? key : between(1, 64)));
+    edit_text(table, table.n, RETIRE, listed, drawn(2, 0));
+}
+
+/* One edit of the table in memory, after which the identity has the given key, or none, and another one has what it had. */
+static void edit_and_look(struct memory *m, enum edit kind, struct bytes identity, struct bytes key)
+{
+    static struct answer named, others;
+    struct bytes table = {m->bytes, m->length}, other = drawn_identity(3, table);
+    bool apart = other.n != identity.n || memcmp(other.at, identity.at, other.n) != 0;
+    model_lookup(table, identity, &named);
+    model_lookup(table, other, &others);
+    expect_lookup(table, other, &others);
+    int32_t result = memory_edit(m, kind, identity, key);
+    table.n = m->length;
+    if (result >= 0 && kind == RETIRE) {
+        named.said = TN_ALERT_RESULT(115);
+    } else if (result >= 0) {
+        named.said = (int32_t)key.n;
+        memcpy(named.bytes, key.at, key.n);
+    }
+    expect_lookup(table, identity, &named);
+    if (apart)
+        expect_lookup(table, other, &others);
+}
+
+/* Edits of one memory, each of what the one before has left; an identity is often edited more than once. */
+static void series_of_edits(struct bytes text)
+{
+    static struct memory m;
+    struct bytes identity = drawn_name(0, text, ADD);
+    memory_set(&m, text, text.n + below(once_in(4) ? 60 : 2000));
+    for (size_t i = between(3, 12); i > 0; i--) {
+        enum edit kind = (enum edit)below(3);
+        if (once_in(2))
+            identity = drawn_name(0, (struct bytes){m.bytes, m.length}, kind);
+        edit_and_look(&m, kind, identity, drawn_key(1));
+    }
+}
+
+void edits_round(void)
+{
+    struct bytes text = drawn_table(6);
+    for (enum edit kind = ADD; kind <= RETIRE; kind++)
+        edit_text(text, drawn_table_length(text), kind, drawn_name(0, text, kind), drawn_key(1));
+    if (once_in(6))
+        series_of_edits(drawn_table(6));
+    if (once_in(60))
+        edits_at_the_limits();
+    if (once_in(1000))
+        series_of_edits(full_table(6, between(253, 255), between(64000, 65536), 0, 20));
+}
+
+/* ---- sweeps */
 
 /* Texts of one to four bytes, each of the bytes at an edge of some row of the grammar. */
 void every_character(void)
@@ -50,4 +203,34 @@ void every_character(void)
         if (i < count)
             compare_utf8((struct bytes){text, 1});
     }
+}
+
+static void every_edit_of(struct bytes text, size_t n, size_t length, struct bytes identity, struct bytes key)
+{
+    static struct memory m;
+    for (enum edit kind = ADD; kind <= RETIRE; kind++) {
+        memory_set(&m, text, n);
+        m.length = length;
+        memory_edit(&m, kind, identity, key);
+    }
+}
+
+/* Of three lines: each length of the memory and of the table in it, each identity of one or two bytes. Of two: each length of a key for each. */
+void every_edit(void)
+{
+    static const uint8_t lines[] = "a:00\nbc:AbCd\nd:ffff00\n", names[] = "abcde";
+    struct bytes text = {lines, sizeof lines - 1};
+    for (size_t n = 0; n < text.n + 12; n++)
+        for (size_t length = 0; length < n + 4; length++)
+            for (size_t i = 0; i < 5; i++)
+                every_edit_of(text, n, length, (struct bytes){names + i, i == 1 ? 2 : 1}, drawn(0, 2));
+    for (unsigned i = 0; i < 65536; i++) {
+        uint8_t name[] = {(uint8_t)i, (uint8_t)(i >> 8)};
+        every_edit_of(text, text.n + 10, text.n, (struct bytes){name, i < 256 ? 1 : 2}, drawn(0, 2));
+    }
+    for (size_t old = 1; old <= 64; old++)
+        for (size_t key = 0; key <= 66; key++) {
+            struct bytes two = full_table(6, 2, 60 + 2 * old, key % 2, old);
+            every_edit_of(two, two.n + 2 * key + 3, two.n, odd_name, drawn(0, key));
+        }
 }

@@ -10,6 +10,8 @@
  *   5 ROOM PLACE BITS                          the right Finished, those bits of it changed
  *   6 PLACE PLACE VECTOR1                      the last message again, on a copy of the connection with these bytes at a place
  *   7 VECTOR2                                  an extension block
+ *   8 KIND ROOM MORE VECTOR1 VECTOR1           an edit by identity and key, add, replace or retire: in memory of ROOM bytes beyond the table, whose
+ *                                              length is given as MORE than it is (a signed byte); where accepted, the key table from here on
  *
  * VECTORn: a length of n bytes and so many bytes, or what there is left of the input. Built without libFuzzer it runs on files or on standard input.
  */
@@ -26,6 +28,7 @@ int LLVMFuzzerTestOneInput(const uint8_t *data, size_t size);
 struct series {
     struct bytes rest, table, message;
     struct pair pair;
+    struct memory memory; /* of the table, once it was edited */
 };
 
 /* ---- the input */
@@ -93,9 +96,21 @@ static void do_probe(struct series *s)
     probe(connection, s->table, s->message, TN_FLIGHT_SIZE);
 }
 
+static void do_edit(struct series *s)
+{
+    enum edit kind = (enum edit)(next_byte(s) % 3);
+    size_t room = next_byte(s), more = next_byte(s);
+    struct bytes identity = next_vector(s, 1), key = next_vector(s, 1);
+    memory_set(&s->memory, s->table, s->table.n + room);
+    s->memory.length += more < 128 ? more : more - 256;
+    if (memory_edit(&s->memory, kind, identity, key) >= 0)
+        s->table = (struct bytes){s->memory.bytes, s->memory.length};
+    compare_table(s->table, identity);
+}
+
 static void do_call(struct series *s)
 {
-    switch (next_byte(s) % 8) {
+    switch (next_byte(s) % 9) {
     case 0: s->table = next_vector(s, 2); compare_table(s->table, s->message); break;
     case 1: do_start(s); break;
     case 2: do_message(s); break;
@@ -107,7 +122,8 @@ static void do_call(struct series *s)
     }
     case 5: do_finished(s); break;
     case 6: do_probe(s); break;
-    default: compare_extensions(next_vector(s, 2));
+    case 7: compare_extensions(next_vector(s, 2)); break;
+    default: do_edit(s);
     }
 }
 
