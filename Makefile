@@ -18,7 +18,7 @@ test: vectors claims
 	@mkdir -p build
 	@rt ci | tee build/ci.log
 	@tests/edits
-	@$(MAKE) --no-print-directory header-test interop differential planted
+	@$(MAKE) --no-print-directory header-test interop gates-test differential planted
 	@tail -n 1 build/ci.log
 
 vectors:

@@ -2,26 +2,34 @@
 #
 # make lib                   build/libturretnail.a, proved
 # make gateway               build/gateway
+# make gates                 build/gates, which edits the key table's file
 # make run                   the gateway with the sample table gateway/gates.psk; ARGUMENTS='--rule hide' adds options
-# make install PREFIX=DIR    library, header, pkg-config file and gateway (DESTDIR is put in front)
+# make install PREFIX=DIR    library, header, pkg-config file, gateway and gates (DESTDIR is put in front)
 # make uninstall PREFIX=DIR  removes them
 # make header-test           the header against the exports, and a program over the installed library in C and C++
 # make interop               the gateway under sanitizers against other clients
+# make gates-test            gates under sanitizers: as a user runs it, killed at every step, with each call failing, on a full disk
 
 PREFIX ?= /usr/local
 VERSION := $(shell sed -n 's/^\#define TN_VERSION "\(.*\)"/\1/p' include/turretnail.h)
 LIBRARY ?= build/libturretnail.a
 GATEWAY_FLAGS := -std=c11 -D_GNU_SOURCE -Wall -Wextra -Wconversion -Wshadow -Werror -Iinclude
 SANITIZED := -O1 -g -fsanitize=address,undefined -fno-sanitize-recover=all
-GATEWAY_PARTS := $(addprefix gateway/,connection.c records.c entropy.c options.c report.c table.c log.c places.c listener.c client.c rest.c work.c wipe.c)
+GATEWAY_PARTS := $(addprefix gateway/,connection.c records.c entropy.c options.c report.c table.c table_text.c log.c places.c listener.c client.c rest.c \
+	work.c wipe.c)
+GATES := $(addprefix gateway/,gates.c table_file.c table_text.c entropy.c wipe.c)
+GATES_CALLS := open openat realpath lstat fstat flock read write fchown fchmod fgetxattr fsetxattr fremovexattr fsync renameat unlinkat close getrandom \
+	setrlimit prctl
+GATES_WRAPPED := $(foreach c,$(GATES_CALLS),-Wl,--wrap=$(c))
 GATEWAY_HEADERS := $(wildcard gateway/*.h) include/turretnail.h
 PROVED := $(shell find crates -name '*.rt' -o -name '*.antt') crates.txt
 INSTALLED := $(CURDIR)/build/installed
 
-.PHONY: lib gateway run install uninstall header-test interop needs-build needs-test
+.PHONY: lib gateway gates gates-test run install uninstall header-test interop needs-build needs-test
 
 lib: $(LIBRARY)
 gateway: build/gateway
+gates: build/gates
 
 build/libturretnail.a: $(PROVED)
 	@mkdir -p build
@@ -47,6 +55,24 @@ build/gateway-careless: gateway/gateway.c $(filter-out gateway/wipe.c,$(GATEWAY_
 	@mkdir -p build
 	@$(CC) $(GATEWAY_FLAGS) -O2 $(filter %.c,$^) $(LIBRARY) -lcrypto -o $@
 
+build/gates: $(GATES) $(GATEWAY_HEADERS) $(LIBRARY) | needs-build
+	@mkdir -p build
+	@$(CC) $(GATEWAY_FLAGS) -O2 $(filter %.c,$^) $(LIBRARY) -o $@
+
+build/gates-sanitized: $(GATES) $(GATEWAY_HEADERS) $(LIBRARY) | needs-build
+	@mkdir -p build
+	@$(CC) $(GATEWAY_FLAGS) $(SANITIZED) $(filter %.c,$^) $(LIBRARY) -o $@
+
+# Every call to the system can be made to fail, or the last; and a lock is waited for a second only.
+build/gates-faults: $(GATES) tests/gates_faults.c $(GATEWAY_HEADERS) $(LIBRARY) | needs-build
+	@mkdir -p build
+	@$(CC) $(GATEWAY_FLAGS) $(SANITIZED) -DLOCK_SECONDS=1 $(GATES_WRAPPED) $(filter %.c,$^) $(LIBRARY) -o $@
+
+# Without what clears keys, as above.
+build/gates-careless: $(filter-out gateway/wipe.c,$(GATES)) tests/no_wipe.c tests/gates_careless.c $(GATEWAY_HEADERS) $(LIBRARY) | needs-build
+	@mkdir -p build
+	@$(CC) $(GATEWAY_FLAGS) -O2 -Wl,--wrap=explicit_bzero $(filter %.c,$^) $(LIBRARY) -o $@
+
 build/records-test: tests/records.c gateway/records.c gateway/entropy.c $(GATEWAY_HEADERS) | needs-build
 	@mkdir -p build
 	@$(CC) $(GATEWAY_FLAGS) $(SANITIZED) $(filter %.c,$^) -lcrypto -o $@
@@ -69,15 +95,16 @@ run: needs-build build/gateway
 
 INSTALL_TO := $(DESTDIR)$(PREFIX)
 
-install: $(LIBRARY) build/gateway
+install: $(LIBRARY) build/gateway build/gates
 	@install -d $(INSTALL_TO)/lib/pkgconfig $(INSTALL_TO)/include $(INSTALL_TO)/bin
 	@install -m 755 build/gateway $(INSTALL_TO)/bin/turretnail-gateway
+	@install -m 755 build/gates $(INSTALL_TO)/bin/turretnail-gates
 	@install -m 644 $(LIBRARY) $(INSTALL_TO)/lib/libturretnail.a
 	@install -m 644 include/turretnail.h $(INSTALL_TO)/include/turretnail.h
 	@sed -e 's|@PREFIX@|$(PREFIX)|' -e 's|@VERSION@|$(VERSION)|' gateway/turretnail.pc.in > $(INSTALL_TO)/lib/pkgconfig/turretnail.pc
 
 uninstall:
-	@rm -f $(addprefix $(INSTALL_TO)/,lib/libturretnail.a include/turretnail.h lib/pkgconfig/turretnail.pc bin/turretnail-gateway)
+	@rm -f $(addprefix $(INSTALL_TO)/,lib/libturretnail.a include/turretnail.h lib/pkgconfig/turretnail.pc bin/turretnail-gateway bin/turretnail-gates)
 
 header-test: $(LIBRARY) | needs-test
 	@tests/header $(LIBRARY)
@@ -91,3 +118,6 @@ interop: build/gateway build/gateway-careless build/gateway-sanitized build/reco
 	@python3 tests/keys_in_memory.py build/gateway build/gateway-careless
 	@python3 tests/hide_in_time.py build/gateway
 	@python3 tests/interop build/gateway-sanitized build/mbedtls-client build/gateway
+
+gates-test: build/gateway-sanitized build/gates build/gates-sanitized build/gates-faults build/gates-careless | needs-test
+	@python3 tests/gates build/gateway-sanitized build/gates build/gates-sanitized build/gates-faults build/gates-careless

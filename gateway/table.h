@@ -6,8 +6,7 @@
 #include <stddef.h>
 
 #include "connection.h"
-
-enum { TABLE_SENTENCE = 160 }; /* longer than any reason below, without the file's name */
+#include "table_text.h"
 
 /* A well-formed table that was read and is not yet in force. */
 struct table {
