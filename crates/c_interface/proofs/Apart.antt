@@ -7,7 +7,8 @@ use mathlib.Core.Bool.{cond}
 use lib.Dec.{eqb}
 use lib.IntN.{ℤ, pos, negsuc}
 use Rattle.refusal.specs.declared.Refusal.{Refusal}
-use Rattle.refusal.specs.declared.Refusal.the-variants.{ShortOutput, BadTable, BadSetting, ConnectionOver, BadValue, AlreadyListed, NotListed, TableFull}
+use Rattle.refusal.specs.declared.Refusal.the-variants.{ShortOutput, BadTable, BadSetting, ConnectionOver, BadValue}
+use Rattle.refusal.specs.declared.Refusal.the-variants.{AlreadyListed, NotListed, TableFull}
 use Rattle.refusal.specs.declared.Refusal.the-variants.{UnexpectedMessage, HandshakeFailure, IllegalParameter, DecodeError, DecryptError}
 use Rattle.refusal.specs.declared.Refusal.the-variants.{ProtocolVersion, UnknownPskIdentity}
 use Rattle.refusal.specs.declared.Written.{Written}

@@ -12,7 +12,8 @@ use Rattle.keytable.specs.Table.{colon, upto, past, lines, joined, ident
 use Rattle.keytable.specs.WellFormed.{Line, ValidLine, identityIn, WellFormed}
 use Rattle.lists.proofs.Tests.{and-left, and-right, both}
 use Rattle.keytable.proofs.Tests.{identity-sound, identity-complete, key-sound, key-complete}
-use Rattle.keytable.proofs.Texts.{upto-append, past-append, parted, lineOf, joined-lines, text-parted, identity-no-colon, lines-text, ended-text, lines-joined}
+use Rattle.keytable.proofs.Texts.{upto-append, past-append, parted, lineOf, joined-lines, text-parted}
+use Rattle.keytable.proofs.Texts.{identity-no-colon, lines-text, ended-text, lines-joined}
 use Rattle.lists.proofs.Equal.{same-refl, same-not}
 use Rattle.lists.proofs.Distinct.{distinct-sound, distinct-complete}
 

@@ -73,5 +73,6 @@ module _ (t identity : List ℕ) (at end : ℕ) (h : at < length t) (e : end ≡
   pub search-on : keyText identity (part at (end - at) t) ≡ none → placed 0 identity (lines t) ≡ placed (end + 1) identity (lines (drop (end + 1) t))
   search-on m = now ∙ rw here (rw (m, line-ends))
 
-  pub search-hit : (text : List ℕ) → keyText identity (part at (end - at) t) ≡ some text → Text (at + length identity + 1) end ≡ placed 0 identity (lines t)
+  pub search-hit : (text : List ℕ) → keyText identity (part at (end - at) t) ≡ some text
+      → Text (at + length identity + 1) end ≡ placed 0 identity (lines t)
   search-hit text m = sym (now ∙ rw here (rw (m, line-ends)))

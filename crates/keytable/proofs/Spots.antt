@@ -84,7 +84,10 @@ nowhere i at [] e = refl
 nowhere i at (l ∷ ls) e = go (keyText i l) refl (λ f. nowhere i (at + length l + 1) ls f)
   where
     go : (o : Option (List ℕ)) → keyText i l ≡ o → (placed (at + length l + 1) i ls ≡ Nothing → firstText i ls ≡ none) → firstText i (l ∷ ls) ≡ none
-    go (some s) h ih = let z : _≡_ {A = ℕ} 0 1 = (let f : Text (at + length i + 1) (at + length l) ≡ Nothing = rw h at e in cc) in absurd (omega arith)
+    go (some s) h ih =
+        let f : Text (at + length i + 1) (at + length l) ≡ Nothing = rw h at e in
+        let z : _≡_ {A = ℕ} 0 1 = cc in
+        absurd (omega arith)
     go none h ih = rw h (ih (rw h at e))
 
 -- ---- lists of lines

@@ -1,9 +1,12 @@
--- Document 01, "Numbers that come back", with the numbers of document 02's P1, as a table: for each refusal its number, who is given it, and what becomes of the connection.
+-- Document 01, "Numbers that come back", and the numbers of document 02's P1, as a table: for each refusal its number, who is given it, and what
+-- becomes of the connection.
 use Prim.Native.Nat.{ℕ}
 use mathlib.Core.Bool.{Bool, true, false}
 use Rattle.refusal.specs.declared.Refusal.{Refusal}
-use Rattle.refusal.specs.declared.Refusal.the-variants.{ShortOutput, BadTable, BadSetting, ConnectionOver, BadValue, AlreadyListed, NotListed, TableFull}
-use Rattle.refusal.specs.declared.Refusal.the-variants.{UnexpectedMessage, HandshakeFailure, IllegalParameter, DecodeError, DecryptError, ProtocolVersion, UnknownPskIdentity}
+use Rattle.refusal.specs.declared.Refusal.the-variants.{ShortOutput, BadTable, BadSetting, ConnectionOver, BadValue}
+use Rattle.refusal.specs.declared.Refusal.the-variants.{AlreadyListed, NotListed, TableFull}
+use Rattle.refusal.specs.declared.Refusal.the-variants.{UnexpectedMessage, HandshakeFailure, IllegalParameter, DecodeError}
+use Rattle.refusal.specs.declared.Refusal.the-variants.{DecryptError, ProtocolVersion, UnknownPskIdentity}
 
 -- An R number is for the host, and any other for the client, as a fatal alert.
 pub data Receiver : Type 0 where

@@ -19,7 +19,8 @@ use Rattle.keytable.proofs.Texts.{Without, upto-append, past-append, parted, va
 use Rattle.keytable.proofs.Agreement.{line-sound}
 use Rattle.keytable.proofs.Lookups.{own-text, other-text, key-is}
 use Rattle.keytable.proofs.Spots.{first-append}
-use Rattle.table_edits.specs.Edits.{Edit, add, replace, retire, subject, lineWith, lowerHex, isLineOf, listed, others, linesAfter, validSecret, allowed, misplaced, keyAfter, OfBytes}
+use Rattle.table_edits.specs.Edits.{Edit, add, replace, retire, subject, lineWith, lowerHex, isLineOf, listed}
+use Rattle.table_edits.specs.Edits.{others, linesAfter, validSecret, allowed, misplaced, keyAfter, OfBytes}
 use Rattle.table_edits.proofs.Digits.{decoded-hex, valid-hex}
 use Rattle.table_edits.proofs.Places.{others-append}
 

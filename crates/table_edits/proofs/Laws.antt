@@ -21,14 +21,16 @@ use Rattle.keytable.specs.Table.{lines, joined, placed, firstText, keyOfText, k
 use Rattle.keytable.specs.WellFormed.{WellFormed, LineRemoved}
 use Rattle.keytable.proofs.Agreement.{well-formed-tests, joined-formed, joined-back, complete}
 use Rattle.keytable.proofs.Texts.{joined-lines}
-use Rattle.table_edits.specs.Edits.{Edit, add, replace, retire, subject, lineWith, isLineOf, listed, others, linesAfter, validSecret, allowed, misplaced, sized, unless, edited, keyAfter, OfBytes}
+use Rattle.table_edits.specs.Edits.{Edit, add, replace, retire, subject, lineWith, isLineOf, listed, others, linesAfter}
+use Rattle.table_edits.specs.Edits.{validSecret, allowed, misplaced, sized, unless, edited, keyAfter, OfBytes}
 use Rattle.table_edits.proofs.Outcomes.{sized-fits}
-use Rattle.table_edits.proofs.After.{own-line, replaced-listed, replaced-twice, others-same, valid-after, distinct-after, others-after, unlisted-none, listed-some, others-first, first-after, may-add, may-replace}
+use Rattle.table_edits.proofs.After.{own-line, replaced-listed, replaced-twice, others-same, valid-after, distinct-after, others-after}
+use Rattle.table_edits.proofs.After.{unlisted-none, listed-some, others-first, first-after, may-add, may-replace}
 use Rattle.table_edits.proofs.Places.{absent-unlisted, line-removed}
 
 -- ---- an accepted edit
 
-pub record Accepted (e : Edit) (t t' : List ℕ) : Type 0 where
+record Accepted (e : Edit) (t t' : List ℕ) : Type 0 where
   pub formed : wellFormed t ≡ true
   pub named : allowed e ≡ true
   pub free : misplaced e (listed (subject e) (lines t)) ≡ none
@@ -39,7 +41,7 @@ pub record Accepted (e : Edit) (t t' : List ℕ) : Type 0 where
 gives-bytes : {a b : List ℕ} → gives a ≡ gives b → a ≡ b
 gives-bytes e = cc
 
-pub accepted : (e : Edit) (t t' : List ℕ) → edited e t ≡ gives t' → Accepted e t t'
+accepted : (e : Edit) (t t' : List ℕ) → edited e t ≡ gives t' → Accepted e t t'
 unfolding edited
 accepted e t t' h = first (wellFormed t) refl
   where
@@ -70,7 +72,7 @@ accepted e t t' h = first (wellFormed t) refl
     first true a = second _ refl a
 
 -- what the definition makes of the tests that hold
-pub edited-on : (e : Edit) (t : List ℕ) → wellFormed t ≡ true → allowed e ≡ true
+edited-on : (e : Edit) (t : List ℕ) → wellFormed t ≡ true → allowed e ≡ true
     → edited e t ≡ unless (misplaced e (listed (subject e) (lines t))) (sized (linesAfter e (lines t)))
 unfolding edited
 edited-on e t a b = rw (a, b)

@@ -9,7 +9,8 @@ use lib.Seq.{paste, drop-paste, length-take-le, getD-drop, getD-take, take-suc, 
 -- ---- to the front
 
 -- the byte that is read next was not written yet
-pub lower-read : (s : List ℕ) (from to i : ℕ) → to ≤ from → from + i < length s → getD (paste s to (drop from s) i) (from + i) 0 ≡ getD (drop from s) i 0
+pub lower-read : (s : List ℕ) (from to i : ℕ) → to ≤ from → from + i < length s
+    → getD (paste s to (drop from s) i) (from + i) 0 ≡ getD (drop from s) i 0
 lower-read s from to i h inside =
     let place : from + i ≡ to + i + (from - to) = omega arith in
     let there : to + i + (from - to) ≡ from + i = omega arith in

@@ -25,7 +25,8 @@ use Rattle.keytable.proofs.Agreement.{well-formed-tests}
 use Rattle.keytable.proofs.Spots.{joined-append}
 use Rattle.table_edits.specs.declared.Place.{Place}
 use Rattle.table_edits.specs.declared.Place.the-variants.{At, Absent, Refused}
-use Rattle.table_edits.specs.Edits.{Edit, subject, validSecret, secretAllowed, allowed, misplaced, listed, linesAfter, lineWith, lowerHex, sized, unless, edited, editedIn}
+use Rattle.table_edits.specs.Edits.{Edit, subject, validSecret, secretAllowed, allowed, misplaced, listed, linesAfter}
+use Rattle.table_edits.specs.Edits.{lineWith, lowerHex, sized, unless, edited, editedIn}
 use Rattle.table_edits.specs.Inner.{bounded, hitPlace, placeIn, sizeJudged}
 use Rattle.table_edits.proofs.Digits.{length-hex}
 
@@ -44,7 +45,7 @@ module _ (memory : List ℕ) (n : ℕ) (i : List ℕ) (secret : Bool) where
 
   -- a place that no test refused is the search's
   module _ (p : Place) (e : placeIn memory n i secret ≡ p) (found : (r : Refusal) → ¬ (p ≡ Refused r)) where
-    pub passed-tests : Passed memory n i secret × (hitPlace (placed 0 i (lines table)) ≡ p)
+    passed-tests : Passed memory n i secret × (hitPlace (placed 0 i (lines table)) ≡ p)
     passed-tests = first (leb n (length memory) && wellFormed table) refl
       where
         second : (b : Bool) → (validIdentity i && secret) ≡ b → (leb n (length memory) && wellFormed table) ≡ true
@@ -172,7 +173,8 @@ module _ (t out : List ℕ) (size : ℕ) (e : length t ≡ size) where
       first true x true y = (rw (e, x), leb-true size (length out) y)
 
 -- the answer of n bytes, by what it leaves
-pub answered : (bytes out out' : List ℕ) (n : ℕ) → length bytes ≡ n → n ≤ length out → out' ≡ bytes ++ drop n out → Answers (gives bytes) out (Wrote n) out'
+pub answered : (bytes out out' : List ℕ) (n : ℕ) → length bytes ≡ n → n ≤ length out → out' ≡ bytes ++ drop n out
+    → Answers (gives bytes) out (Wrote n) out'
 answered bytes out out' n size room left = rw (left, ← size) (gives-answers bytes out (omega arith))
 
 -- ---- a line added

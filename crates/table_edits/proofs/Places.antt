@@ -13,7 +13,8 @@ use Rattle.lists.proofs.Equal.{same-refl, same-not}
 use Rattle.lists.proofs.Every.{each-append, every-map}
 use Rattle.lists.proofs.Distinct.{any-append, distinct-middle}
 use Rattle.keytable.specs.declared.entries.Hit.the-variants.{Text, Nothing}
-use Rattle.keytable.specs.Table.{lineEnd, colon, upto, past, lines, joined, keyText, firstText, placed, identityOf, validIdentity, validLine, wellFormed}
+use Rattle.keytable.specs.Table.{lineEnd, colon, upto, past, lines, joined, keyText}
+use Rattle.keytable.specs.Table.{firstText, placed, identityOf, validIdentity, validLine, wellFormed}
 use Rattle.keytable.specs.WellFormed.{Plain, LineRemoved}
 use Rattle.keytable.proofs.Tests.{identity-sound}
 use Rattle.keytable.proofs.Texts.{Without, upto-append, ended-joined, joined-lines, parted, valid-parted, line-no-end}
@@ -112,13 +113,13 @@ module _ (t i : List ℕ) (w : wellFormed t ≡ true) where
         ap (listed i) (line .split) ∙ any-append (isLineOf i) (line .front) ((i ++ (colon ∷ line .hex)) ∷ line .back)
         ∙ rw (not-listed i (line .front) (others-around .0), own)
 
-    pub replaced-lines : (k : List ℕ) → linesAfter (replace i k) (lines t) ≡ line .front ++ (lineWith i k ∷ line .back)
+    replaced-lines : (k : List ℕ) → linesAfter (replace i k) (lines t) ≡ line .front ++ (lineWith i k ∷ line .back)
     replaced-lines k =
         ap (linesAfter (replace i k)) (line .split)
         ∙ map-append (λ l. cond (isLineOf i l) (lineWith i k) l) (line .front) ((i ++ (colon ∷ line .hex)) ∷ line .back)
         ∙ rw (replace-stays i k (line .front) (others-around .0), own, replace-stays i k (line .back) (others-around .1))
 
-    pub retired-lines : linesAfter (retire i) (lines t) ≡ line .front ++ line .back
+    retired-lines : linesAfter (retire i) (lines t) ≡ line .front ++ line .back
     retired-lines =
         ap (others i) (line .split) ∙ others-append i (line .front) ((i ++ (colon ∷ line .hex)) ∷ line .back)
         ∙ rw (others-stay i (line .front) (others-around .0), own, others-stay i (line .back) (others-around .1))
@@ -156,7 +157,8 @@ module _ (t i : List ℕ) (w : wellFormed t ≡ true) where
     pub replaced-text : (k : List ℕ) → spliced from to (lowerHex k) t ≡ joined (linesAfter (replace i k) (lines t))
     replaced-text k =
         let grouped : ahead ++ lowerHex k ++ behind ≡ joined (line .front) ++ (lineWith i k ++ behind) = simp append-assoc in
-        ap₂ (λ (a : List ℕ) (b : List ℕ). a ++ lowerHex k ++ b) (ap (take from) parts ∙ take-at ahead (line .hex ++ behind) from length-ahead) drop-digits
+        ap₂ (λ (a : List ℕ) (b : List ℕ). a ++ lowerHex k ++ b)
+        (ap (take from) parts ∙ take-at ahead (line .hex ++ behind) from length-ahead) drop-digits
         ∙ grouped ∙ sym (ap joined (replaced-lines k) ∙ joined-append (line .front) (lineWith i k ∷ line .back))
 
     pub retired-text : (start : ℕ) → start ≡ from - 1 - length i → spliced start (to + 1) [] t ≡ joined (linesAfter (retire i) (lines t))

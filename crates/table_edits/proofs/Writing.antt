@@ -12,7 +12,8 @@ use Rattle.keytable.specs.Table.{lineEnd, colon}
 use Rattle.table_edits.specs.Inner.{moved, spliced}
 
 -- bytes in a part of their length leave the length
-pub length-put : (out bytes : List ℕ) (from to : ℕ) → from + length bytes ≡ to → to ≤ length out → length (putMid from (to - from) out bytes) ≡ length out
+pub length-put : (out bytes : List ℕ) (from to : ℕ) → from + length bytes ≡ to → to ≤ length out
+    → length (putMid from (to - from) out bytes) ≡ length out
 length-put out bytes from to e inside = same-len-mid from (to - from) out bytes (omega (arith, mid-len from to out inside))
 
 -- ---- a line

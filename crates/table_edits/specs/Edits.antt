@@ -1,5 +1,6 @@
--- Edits of a key table (document 02, P1): a line is added, one identity's key replaced, one identity's line retired. Which lines there are then, and the
--- tests that come first, in document 02's order: R2, R5, R6 or R7, R8. R1, the room, is added by `Answers` (crates/refusal/specs/Lent.antt), last.
+-- Edits of a key table (document 02, P1): a line is added, one identity's key replaced, one identity's line retired. Which lines there are then,
+-- and the tests that come first, in document 02's order: R2, R5, R6 or R7, R8. R1, the room, is added by `Answers` (crates/refusal/specs/Lent.antt),
+-- last.
 use Prim.Native.Nat.{ℕ, _+_, _-_, _/_, _%_, _<_}
 use mathlib.Core.Bool.{Bool, true, cond, _&&_}
 use mathlib.Core.List.{List, [], _∷_, _++_, map}

@@ -16,6 +16,8 @@ use Rattle.messages.proofs.NewSessionTickets.{ticket-inverse}
 use Rattle.keytable.proofs.Agreement.{sound, complete}
 use Rattle.keytable.proofs.Lookups.{lookup-exact, malformed-unlisted}
 use Rattle.keytable.proofs.Laws.{removable, removed-had}
+use Rattle.table_edits.proofs.Laws.{lines-after, edit-formed, edit-others, edit-key, edit-else}
+use Rattle.table_edits.proofs.Laws.{listed-found, retire-removes, retire-added, replace-twice}
 use Rattle.saved.proofs.Saving.{cleared-closed}
 use Rattle.c_interface.proofs.Apart.{codes-apart}
 use Rattle.theorems.specs.Claims.{Claims}
@@ -66,6 +68,15 @@ claims =
       malformedUnlisted = malformed-unlisted;
       lineRemovable = removable;
       removedHad = removed-had;
+      editFormed = edit-formed;
+      editLines = lines-after;
+      editOthers = edit-others;
+      editKey = edit-key;
+      editElse = edit-else;
+      retireRemoves = retire-removes;
+      retireUndoesAdd = retire-added;
+      replaceTwice = replace-twice;
+      listedFound = listed-found;
       worked = Worked.worked;
       suitesInOrder = suites-in-order;
       masterHanded = λ flight next. refl;

@@ -7,6 +7,7 @@ use mathlib.Core.Bool.{true, false}
 use mathlib.Core.List.{List, [], _∷_, _++_}
 use mathlib.Core.Option.{none, some}
 use lib.ListN.{length, take, drop, replicate}
+use Rattle.lists.specs.Lists.{Each}
 use Rattle.refusal.specs.declared.Refusal.{Refusal}
 use Rattle.refusal.specs.declared.Refusal.the-variants.{ShortOutput}
 use Rattle.refusal.specs.declared.Written.{Written}
@@ -27,8 +28,9 @@ use Rattle.messages.specs.KeyExchange.{serverKeyExchange, clientKeyExchange, re
 use Rattle.messages.specs.Fixed as Fixed
 use Rattle.messages.specs.Fixed.{serverHelloDone, readFixed}
 use Rattle.messages.specs.NewSessionTicket.{newSessionTicket, readTicket}
-use Rattle.keytable.specs.Table.{decoded, validIdentity, wellFormed, keyOf}
+use Rattle.keytable.specs.Table.{lines, decoded, validIdentity, wellFormed, keyOf}
 use Rattle.keytable.specs.WellFormed.{Line, text, WellFormed, Listed, LineRemoved}
+use Rattle.table_edits.specs.Edits.{Edit, add, replace, retire, subject, listed, others, linesAfter, edited, keyAfter, OfBytes}
 use Rattle.server.specs.declared.Phase.{Phase}
 use Rattle.server.specs.declared.Connection.{Connection}
 use Rattle.server.specs.KeyExchange.{View}
@@ -94,6 +96,19 @@ pub record Claims : Type 1 where
   pub lineRemovable : (t : List ℕ) (w : WellFormed t) (xs : List Line) (l : Line) (ys : List Line) → w .lines ≡ xs ++ (l ∷ ys)
       → LineRemoved (l .identity) t (text (xs ++ ys))
   pub removedHad : (identity t t' : List ℕ) (r : LineRemoved identity t t') → wellFormed t ≡ true → keyOf t identity ≡ some (decoded (r .hex))
+  -- edits of a key table (document 02, P1): of every edit that gives a table
+  pub editFormed : (e : Edit) (t t' : List ℕ) → OfBytes e → edited e t ≡ gives t' → WellFormed t'
+  pub editLines : (e : Edit) (t t' : List ℕ) → OfBytes e → edited e t ≡ gives t' → lines t' ≡ linesAfter e (lines t)
+  pub editOthers : (e : Edit) (t t' : List ℕ) → OfBytes e → edited e t ≡ gives t' → others (subject e) (lines t') ≡ others (subject e) (lines t)
+  pub editKey : (e : Edit) (t t' : List ℕ) → OfBytes e → edited e t ≡ gives t' → keyOf t' (subject e) ≡ keyAfter e
+  pub editElse : (e : Edit) (t t' : List ℕ) → OfBytes e → edited e t ≡ gives t' → (other : List ℕ) → ¬ (other ≡ subject e)
+      → keyOf t' other ≡ keyOf t other
+  pub retireRemoves : (identity t t' : List ℕ) → edited (retire identity) t ≡ gives t' → LineRemoved identity t t'
+  pub retireUndoesAdd : (identity key t t' : List ℕ) → Each (λ b. b < 256) key → edited (add identity key) t ≡ gives t'
+      → edited (retire identity) t' ≡ gives t
+  pub replaceTwice : (identity key key' t t' : List ℕ) → Each (λ b. b < 256) key → edited (replace identity key) t ≡ gives t'
+      → edited (replace identity key') t' ≡ edited (replace identity key') t
+  pub listedFound : (t identity : List ℕ) → wellFormed t ≡ true → (listed identity (lines t) ≡ false) ↔ (keyOf t identity ≡ none)
   -- the worked bytes
   pub worked : BytesWorkedThrough
   -- the server's choices

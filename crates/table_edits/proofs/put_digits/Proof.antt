@@ -77,7 +77,8 @@ returns c =
     rw (fits f .0)
     (answered (new-table s) (memory s) _ (end j) (new-length s) (fits f .1)
     (ap₂ (putMid (a .from) (digits-end j - a .from)) (m .shift .ensures) (p .put-key .ensures)
-    ∙ digits-written (memory s) (a .from) (a .to) (a .length) (omega arith) (omega arith) (omega arith) (hex s) (digits-end j) (omega arith) (fits f .1)))
+    ∙ digits-written (memory s) (a .from) (a .to) (a .length) (omega arith) (omega arith) (omega arith) (hex s) (digits-end j) (omega arith)
+    (fits f .1)))
 
 returns-2 : tie.Need-returns-2
 returns-2 c =
