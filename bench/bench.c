@@ -2,7 +2,7 @@
  * The benchmark's main program:
  *
  *     bench           every case
- *     bench CASE..    hash, handshake, parts, hellos, logins, records or stack
+ *     bench CASE..    hash, handshake, parts, hellos, logins, edits, records or stack
  */
 #include <stdio.h>
 #include <string.h>
@@ -15,7 +15,7 @@ static const struct {
     void (*run)(void);
 } cases[] = {
     {"hash", bench_hash}, {"handshake", bench_handshake}, {"parts", bench_parts}, {"hellos", bench_hellos}, {"logins", bench_logins},
-    {"records", bench_records}, {"stack", bench_stack},
+    {"edits", bench_edits}, {"records", bench_records}, {"stack", bench_stack},
 };
 
 enum { CASES = sizeof cases / sizeof *cases };
@@ -28,7 +28,7 @@ static void run_named(const char *name)
             return;
         }
     }
-    must(0, "the cases are hash, handshake, parts, hellos, logins, records and stack");
+    must(0, "the cases are hash, handshake, parts, hellos, logins, edits, records and stack");
 }
 
 /* The CPU's kind, since times mean little without it. */

@@ -7,11 +7,14 @@
 #include <sys/mman.h>
 
 #include "cases.h"
+#include "edits.h"
 #include "login.h"
 #include "measure.h"
 #include "parts.h"
 
-enum { STACK = 1 << 20, PAINT = 0xA5, OWN = 256 /* bytes below the painter's frame that it needs itself */, LARGE = PARTS, NOTHING, MEASURED };
+enum { STACK = 1 << 20, PAINT = 0xA5, OWN = 256 /* bytes below the painter's frame that it needs itself */ };
+enum { AIM = 1024 /* bytes of an edit beyond those of the table's test */ };
+enum { LARGE = PARTS, TEST, EDIT, NOTHING = EDIT + EDITS, MEASURED }; /* the calls behind the parts; edits from EDIT on */
 
 static uint8_t *stack;
 static struct login large;
@@ -32,7 +35,7 @@ __attribute__((noinline)) static size_t touched(int32_t (*call)(void))
     volatile uint8_t *top = __builtin_frame_address(0), *p;
     for (p = stack; p < top - OWN; p++)
         *p = PAINT;
-    must(call() >= 0, "a call of our handshake is refused");
+    must(call() >= 0, "a call is refused");
     for (p = stack; p < top - OWN && *p == PAINT; p++)
         continue;
     return (size_t)(top - p);
@@ -46,8 +49,35 @@ static void *run_calls(void *state)
         sizes[i] = touched(parts[i].call);
     }
     sizes[LARGE] = touched(call_large_hello);
+    edit_ready(&edits[0]);
+    sizes[TEST] = touched(edit_test);
+    for (size_t i = 0; i < EDITS; i++) {
+        edit_ready(&edits[i]);
+        sizes[EDIT + i] = touched(edits[i].call);
+    }
     sizes[NOTHING] = touched(call_nothing);
     return NULL;
+}
+
+static const char *name_of(size_t i)
+{
+    if (i < PARTS)
+        return parts[i].name;
+    if (i >= EDIT && i < NOTHING)
+        return edits[i - EDIT].name;
+    return i == LARGE ? "start and a ClientHello of 16 KiB" : i == TEST ? "the table's test" : "no call";
+}
+
+static void print_sizes(const size_t sizes[MEASURED])
+{
+    printf("\nStack, bytes below the calling frame\n");
+    for (size_t i = 0; i < MEASURED; i++) {
+        must(sizes[i] <= TN_STACK_LIMIT, "a call reaches below TN_STACK_LIMIT");
+        printf("  %-52s %9zu", name_of(i), sizes[i]);
+        if (i >= EDIT && i < NOTHING)
+            printf("   beyond the test %ld   aim %d: %s", (long)sizes[i] - (long)sizes[TEST], AIM, sizes[i] < sizes[TEST] + AIM ? "met" : "missed");
+        printf("\n");
+    }
 }
 
 void bench_stack(void)
@@ -56,15 +86,12 @@ void bench_stack(void)
     pthread_attr_t attributes;
     pthread_t thread;
     parts_prepare();
+    edits_prepare();
     login_plain_hello(&large, TN_MESSAGE_LIMIT - 48, 1);
     stack = mmap(NULL, STACK, PROT_READ | PROT_WRITE, MAP_PRIVATE | MAP_ANONYMOUS, -1, 0);
     must(stack != MAP_FAILED && pthread_attr_init(&attributes) == 0 && pthread_attr_setstack(&attributes, stack, STACK) == 0
              && pthread_create(&thread, &attributes, run_calls, sizes) == 0 && pthread_join(thread, NULL) == 0,
          "no thread");
     munmap(stack, STACK);
-    printf("\nStack, bytes below the calling frame\n");
-    for (size_t i = 0; i < MEASURED; i++) {
-        must(sizes[i] <= TN_STACK_LIMIT, "a call reaches below TN_STACK_LIMIT");
-        printf("  %-52s %9zu\n", i < PARTS ? parts[i].name : i == LARGE ? "start and a ClientHello of 16 KiB" : "no call", sizes[i]);
-    }
+    print_sizes(sizes);
 }

@@ -43,7 +43,7 @@ extern "C" {
 #endif
 
 /* The version of header and library, as pkg-config has it. */
-#define TN_VERSION "0.1"
+#define TN_VERSION "0.2"
 
 /* ==== Sizes ================================================================================================================================== */
 
