@@ -201,13 +201,22 @@ static bool print_key(const struct key *key)
 
 /* ---- looking at the table */
 
+/* Whether a table that is not well formed would be with a line end behind it; there is room for one, where the table is not too long. */
+static bool lacks_line_end(struct table_file *f)
+{
+    f->bytes[f->n] = '\n';
+    return tn_table_test(f->bytes, f->n + 1) == 0;
+}
+
 /* Says what is wrong with a table that the library has found not to be well formed. */
-static int bad_table(const struct table_file *f, const char *table)
+static int bad_table(struct table_file *f, const char *table)
 {
     char why[TABLE_SENTENCE];
     size_t line = table_explain(f->bytes, f->n, why);
     if (line == 0)
         return say(REFUSED - TN_R2, "%s: %s; nothing was changed, shorten it first", table, why);
+    if (lacks_line_end(f))
+        return say(REFUSED - TN_R2, "%s: %s; nothing was changed, end it with 'echo >> %s'", table, why, table);
     return say(REFUSED - TN_R2, "%s: %s; nothing was changed, mend line %zu first", table, why, line);
 }
 
@@ -250,7 +259,7 @@ static int32_t edited(const struct request *r, const struct key *key, struct tab
 }
 
 /* Says why the library has refused the edit. Of a name and a key that no table may have it can only be the name: key_of has let the key pass. */
-static int refused(const struct request *r, const struct table_file *f, int32_t result)
+static int refused(const struct request *r, struct table_file *f, int32_t result)
 {
     int status = REFUSED - result;
     switch (result) {

@@ -86,13 +86,17 @@ def unprintable():
 def bad_tables():
     for text, said in BAD_TABLES:
         number = re.match(r"line (\d+) ", said)
-        line = number[1] if number else str(text.count(b"\n") + 1) if "no line end" in said else None
-        remedy = f"mend line {line} first" if line else "shorten it first"
         with table_of(text) as table:
+            remedy = f"mend line {number[1]} first" if number else f"end it with 'echo >> {table}'" if "no line end" in said else "shorten it first"
             for words in (["list"], ["check"], *EDITS):
                 refuses(table.parent, 12, f"{table}: {said}{UNCHANGED}{remedy}", table, *words)
     with table_of(SAMPLE[:-1]) as table:  # as an editor has saved it twice
-        refuses(table.parent, 12, f"{table}: the last line of the key table has no line end{UNCHANGED}mend line 3 first", table, *EDITS[0])
+        unended = f"{table}: the last line of the key table has no line end{UNCHANGED}"
+        refuses(table.parent, 12, f"{unended}end it with 'echo >> {table}'", table, *EDITS[0])
+        subprocess.run(["sh", "-c", f"echo >> {table}"], check=True)
+        assert table.read_bytes() == SAMPLE
+        table.write_bytes(SAMPLE[:-2])  # an odd digit: a line end alone does not mend it
+        refuses(table.parent, 12, f"{unended}mend line 3 first", table, *EDITS[0])
     with table_of(SAMPLE.replace(b"\n", b"\r\n")) as table:
         said = f"{table}: line 1 of the key table ends in CR LF, and a line here ends in LF alone{UNCHANGED}mend line 1 first"
         refuses(table.parent, 12, said, table, *EDITS[0])

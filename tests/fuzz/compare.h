@@ -75,6 +75,7 @@ void server_round(void);
 
 void every_suite(void);
 void every_character(void);
+void every_odd_table(void);
 void every_edit(void);
 void every_alert(void);
 void every_bit(void);

@@ -51,4 +51,5 @@ fuzz: build/fuzz/target build/fuzz/seeds
 		-artifact_prefix=build/fuzz/found/ build/fuzz/corpus build/fuzz/seeds
 
 fuzz-replay: build/fuzz/replay build/fuzz/seeds
-	@find build/fuzz/seeds build/fuzz/corpus build/fuzz/found -type f 2>/dev/null | xargs build/fuzz/replay
+	@mkdir -p build/fuzz/corpus build/fuzz/found
+	@find build/fuzz/seeds build/fuzz/corpus build/fuzz/found -type f | xargs build/fuzz/replay

@@ -91,6 +91,7 @@ int main(int count, char **arguments)
     draw_from(seed);
     every_suite();
     every_character();
+    every_odd_table();
     every_edit();
     every_alert();
     every_bit();

@@ -205,6 +205,16 @@ void every_character(void)
     }
 }
 
+/* Tables that are not well formed, of which it matters which line decides: the first that matches, whatever its key is. */
+void every_odd_table(void)
+{
+    static const char *const tables[] = {"a:0g\na:00\n", "a:\na:00\n", "a:00\na:01\n", "b:00\na:0\na:00", "\n\na:00", "a\na:00\n", "a::00\na:00\n"};
+    static const char *const names[] = {"a", "b", "", "a:", "ab"};
+    for (size_t i = 0; i < sizeof tables / sizeof tables[0]; i++)
+        for (size_t k = 0; k < sizeof names / sizeof names[0]; k++)
+            compare_table((struct bytes){(const uint8_t *)tables[i], strlen(tables[i])}, (struct bytes){(const uint8_t *)names[k], strlen(names[k])});
+}
+
 static void every_edit_of(struct bytes text, size_t n, size_t length, struct bytes identity, struct bytes key)
 {
     static struct memory m;
