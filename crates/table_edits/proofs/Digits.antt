@@ -2,7 +2,8 @@
 use mathlib.Core.Path.{_≡_, refl, ap₂, _∙_}
 use Prim.Native.Nat.{ℕ, zero, suc, _+_, _-_, _*_, _/_, _%_, _<_}
 use native.Mathlib.Omega.{arith}
-use mathlib.Core.Bool.{Bool, true, false}
+use mathlib.Core.Bool.{Bool, true, false, cond}
+use mathlib.Core.Logic.{inl, inr}
 use mathlib.Core.List.{List, [], _∷_}
 use lib.ListN.{length, getD}
 use lib.Dec.{ltb}
@@ -11,7 +12,7 @@ use Rattle.lists.specs.Lists.{each, Each}
 use Rattle.lists.proofs.Tests.{both}
 use Rattle.keytable.specs.Table.{digit, hexDigit, validKey, decoded}
 use Rattle.keytable.proofs.Tests.{between-sound}
-use Rattle.table_edits.specs.Edits.{lowerDigit, lowerHex, validSecret}
+use Rattle.table_edits.specs.Edits.{lowerDigit, lowerHex, validSecret, LowerDigit}
 
 pub length-hex : (key : List ℕ) → length (lowerHex key) ≡ 2 * length key
 length-hex [] = refl
@@ -84,3 +85,18 @@ valid-hex key valid bytes =
     (both (both (le-leb 2 (length (lowerHex key)) (omega arith)) (le-leb (length (lowerHex key)) 128 (omega arith)))
     (eq-eqb (length (lowerHex key) % 2) 0 (omega arith)))
     (hex-digits key bytes)
+
+-- ---- lower case
+
+lower-digit-range : (n : ℕ) → n < 16 → LowerDigit (lowerDigit n)
+lower-digit-range n h = go (ltb n 10) refl
+  where
+    go : (b : Bool) → ltb n 10 ≡ b → LowerDigit (cond b (0x30 + n) (0x61 + (n - 10)))
+    go true small = inl (omega arith, omega (arith, ltb-true n 10 small))
+    go false large = inr (omega arith, omega arith)
+
+pub lower-only : (key : List ℕ) → Each (λ b. b < 256) key → Each LowerDigit (lowerHex key)
+lower-only [] h = tt
+lower-only (b ∷ key) h =
+    let byte = h .0 in
+    (lower-digit-range (b / 16) (omega arith), (lower-digit-range (b % 16) (omega arith), lower-only key (h .1)))

@@ -4,29 +4,30 @@ use mathlib.Core.Path.{_≡_, refl, sym, ap, _∙_}
 use mathlib.Core.Logic.{_↔_}
 use Prim.Native.Nat.{ℕ, _≤_, _<_}
 use mathlib.Core.Bool.{Bool, true, false, _&&_, true≢false}
-use mathlib.Core.List.{List, [], _∷_}
+use mathlib.Core.List.{List, [], _∷_, _++_, map}
 use mathlib.Core.Option.{Option, none, some}
 use lib.ListN.{length}
 use lib.Dec.{leb}
 use borrow.Author.Tests.{leb-true}
-use Rattle.lists.specs.Lists.{each, Each}
+use Rattle.lists.specs.Lists.{each, same, Each}
 use Rattle.lists.proofs.Tests.{and-left, and-right, both}
+use Rattle.lists.proofs.Equal.{same-refl}
 use Rattle.lists.proofs.Distinct.{any-append}
 use Rattle.refusal.specs.declared.Refusal.{Refusal}
 use Rattle.refusal.specs.Lent.{gives}
 use Rattle.refusal.proofs.Laws.{refuses-gives}
 use Rattle.keytable.specs.declared.entries.Hit.{Hit}
 use Rattle.keytable.specs.declared.entries.Hit.the-variants.{Text, Nothing}
-use Rattle.keytable.specs.Table.{lines, joined, placed, firstText, keyOfText, keyOf, validIdentity, validLine, wellFormed}
+use Rattle.keytable.specs.Table.{lines, joined, placed, firstText, keyOfText, keyOf, identityOf, validIdentity, validLine, wellFormed}
 use Rattle.keytable.specs.WellFormed.{WellFormed, LineRemoved}
-use Rattle.keytable.proofs.Agreement.{well-formed-tests, joined-formed, joined-back, complete}
+use Rattle.keytable.proofs.Agreement.{identities-sound, well-formed-tests, joined-formed, joined-back, complete}
 use Rattle.keytable.proofs.Texts.{joined-lines}
 use Rattle.table_edits.specs.Edits.{Edit, add, replace, retire, subject, lineWith, isLineOf, listed, others, linesAfter}
 use Rattle.table_edits.specs.Edits.{validSecret, allowed, misplaced, sized, unless, edited, keyAfter, OfBytes}
 use Rattle.table_edits.proofs.Outcomes.{sized-fits}
 use Rattle.table_edits.proofs.After.{own-line, replaced-listed, replaced-twice, others-same, valid-after, distinct-after, others-after}
 use Rattle.table_edits.proofs.After.{unlisted-none, listed-some, others-first, first-after, may-add, may-replace}
-use Rattle.table_edits.proofs.Places.{absent-unlisted, line-removed}
+use Rattle.table_edits.proofs.Places.{replaced-there, absent-unlisted, line-removed}
 
 -- ---- an accepted edit
 
@@ -96,7 +97,7 @@ module _ (e : Edit) (t t' : List ℕ) (bytes : OfBytes e) (h : edited e t ≡ gi
       go (retire i) ok = and-left (validIdentity i) true ok
 
   -- the lines of the new table
-  pub lines-after : lines t' ≡ linesAfter e (lines t)
+  lines-after : lines t' ≡ linesAfter e (lines t)
   lines-after = ap lines (made .text) ∙ joined-back (linesAfter e (lines t)) good-after
 
   pub edit-formed : WellFormed t'
@@ -163,6 +164,19 @@ retire-added i k t t' bytes h =
     edited-on (retire i) t' formed' (both named' refl)
     ∙ rw (present, back)
     (sized-fits (lines t) (leb-true (length (lines t)) 256 few) (rw whole (leb-true (length t) 65536 size)) ∙ ap gives whole)
+
+-- ---- where a line is put
+
+pub added-last : (i k t t' : List ℕ) → Each (λ b. b < 256) k → edited (add i k) t ≡ gives t' → lines t' ≡ lines t ++ (lineWith i k ∷ [])
+added-last i k t t' bytes h = lines-after (add i k) t t' bytes h
+
+pub replaced-in-place : (i k t t' : List ℕ) (xs : List (List ℕ)) (l : List ℕ) (ys : List (List ℕ)) → Each (λ b. b < 256) k
+    → edited (replace i k) t ≡ gives t' → lines t ≡ xs ++ (l ∷ ys) → identityOf l ≡ i → lines t' ≡ xs ++ (lineWith i k ∷ ys)
+replaced-in-place i k t t' xs l ys bytes h split own =
+    let a = accepted (replace i k) t t' h in
+    let apart = rw split at (identities-sound (map identityOf (lines t)) (well-formed-tests t (a .formed) .4)) in
+    lines-after (replace i k) t t' bytes h ∙ ap (linesAfter (replace i k)) split
+    ∙ replaced-there i xs l ys (ap (same i) own ∙ same-refl i) apart k
 
 -- ---- replacing twice
 

@@ -7,9 +7,9 @@ use mathlib.Core.List.{List, [], _∷_, _++_, map, append-assoc, append-nil, map
 use mathlib.Core.Option.{Option, none, some, Option·none-ne-some}
 use lib.ListN.{length, take, drop, length-append}
 use lib.Seq.{take-at, drop-at, drop-drop}
-use Rattle.lists.specs.Lists.{each, same, Each}
+use Rattle.lists.specs.Lists.{each, same, Each, Distinct}
 use Rattle.lists.proofs.Tests.{and-left, and-right}
-use Rattle.lists.proofs.Equal.{same-refl, same-not}
+use Rattle.lists.proofs.Equal.{same-eq, same-refl, same-not}
 use Rattle.lists.proofs.Every.{each-append, every-map}
 use Rattle.lists.proofs.Distinct.{any-append, distinct-middle}
 use Rattle.keytable.specs.declared.entries.Hit.the-variants.{Text, Nothing}
@@ -62,6 +62,29 @@ module _ (i : List ℕ) where
       go true ih = omega arith
       go false ih = omega arith
 
+-- one line of the identity, among others
+module _ (i : List ℕ) (xs : List (List ℕ)) (l : List ℕ) (ys : List (List ℕ)) (own : isLineOf i l ≡ true)
+    (apart : Distinct (map identityOf (xs ++ (l ∷ ys)))) where
+  around : Others i xs × Others i ys
+  unfolding Others
+  around = distinct-middle (map identityOf xs) i (map identityOf ys) (rw identities at apart)
+    where
+      identities : map identityOf (xs ++ (l ∷ ys)) ≡ map identityOf xs ++ (i ∷ map identityOf ys)
+      identities =
+          map-append identityOf xs (l ∷ ys)
+          ∙ ap (λ (x : List ℕ). map identityOf xs ++ (x ∷ map identityOf ys)) (sym (same-eq i (identityOf l) own))
+
+  present-there : listed i (xs ++ (l ∷ ys)) ≡ true
+  present-there = any-append (isLineOf i) xs (l ∷ ys) ∙ rw (not-listed i xs (around .0), own)
+
+  pub replaced-there : (k : List ℕ) → linesAfter (replace i k) (xs ++ (l ∷ ys)) ≡ xs ++ (lineWith i k ∷ ys)
+  replaced-there k =
+      map-append (λ x. cond (isLineOf i x) (lineWith i k) x) xs (l ∷ ys)
+      ∙ rw (replace-stays i k xs (around .0), own, replace-stays i k ys (around .1))
+
+  retired-there : linesAfter (retire i) (xs ++ (l ∷ ys)) ≡ xs ++ ys
+  retired-there = others-append i xs (l ∷ ys) ∙ rw (others-stay i xs (around .0), own, others-stay i ys (around .1))
+
 -- valid lines in which nothing follows the identity and a colon are those of others
 unlisted : (i : List ℕ) (ls : List (List ℕ)) → each validLine ls ≡ true → firstText i ls ≡ none → listed i ls ≡ false
 unlisted i [] v e = refl
@@ -91,38 +114,21 @@ module _ (t i : List ℕ) (w : wellFormed t ≡ true) where
     no-colon : Without colon i
     no-colon = every-map Plain _ (λ b h. h .no-colon) i (identity-sound i good .plain)
 
-    own-line : identityOf (i ++ (colon ∷ line .hex)) ≡ i
-    own-line = upto-append colon i (line .hex) no-colon
-
     own : isLineOf i (i ++ (colon ∷ line .hex)) ≡ true
-    own = ap (same i) own-line ∙ same-refl i
+    own = ap (same i) (upto-append colon i (line .hex) no-colon) ∙ same-refl i
 
-    others-around : Others i (line .front) × Others i (line .back)
-    unfolding Others
-    others-around =
-        distinct-middle (map identityOf (line .front)) i (map identityOf (line .back))
-        (rw identities at (identities-sound (map identityOf (lines t)) (well-formed-tests t w .4)))
-      where
-        identities : map identityOf (lines t) ≡ map identityOf (line .front) ++ (i ∷ map identityOf (line .back))
-        identities =
-            ap (map identityOf) (line .split) ∙ map-append identityOf (line .front) ((i ++ (colon ∷ line .hex)) ∷ line .back)
-            ∙ ap (λ (x : List ℕ). map identityOf (line .front) ++ (x ∷ map identityOf (line .back))) own-line
+    apart : Distinct (map identityOf (line .front ++ ((i ++ (colon ∷ line .hex)) ∷ line .back)))
+    apart = rw (line .split) at (identities-sound (map identityOf (lines t)) (well-formed-tests t w .4))
 
     pub present-listed : listed i (lines t) ≡ true
-    present-listed =
-        ap (listed i) (line .split) ∙ any-append (isLineOf i) (line .front) ((i ++ (colon ∷ line .hex)) ∷ line .back)
-        ∙ rw (not-listed i (line .front) (others-around .0), own)
+    present-listed = ap (listed i) (line .split) ∙ present-there i (line .front) (i ++ (colon ∷ line .hex)) (line .back) own apart
 
     replaced-lines : (k : List ℕ) → linesAfter (replace i k) (lines t) ≡ line .front ++ (lineWith i k ∷ line .back)
     replaced-lines k =
-        ap (linesAfter (replace i k)) (line .split)
-        ∙ map-append (λ l. cond (isLineOf i l) (lineWith i k) l) (line .front) ((i ++ (colon ∷ line .hex)) ∷ line .back)
-        ∙ rw (replace-stays i k (line .front) (others-around .0), own, replace-stays i k (line .back) (others-around .1))
+        ap (linesAfter (replace i k)) (line .split) ∙ replaced-there i (line .front) (i ++ (colon ∷ line .hex)) (line .back) own apart k
 
     retired-lines : linesAfter (retire i) (lines t) ≡ line .front ++ line .back
-    retired-lines =
-        ap (others i) (line .split) ∙ others-append i (line .front) ((i ++ (colon ∷ line .hex)) ∷ line .back)
-        ∙ rw (others-stay i (line .front) (others-around .0), own, others-stay i (line .back) (others-around .1))
+    retired-lines = ap (others i) (line .split) ∙ retired-there i (line .front) (i ++ (colon ∷ line .hex)) (line .back) own apart
 
     -- the line's parts in the table: what stands before the key's digits, the digits, and what stands behind them
     abbrev ahead : List ℕ

@@ -1,7 +1,8 @@
 -- Edits of a key table (document 02, P1): a line is added, one identity's key replaced, one identity's line retired. Which lines there are then,
 -- and the tests that come first, in document 02's order: R2, R5, R6 or R7, R8. R1, the room, is added by `Answers` (crates/refusal/specs/Lent.antt),
 -- last.
-use Prim.Native.Nat.{ℕ, _+_, _-_, _/_, _%_, _<_}
+use mathlib.Core.Logic.{_⊎_}
+use Prim.Native.Nat.{ℕ, _+_, _-_, _/_, _%_, _≤_, _<_}
 use mathlib.Core.Bool.{Bool, true, cond, _&&_}
 use mathlib.Core.List.{List, [], _∷_, _++_, map}
 use mathlib.Core.Option.{Option, none, some}
@@ -113,3 +114,7 @@ abbrev pub OfBytes : Edit → Type 0
 OfBytes (add identity key) = Each (λ b. b < 256) key
 OfBytes (replace identity key) = Each (λ b. b < 256) key
 OfBytes (retire identity) = Unit
+
+-- 0 to 9, a to f
+abbrev pub LowerDigit : ℕ → Type 0
+LowerDigit b = ((0x30 ≤ b) × (b ≤ 0x39)) ⊎ ((0x61 ≤ b) × (b ≤ 0x66))

@@ -16,8 +16,9 @@ use Rattle.messages.proofs.NewSessionTickets.{ticket-inverse}
 use Rattle.keytable.proofs.Agreement.{sound, complete}
 use Rattle.keytable.proofs.Lookups.{lookup-exact, malformed-unlisted}
 use Rattle.keytable.proofs.Laws.{removable, removed-had}
-use Rattle.table_edits.proofs.Laws.{lines-after, edit-formed, edit-others, edit-key, edit-else}
-use Rattle.table_edits.proofs.Laws.{listed-found, retire-removes, retire-added, replace-twice}
+use Rattle.table_edits.proofs.Digits.{lower-only}
+use Rattle.table_edits.proofs.Laws.{edit-formed, edit-others, edit-key, edit-else, listed-found, retire-removes, added-last}
+use Rattle.table_edits.proofs.Laws.{retire-added, replaced-in-place, replace-twice}
 use Rattle.saved.proofs.Saving.{cleared-closed}
 use Rattle.c_interface.proofs.Apart.{codes-apart}
 use Rattle.theorems.specs.Claims.{Claims}
@@ -69,10 +70,12 @@ claims =
       lineRemovable = removable;
       removedHad = removed-had;
       editFormed = edit-formed;
-      editLines = lines-after;
       editOthers = edit-others;
       editKey = edit-key;
       editElse = edit-else;
+      keyLowerCase = lower-only;
+      addedLast = added-last;
+      replacedInPlace = replaced-in-place;
       retireRemoves = retire-removes;
       retireUndoesAdd = retire-added;
       replaceTwice = replace-twice;

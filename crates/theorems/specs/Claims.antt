@@ -28,9 +28,10 @@ use Rattle.messages.specs.KeyExchange.{serverKeyExchange, clientKeyExchange, re
 use Rattle.messages.specs.Fixed as Fixed
 use Rattle.messages.specs.Fixed.{serverHelloDone, readFixed}
 use Rattle.messages.specs.NewSessionTicket.{newSessionTicket, readTicket}
-use Rattle.keytable.specs.Table.{lines, decoded, validIdentity, wellFormed, keyOf}
+use Rattle.keytable.specs.Table.{lines, decoded, identityOf, validIdentity, wellFormed, keyOf}
 use Rattle.keytable.specs.WellFormed.{Line, text, WellFormed, Listed, LineRemoved}
-use Rattle.table_edits.specs.Edits.{Edit, add, replace, retire, subject, listed, others, linesAfter, edited, keyAfter, OfBytes}
+use Rattle.table_edits.specs.Edits.{Edit, add, replace, retire, subject, lowerHex, lineWith, listed, others, edited}
+use Rattle.table_edits.specs.Edits.{keyAfter, OfBytes, LowerDigit}
 use Rattle.server.specs.declared.Phase.{Phase}
 use Rattle.server.specs.declared.Connection.{Connection}
 use Rattle.server.specs.KeyExchange.{View}
@@ -98,11 +99,16 @@ pub record Claims : Type 1 where
   pub removedHad : (identity t t' : List ℕ) (r : LineRemoved identity t t') → wellFormed t ≡ true → keyOf t identity ≡ some (decoded (r .hex))
   -- edits of a key table (document 02, P1): of every edit that gives a table
   pub editFormed : (e : Edit) (t t' : List ℕ) → OfBytes e → edited e t ≡ gives t' → WellFormed t'
-  pub editLines : (e : Edit) (t t' : List ℕ) → OfBytes e → edited e t ≡ gives t' → lines t' ≡ linesAfter e (lines t)
   pub editOthers : (e : Edit) (t t' : List ℕ) → OfBytes e → edited e t ≡ gives t' → others (subject e) (lines t') ≡ others (subject e) (lines t)
   pub editKey : (e : Edit) (t t' : List ℕ) → OfBytes e → edited e t ≡ gives t' → keyOf t' (subject e) ≡ keyAfter e
   pub editElse : (e : Edit) (t t' : List ℕ) → OfBytes e → edited e t ≡ gives t' → (other : List ℕ) → ¬ (other ≡ subject e)
       → keyOf t' other ≡ keyOf t other
+  pub keyLowerCase : (key : List ℕ) → Each (λ b. b < 256) key → Each LowerDigit (lowerHex key)
+  pub addedLast : (identity key t t' : List ℕ) → Each (λ b. b < 256) key → edited (add identity key) t ≡ gives t'
+      → lines t' ≡ lines t ++ (lineWith identity key ∷ [])
+  pub replacedInPlace : (identity key t t' : List ℕ) (xs : List (List ℕ)) (l : List ℕ) (ys : List (List ℕ)) → Each (λ b. b < 256) key
+      → edited (replace identity key) t ≡ gives t' → lines t ≡ xs ++ (l ∷ ys) → identityOf l ≡ identity
+      → lines t' ≡ xs ++ (lineWith identity key ∷ ys)
   pub retireRemoves : (identity t t' : List ℕ) → edited (retire identity) t ≡ gives t' → LineRemoved identity t t'
   pub retireUndoesAdd : (identity key t t' : List ℕ) → Each (λ b. b < 256) key → edited (add identity key) t ≡ gives t'
       → edited (retire identity) t' ≡ gives t
