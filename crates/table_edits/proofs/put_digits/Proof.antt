@@ -59,7 +59,7 @@ shift-requires : tie.Need-shift-requires
 shift-requires c κs =
     let room = fits (c .before) .1 in
     let ordered = start (judged (c .before)) .pre in
-    (ordered .1 .1 .1 .0, (ordered .0, room))
+    (omega arith, (omega arith, omega arith))
 
 part-put-key-end : tie.Need-part-put-key-end
 part-put-key-end c = let room = fits (c .before .before .before .before) .1 in search needs
