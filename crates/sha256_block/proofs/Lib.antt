@@ -1,2 +1,4 @@
+pub mod Bits
 pub mod Parse
+pub mod Ring
 pub mod Steps

@@ -1,20 +1,19 @@
 -- The message schedule word by word, and the rounds one by one: what the loops over them rest on.
 -- Assumes nothing.
-use mathlib.Core.Path.{_≡_, refl, sym, ap, _∙_}
+use mathlib.Core.Path.{_≡_, refl, ap, _∙_}
 use Prim.Native.Nat.{ℕ, zero, suc, _+_, _*_, _≤_, _<_}
 use native.Mathlib.Numerals.{add-one}
 use native.Mathlib.Omega.{arith}
 use mathlib.Core.List.{List, [], _∷_, _++_}
 use lib.ListN.{length, take, drop, getD, set}
-use lib.Seq.{drop-drop, take-suc-set, getD-take}
+use lib.Seq.{drop-drop, take-suc-set, getD-take, getD-drop}
 use Rattle.lists.specs.Lists.{part}
 use Rattle.lists.proofs.Parts.{take-window}
 use Rattle.endian.specs.Number.{number}
-use Rattle.sha256_block.specs.Functions.{_⊞_, σ₀, σ₁}
 use Rattle.sha256_block.specs.Block.{words}
 use Rattle.sha256_block.specs.declared.Words.{Words}
 use Rattle.sha256_block.specs.Constants.{K}
-use Rattle.sha256_block.specs.Block.{schedule, round, rounds}
+use Rattle.sha256_block.specs.Block.{round, rounds}
 
 -- a store behind a known front makes it one longer
 pub front-grows : (w front : List ℕ) (t x : ℕ) → t < length w → take t w ≡ front → take (t + 1) (set w t x) ≡ front ++ (x ∷ [])
@@ -28,6 +27,12 @@ word-at-four bs at inside =
     let two : suc (suc at) ≡ at + 2 = omega arith in
     let three : suc (suc (suc at)) ≡ at + 3 = omega arith in
     rw (take-window 4 at bs inside, three, two, one)
+
+-- as many words as are asked for
+pub length-words : (n : ℕ) (block : List ℕ) → length (words n block) ≡ n
+unfolding words
+length-words zero block = refl
+length-words (suc n) block = ap suc (length-words n (drop 4 block))
 
 -- the words of a block from its front
 words-more : (n : ℕ) (block : List ℕ) → words (suc n) block ≡ words n block ++ (number (take 4 (drop (4 * n) block)) ∷ [])
@@ -43,26 +48,25 @@ pub next-word : (t : ℕ) (block : List ℕ) (x : ℕ) → 4 * t + 4 ≤ length 
     → words t block ++ (x ∷ []) ≡ words (t + 1) block
 next-word t block x h e = rw (add-one t, words-more t block, word-at-four block (4 * t) h, e)
 
--- the schedule's next word, from the words before it as they stand at the front of a longer list
-pub next-later : (n : ℕ) (w M : List ℕ) (x : ℕ) → take (n + 16) w ≡ schedule n M
-    → x ≡ σ₁ (getD w (n + 14) 0) ⊞ getD w (n + 9) 0 ⊞ σ₀ (getD w (n + 1) 0) ⊞ getD w n 0
-    → schedule n M ++ (x ∷ []) ≡ schedule (n + 1) M
-unfolding schedule
-next-later n w M x e ex =
-    let at : (i : ℕ) → i < n + 16 → getD (schedule n M) i 0 ≡ getD w i 0 = λ i h. rw (← e) (getD-take (n + 16) w i 0 h) in
-    rw (add-one n, at (n + 14) (omega arith), at (n + 9) (omega arith), at (n + 1) (omega arith), at n (omega arith), ex)
-
 -- one round more
 pub next-round : (t : ℕ) (W : List ℕ) (s v r : Words) → v ≡ rounds t W s → r ≡ round (getD K t 0) (getD W t 0) v → r ≡ rounds (t + 1) W s
 unfolding rounds
 next-round t W s v r ev er = rw (add-one t, ← ev, ← er)
 
--- the first t rounds take the first t words
-pub rounds-front : (t n : ℕ) (W : List ℕ) (s : Words) → t ≤ n → rounds t (take n W) s ≡ rounds t W s
-unfolding rounds
-rounds-front zero n W s h = refl
-rounds-front (suc t) n W s h = rw (getD-take n W t 0 h, rounds-front t n W s (omega arith))
-
--- so they stand where the words behind those change
-pub rounds-kept : (t n : ℕ) (W W′ : List ℕ) (s v : Words) → t ≤ n → take n W′ ≡ take n W → v ≡ rounds t W s → v ≡ rounds t W′ s
-rounds-kept t n W W′ s v h e ev = ev ∙ sym (rounds-front t n W s h) ∙ rw (← e) (rounds-front t n W′ s h)
+-- and four, from i rounds behind t on: with their constants as a row has them, and their words as the ring has them
+pub four-more : {v r : Words} {k0 k1 k2 k3 : ℕ} (t i m : ℕ) (W w : List ℕ) (s : Words) → m ≡ t + i → i < 13 → w ≡ take 16 (drop t W)
+    → k0 ∷ k1 ∷ k2 ∷ k3 ∷ [] ≡ take 4 (drop m K)
+    → r ≡ round k3 (getD w (i + 3) 0) (round k2 (getD w (i + 2) 0) (round k1 (getD w (i + 1) 0) (round k0 (getD w (i + 0) 0) v)))
+    → v ≡ rounds (t + (i + 0)) W s → r ≡ rounds (t + (i + 4)) W s
+four-more {v} {r} {k0} {k1} {k2} {k3} t i m W w s em hi ew ek er ev =
+    let ks : List ℕ = k0 ∷ k1 ∷ k2 ∷ k3 ∷ [] in
+    let at : (j : ℕ) → m + j ≡ t + (i + j) = λ j. omega arith in
+    let key : (j : ℕ) → j < 4 → getD ks j 0 ≡ getD K (t + (i + j)) 0 =
+    λ j h. ap (λ (l : List ℕ). getD l j 0) ek ∙ getD-take 4 (drop m K) j 0 h ∙ getD-drop m K j 0 ∙ rw (at j) in
+    let word : (j : ℕ) → j < 4 → getD w (i + j) 0 ≡ getD W (t + (i + j)) 0 =
+    λ j h. ap (λ (l : List ℕ). getD l (i + j) 0) ew ∙ getD-take 16 (drop t W) (i + j) 0 (omega arith) ∙ getD-drop t W (i + j) 0 in
+    let behind : (j : ℕ) → t + (i + (j + 1)) ≡ t + (i + j) + 1 = λ j. omega arith in
+    let more : (j : ℕ) → j < 4 → (u : Words) → u ≡ rounds (t + (i + j)) W s
+    → round (getD ks j 0) (getD w (i + j) 0) u ≡ rounds (t + (i + (j + 1))) W s =
+    λ j h u eu. rw (behind j) (next-round (t + (i + j)) W s u _ eu (rw (key j h, word j h))) in
+    er ∙ more 3 (omega arith) _ (more 2 (omega arith) _ (more 1 (omega arith) _ (more 0 (omega arith) v ev)))

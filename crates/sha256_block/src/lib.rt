@@ -1,5 +1,6 @@
 // SHA-256's computation on whole blocks (FIPS 180-4, sections 4, 5.2.1 and 6.2.2). What a caller sees is
 // the hash value after the blocks; how the schedule is kept and the rounds are made stays in here.
+mod constants;
 mod functions;
 mod rounds;
 mod schedule;
@@ -44,7 +45,7 @@ fn next_value(h: Words, block: &[u8]) -> Words
     requires { ⌜ length (now block) ≡ 64 ⌝ }
     ensures { λ r. ⌜ r ≡ compress h (now (block .entry)) ⌝ }
 {
-    let mut w = [0u32; 64];
+    let mut w = [0u32; 16];
     load(block, &mut w);
     sum(all_rounds(h, &mut w), h)
 }

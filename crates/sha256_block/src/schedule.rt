@@ -1,19 +1,20 @@
-// The message schedule, FIPS 180-4 section 6.2.2, step 1. Nothing outside this crate sees how it is kept.
+// The message schedule, FIPS 180-4 section 6.2.2, step 1, in a ring of sixteen words: word t + 16 takes the place of
+// word t, which nothing asks for any more. Nothing outside this crate sees how the schedule is kept.
 use super::functions::plus;
 use super::functions::small_sigma0;
 use super::functions::small_sigma1;
 ghost use mathlib.Core.Path.{_≡_};
 ghost use Prim.Native.Nat.{ℕ, _+_, _<_};
-ghost use mathlib.Core.List.{List};
-ghost use lib.ListN.{length, take};
+ghost use mathlib.Core.List.{List, _++_};
+ghost use lib.ListN.{length, take, drop};
 ghost use Rattle.sha256_block.specs.Functions.{_⊞_, σ₀, σ₁};
 ghost use Rattle.sha256_block.specs.Block.{words, schedule};
 
-// The block's sixteen words, at the front of the schedule.
+// The block's sixteen words.
 pub(crate) fn load(block: &[u8], w: &mut [u32])
     requires { ⌜ length (now block) ≡ 64 ⌝ }
-    requires { ⌜ length (now w) ≡ 64 ⌝ }
-    ensures { λ _. ⌜ take 16 (now (w .exit)) ≡ words 16 (now (block .entry)) ⌝ }
+    requires { ⌜ length (now w) ≡ 16 ⌝ }
+    ensures { λ _. ⌜ now (w .exit) ≡ words 16 (now (block .entry)) ⌝ }
 {
     let mut t: usize = 0;
     while t < 16 {
@@ -30,16 +31,37 @@ fn later(w2: u32, w7: u32, w15: u32, w16: u32) -> u32
     plus(plus(plus(small_sigma1(w2), w7), small_sigma0(w15)), w16)
 }
 
-// Eight words more of a schedule that has from + 16 words at its front.
-pub(crate) fn extend(w: &mut [u32], from: usize)
-    requires { ⌜ length (now w) ≡ 64 ⌝ }
-    requires { ⌜ from < 41 ⌝ }
-    ensures { λ _. ⌜ take (from + 16) (now (w .exit)) ≡ take (from + 16) (now (w .entry)) ⌝ }
-    ensures { λ _. ⌜ ((M : List ℕ) → take (from + 16) (now (w .entry)) ≡ schedule from M → take (from + 8 + 16) (now (w .exit)) ≡ schedule (from + 8) M) ⌝ }
+// The schedule's next word, in place i. Read from place i once round, the ring is the last sixteen words of the schedule
+// so far; with the next word there, it is so read from the place behind.
+fn renew_place(w: &mut [u32; 16], i: usize)
+    requires { ⌜ i < 16 ⌝ }
+    ensures { λ _. ⌜ ((n : ℕ) (M : List ℕ) → length M ≡ 16
+        → drop i (now (w .entry)) ++ take i (now (w .entry)) ≡ drop (n + i) (schedule (n + i) M)
+        → drop (i + 1) (now (w .exit)) ++ take (i + 1) (now (w .exit)) ≡ drop (n + (i + 1)) (schedule (n + (i + 1)) M)) ⌝ }
 {
-    let mut n = from;
-    while n < from + 8 {
-        w[n + 16] = later(w[n + 14], w[n + 9], w[n + 1], w[n]);
-        n += 1;
-    }
+    w[i] = later(w[(i + 14) % 16], w[(i + 9) % 16], w[(i + 1) % 16], w[i]);
+}
+
+// The next sixteen words, each in the place of the one sixteen before it. The places are written out, so that the compiler
+// knows every index; one that is computed as the loop goes costs more.
+pub(crate) fn renew(w: &mut [u32; 16])
+    ensures { λ _. ⌜ ((n : ℕ) (M : List ℕ) → length M ≡ 16
+        → now (w .entry) ≡ drop n (schedule n M) → now (w .exit) ≡ drop (n + 16) (schedule (n + 16) M)) ⌝ }
+{
+    renew_place(w, 0);
+    renew_place(w, 1);
+    renew_place(w, 2);
+    renew_place(w, 3);
+    renew_place(w, 4);
+    renew_place(w, 5);
+    renew_place(w, 6);
+    renew_place(w, 7);
+    renew_place(w, 8);
+    renew_place(w, 9);
+    renew_place(w, 10);
+    renew_place(w, 11);
+    renew_place(w, 12);
+    renew_place(w, 13);
+    renew_place(w, 14);
+    renew_place(w, 15);
 }

@@ -1,8 +1,9 @@
 -- `sha256_block::schedule::load` meets its contract: the invariant: the first t words are the block's.
 -- Assumes nothing.
 use Prim.Native.Nat.{_≤_, _-_}
-use mathlib.Core.Path.{_≡_, refl, _∙_}
+use mathlib.Core.Path.{_≡_, refl, sym, _∙_}
 use lib.ListN.{length, take}
+use lib.Seq.{take-all}
 use native.Mathlib.Omega.{arith}
 use Rattle.sha256_block.specs.Block.{words}
 use Rattle.sha256_block.proofs.Steps.{front-grows, next-word}
@@ -11,7 +12,7 @@ use Rattle.sha256_block.proofs.schedule.load.Statement.{statement}
 use Rattle.sha256_block.proofs.schedule.load.Tie as tie
 
 abbrev Inv-loop : tie.InvT-loop
-Inv-loop block w₀ t₀ w t = (t ≤ 16) × (length w ≡ 64) × (take t w ≡ words t block)
+Inv-loop block w₀ t₀ w t = (t ≤ 16) × (length w ≡ 16) × (take t w ≡ words t block)
 
 abbrev μ-loop : tie.MeasureT-loop
 μ-loop block w₀ t₀ w t = 16 - t
@@ -33,7 +34,7 @@ loop-again c =
 returns : tie.Need-returns Inv-loop μ-loop
 returns c =
     let done : c .before .loop .t ≡ 16 = omega arith in
-    rw done at (c .before .loop .inv .2)
+    sym (take-all 16 (c .before .loop .w) (omega arith)) ∙ rw done at (c .before .loop .inv .2)
 
 pub load-spec : {M : Type 1} → statement M
 load-spec =
