@@ -181,10 +181,12 @@ fn premaster_bytes(psk: &[u8]) -> [u8; 256]
     let n = psk.len();
     let size = endian::bytes16(n);
     let zeros = [0u8; 64];
-    let first = append([0u8; 256], 0, &size);
-    let second = append(first, 2, &zeros[..n]);
-    let third = append(second, 2 + n, &size);
-    append(third, 4 + n, psk)
+    let mut bytes = [0u8; 256];
+    append(&mut bytes, 0, &size);
+    append(&mut bytes, 2, &zeros[..n]);
+    append(&mut bytes, 2 + n, &size);
+    append(&mut bytes, 4 + n, psk);
+    bytes
 }
 
 // n bytes of the PRF whose seed is two randoms: R5 where one is not of 32 bytes, then what `prf` tests.
@@ -214,6 +216,8 @@ fn joined(first: &[u8], second: &[u8]) -> [u8; 256]
     requires { ⌜ length (now second) ≡ 32 ⌝ }
     ensures { λ r. ⌜ take 64 r ≡ now (first .entry) ++ now (second .entry) ⌝ }
 {
-    let front = append([0u8; 256], 0, first);
-    append(front, 32, second)
+    let mut both = [0u8; 256];
+    append(&mut both, 0, first);
+    append(&mut both, 32, second);
+    both
 }

@@ -65,9 +65,8 @@ pub(crate) fn expand(secret: &[u8], label: Label, seed: &[u8], n: usize) -> [u8;
     while 32 * i < n {
         let next = next_a(secret, label, seed, i, a);
         let part = labelled(secret, &next, label, seed);
-        let longer = append(buffer, 32 * i, &part);
+        append(&mut buffer, 32 * i, &part);
         a = next;
-        buffer = longer;
         i += 1;
     }
     buffer

@@ -8,11 +8,18 @@ use Rattle.keys.proofs.joined.Tie as tie
 
 returns : tie.Need-returns
 returns c =
-    let args = c .before .before .before .before .args in
-    let first = c .before .append .ensures in
-    let one : length (args .first .now) ≡ 32 = c .before .before .before .before .pre .0 in
-    let two : length (args .second .now) ≡ 32 = c .before .before .before .before .pre .1 in
-    (rw two at (c .append2 .ensures)) ∙ rw (rw one at first)
+    let at-first = c .before .before .before .before in
+    let start = at-first .before .before .before .before in
+    let one : length (start .args .first .now) ≡ 32 = start .pre .0 in
+    let two : length (start .args .second .now) ≡ 32 = start .pre .1 in
+    (rw two at (c .before .append2 .ensures)) ∙ rw (rw one at (at-first .append .ensures))
 
 pub joined-spec : {M : Type 1} → statement M
-joined-spec = tie.close (tie.spec (λ c κs. search needs) (λ c κs. search needs) returns)
+joined-spec =
+    tie.close
+    (tie.spec
+    (λ c. search needs)
+    (λ c κs. search needs)
+    (λ c. search needs)
+    (λ c κs. search needs)
+    returns)

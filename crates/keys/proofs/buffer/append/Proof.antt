@@ -1,8 +1,5 @@
 -- `keys::buffer::append` meets its contract: a copy behind a front, by `copied-behind`.
 -- Assumes nothing.
-use mathlib.Core.Path.{_≡_}
-use native.Mathlib.Omega.{arith}
-use lib.ListN.{length}
 use Rattle.lists.proofs.Copies.{copied-behind}
 use borrow.Author.Needs.{needs}
 use Rattle.keys.proofs.buffer.append.Statement.{statement}
@@ -10,11 +7,11 @@ use Rattle.keys.proofs.buffer.append.Tie as tie
 
 returns : tie.Need-returns
 returns c =
-    let start = c .before .before .before .before in
-    let size : length (start .args .buffer) ≡ 256 = search (needs, start .good) in
-    let copied = c .before .copy in
-    copied-behind (start .args .buffer) (start .args .part .now) (copied .last .1 .0) (start .args .at) (omega arith) (copied .ensures .1)
+    let start = c .before .before .before .before .before .before in
+    let copied = c .before .before .copy in
+    copied-behind (start .args .buffer .now) (start .args .part .now) (copied .last .1 .0) (start .args .at) (start .pre) (copied .ensures .1)
 
 pub append-spec : {M : Type 1} → statement M
 append-spec =
-    tie.close (tie.spec (λ c. search needs) (λ c. search needs) (λ c. search needs) (λ c. search needs) (λ c κs. search needs) returns)
+    tie.close
+    (tie.spec (λ c. search needs) (λ c. search needs) (λ c. search needs) (λ c. search needs) (λ c κs. search needs) (λ c. search needs) returns)

@@ -1,11 +1,11 @@
 -- `keys::p_sha256::expand` meets its contract: the invariant: the buffer holds the first i parts, and a is A(i).
 -- Assumes nothing.
 use mathlib.Core.Path.{_≡_, refl, _∙_}
-use Rattle.keys.specs.Hmac.{mac}
-use mathlib.Core.List.{_++_}
 use Prim.Native.Nat.{_+_, _-_, _*_, _≤_, _<_}
+use mathlib.Core.List.{_++_}
 use native.Mathlib.Omega.{arith}
 use lib.ListN.{length, take}
+use Rattle.keys.specs.Hmac.{mac}
 use Rattle.keys.specs.Prf.{A, P, text}
 use Rattle.keys.proofs.PrfSteps.{next-part, blocks-enough}
 use borrow.Author.Needs.{needs}
@@ -27,7 +27,8 @@ loop-holds c = (search needs, search needs, search needs, search needs, refl, λ
 
 loop-again : tie.Need-loop-again Inv-loop μ-loop
 loop-again c =
-    let at-labelled = c .before .before in
+    let put = c .before .append in
+    let at-labelled = c .before .before .before .before in
     let at-next = at-labelled .before .before in
     let at-loop = at-next .before .before in
     let args = at-loop .before .before .before .args in
@@ -37,8 +38,8 @@ loop-again c =
     let made : at-labelled .labelled .result ≡ mac (args .secret .now) (A (args .secret .now) seed (i + 1) ++ seed) =
     at-labelled .labelled .ensures ∙ rw stepped in
     let size : length (at-labelled .labelled .result) ≡ 32 = search (needs, at-labelled .labelled .ok) in
-    let longer = next-part (args .secret .now) seed (at-loop .loop .buffer) (c .append .result) (at-labelled .labelled .result) i in
-    (search needs, search needs, search needs, search needs, longer (at-loop .loop .inv .4) made (rw size at (c .append .ensures)), λ h. stepped)
+    let longer = next-part (args .secret .now) seed (at-loop .loop .buffer) (put .last .0) (at-labelled .labelled .result) i in
+    (search needs, search needs, search needs, search needs, longer (at-loop .loop .inv .4) made (rw size at (put .ensures)), λ h. stepped)
 
 returns : tie.Need-returns Inv-loop μ-loop
 returns c = blocks-enough _ _ _ _ _ (omega arith) (omega arith) (c .before .loop .inv .4)
@@ -54,6 +55,7 @@ expand-spec =
     (λ c κs. search needs)
     (λ c. search needs)
     (λ c κs. search needs)
+    (λ c. search needs)
     (λ c. search needs)
     (λ c. search needs)
     (λ c κs. search needs)
