@@ -3,32 +3,39 @@
  *
  *     bench           every case
  *     bench CASE..    hash, handshake, parts, hellos, logins, edits, records or stack
+ *
+ * BENCH_BEFORE is the path of the same program linked with an earlier library, where the cases hash and stack are to be compared with it.
  */
 #include <stdio.h>
 #include <string.h>
 
 #include "cases.h"
 #include "measure.h"
+#include "worker.h"
 
-static const struct {
+struct action {
     const char *name;
     void (*run)(void);
-} cases[] = {
+};
+
+static const struct action cases[] = {
     {"hash", bench_hash}, {"handshake", bench_handshake}, {"parts", bench_parts}, {"hellos", bench_hellos}, {"logins", bench_logins},
     {"edits", bench_edits}, {"records", bench_records}, {"stack", bench_stack},
 };
 
-enum { CASES = sizeof cases / sizeof *cases };
+static const struct action tasks[] = {{TASK_OUR_HASH, task_our_hash}, {TASK_OPENSSL_HASH, task_openssl_hash}, {TASK_STACK, task_stack}};
 
-static void run_named(const char *name)
+enum { CASES = sizeof cases / sizeof *cases, TASKS = sizeof tasks / sizeof *tasks };
+
+static void run_named(const struct action *actions, size_t n, const char *name, const char *otherwise)
 {
-    for (size_t i = 0; i < CASES; i++) {
-        if (strcmp(cases[i].name, name) == 0) {
-            cases[i].run();
+    for (size_t i = 0; i < n; i++) {
+        if (strcmp(actions[i].name, name) == 0) {
+            actions[i].run();
             return;
         }
     }
-    must(0, "the cases are hash, handshake, parts, hellos, logins, edits, records and stack");
+    must(0, otherwise);
 }
 
 /* The CPU's kind, since times mean little without it. */
@@ -48,14 +55,14 @@ static void print_machine(void)
 
 int main(int argc, char **argv)
 {
-    if (argc == 2 && strcmp(argv[1], HASH_WORKER) == 0) {
-        hash_worker();
+    if (argc == 3 && strcmp(argv[1], WORKER) == 0) {
+        run_named(tasks, TASKS, argv[2], "a worker has no such task");
         return 0;
     }
     print_machine();
     stay_on_one_core();
     for (int i = 1; i < argc; i++)
-        run_named(argv[i]);
+        run_named(cases, CASES, argv[i], "the cases are hash, handshake, parts, hellos, logins, edits, records and stack");
     for (size_t i = 0; argc == 1 && i < CASES; i++)
         cases[i].run();
     return 0;

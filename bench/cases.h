@@ -2,8 +2,6 @@
 #ifndef BENCH_CASES_H
 #define BENCH_CASES_H
 
-#define HASH_WORKER "hash-worker"
-
 void bench_hash(void);
 void bench_handshake(void);
 void bench_parts(void);
@@ -13,7 +11,12 @@ void bench_edits(void);
 void bench_records(void);
 void bench_stack(void);
 
-/* The same program in another process, started by bench_hash: times OpenSSL's hash for each byte that comes on its input. */
-void hash_worker(void);
+/* What a worker (worker.h) of a case does: a time of our hash, or of OpenSSL's, for each question; the bytes of stack of every call. */
+#define TASK_OUR_HASH "our-hash"
+#define TASK_OPENSSL_HASH "openssl-hash"
+#define TASK_STACK "stack"
+void task_our_hash(void);
+void task_openssl_hash(void);
+void task_stack(void);
 
 #endif

@@ -1,6 +1,7 @@
 /*
  * The stack that the library's calls touch: a thread paints its own stack below the frame that makes the call, makes it, and looks how far down the paint is
- * gone. The frames of this program between the two, under 256 bytes, are in the figures.
+ * gone. The frames of this program between the two, up to 288 bytes, are in the figures. Where there is an earlier library to compare with, the program with
+ * that library measures itself.
  */
 #include <pthread.h>
 #include <stdio.h>
@@ -11,6 +12,7 @@
 #include "login.h"
 #include "measure.h"
 #include "parts.h"
+#include "worker.h"
 
 enum { STACK = 1 << 20, PAINT = 0xA5, OWN = 256 /* bytes below the painter's frame that it needs itself */ };
 enum { AIM = 1024 /* bytes of an edit beyond those of the table's test */ };
@@ -68,21 +70,23 @@ static const char *name_of(size_t i)
     return i == LARGE ? "start and a ClientHello of 16 KiB" : i == TEST ? "the table's test" : "no call";
 }
 
-static void print_sizes(const size_t sizes[MEASURED])
+/* `before` is NULL where there is no earlier library. */
+static void print_sizes(const size_t sizes[MEASURED], const size_t before[MEASURED])
 {
     printf("\nStack, bytes below the calling frame\n");
     for (size_t i = 0; i < MEASURED; i++) {
         must(sizes[i] <= TN_STACK_LIMIT, "a call reaches below TN_STACK_LIMIT");
         printf("  %-52s %9zu", name_of(i), sizes[i]);
+        if (before != NULL)
+            printf("   before %zu   difference %+ld", before[i], (long)sizes[i] - (long)before[i]);
         if (i >= EDIT && i < NOTHING)
             printf("   beyond the test %ld   aim %d: %s", (long)sizes[i] - (long)sizes[TEST], AIM, sizes[i] < sizes[TEST] + AIM ? "met" : "missed");
         printf("\n");
     }
 }
 
-void bench_stack(void)
+static void measure_calls(size_t sizes[MEASURED])
 {
-    size_t sizes[MEASURED];
     pthread_attr_t attributes;
     pthread_t thread;
     parts_prepare();
@@ -93,5 +97,29 @@ void bench_stack(void)
              && pthread_create(&thread, &attributes, run_calls, sizes) == 0 && pthread_join(thread, NULL) == 0,
          "no thread");
     munmap(stack, STACK);
-    print_sizes(sizes);
+}
+
+static void answer_sizes(void)
+{
+    size_t sizes[MEASURED];
+    measure_calls(sizes);
+    worker_answer(sizes, sizeof sizes);
+}
+
+void task_stack(void)
+{
+    worker_serve(answer_sizes);
+}
+
+void bench_stack(void)
+{
+    size_t sizes[MEASURED], sizes_before[MEASURED];
+    struct worker before = {.program = earlier_program(), .task = TASK_STACK};
+    measure_calls(sizes);
+    if (before.program != NULL) {
+        worker_start(&before);
+        worker_ask(&before, sizes_before, sizeof sizes_before);
+        worker_stop(&before);
+    }
+    print_sizes(sizes, before.program != NULL ? sizes_before : NULL);
 }

@@ -435,7 +435,7 @@ int32_t tn_valid_utf8(const uint8_t *bytes, size_t bytes_len);
  * A host that wants no key to outlive its use clears that part of the stack by tn_clear_stack(TN_STACK_LIMIT) after such a call, in the function that made
  * the call or in one above it, with more depth for the frames between; and clears its own copies. gateway/wipe.c and gateway/connection.c show it.
  *
- * TN_STACK_LIMIT is measured, not proved: the deepest call, tn_message with a ClientKeyExchange, reaches less than 10,000 bytes below its caller (`make bench`).
+ * TN_STACK_LIMIT is measured, not proved: the deepest call, tn_message with a ClientKeyExchange, reaches less than 9,000 bytes below its caller (`make bench`).
  */
 #define TN_STACK_LIMIT 16384
 

@@ -20,7 +20,7 @@ bit-of zero h = refl
 bit-of (suc zero) h = refl
 bit-of (suc (suc n)) h = absurd (omega arith)
 
--- of single bits
+-- Ch's choice: of single bits
 choice-bit : (x y z : Bool)
     → bitXor (bit z) (bitAnd (bit x) (bitXor (bit y) (bit z))) ≡ bitXor (bitAnd (bit x) (bit y)) (bitAnd (1 - bit x) (bit z))
 choice-bit false false false = refl
@@ -35,7 +35,7 @@ choice-bit true true true = refl
 choice-below : (x y z : ℕ) → x < 2 → y < 2 → z < 2 → bitXor z (bitAnd x (bitXor y z)) ≡ bitXor (bitAnd x y) (bitAnd (1 - x) z)
 choice-below x y z hx hy hz = rw (bit-of x hx, bit-of y hy, bit-of z hz) (choice-bit (leb 1 x) (leb 1 y) (leb 1 z))
 
--- of words of k bits, by their last bits and the rest
+-- and of words of k bits, by their last bits and the rest
 choice : (k x y z : ℕ) → x < 2 ^ k → z < 2 ^ k → bitXor z (bitAnd x (bitXor y z)) ≡ bitXor (bitAnd x y) (bitAnd (2 ^ k - 1 - x) z)
 choice zero x y z hx hz =
     let ex : x ≡ 0 = omega arith in
@@ -58,6 +58,7 @@ choice (suc k) x y z hx hz =
     ∙ sym (xor-mod (bitAnd x y) (bitAnd c z) 1 ∙ ap₂ bitXor (and-mod x y 1) (and-mod c z 1)) in
     omega (arith, halves, bits)
 
+-- so it is Ch
 pub ch-by-choice : (x y z : ℕ) → x < 2 ^ 32 → z < 2 ^ 32 → bitXor z (bitAnd x (bitXor y z)) ≡ Ch x y z
 ch-by-choice = choice 32
 

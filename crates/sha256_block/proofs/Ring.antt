@@ -29,6 +29,7 @@ read-on i j w e hi hj =
           ∙ getD-take i w (i + j - 16) 0 (omega arith)))
     ]
 
+-- read from any place on, it has all its words
 length-turned : (i : ℕ) (w : List ℕ) → length (drop i w ++ take i w) ≡ length w
 length-turned i w = length-append (drop i w) (take i w) ∙ rw (length-drop i w, length-take i w) (omega arith)
 

@@ -28,12 +28,6 @@ word-at-four bs at inside =
     let three : suc (suc (suc at)) ≡ at + 3 = omega arith in
     rw (take-window 4 at bs inside, three, two, one)
 
--- as many words as are asked for
-pub length-words : (n : ℕ) (block : List ℕ) → length (words n block) ≡ n
-unfolding words
-length-words zero block = refl
-length-words (suc n) block = ap suc (length-words n (drop 4 block))
-
 -- the words of a block from its front
 words-more : (n : ℕ) (block : List ℕ) → words (suc n) block ≡ words n block ++ (number (take 4 (drop (4 * n) block)) ∷ [])
 unfolding words
@@ -49,7 +43,7 @@ pub next-word : (t : ℕ) (block : List ℕ) (x : ℕ) → 4 * t + 4 ≤ length 
 next-word t block x h e = rw (add-one t, words-more t block, word-at-four block (4 * t) h, e)
 
 -- one round more
-pub next-round : (t : ℕ) (W : List ℕ) (s v r : Words) → v ≡ rounds t W s → r ≡ round (getD K t 0) (getD W t 0) v → r ≡ rounds (t + 1) W s
+next-round : (t : ℕ) (W : List ℕ) (s v r : Words) → v ≡ rounds t W s → r ≡ round (getD K t 0) (getD W t 0) v → r ≡ rounds (t + 1) W s
 unfolding rounds
 next-round t W s v r ev er = rw (add-one t, ← ev, ← er)
 
