@@ -125,9 +125,9 @@ static void print_row(const struct subject subjects[SUBJECTS], size_t i)
     if (i != OURS)
         print_ratio("ours / this", &subjects[OURS], &subjects[i]);
     if (i == MBEDTLS)
-        print_aim(&subjects[OURS], &subjects[i], 1);
+        print_aim(&subjects[OURS], &subjects[i], 0.9);
     if (i == BEFORE)
-        print_aim_within(&subjects[OURS], &subjects[i], 1, NOISE);
+        print_aim(&subjects[OURS], &subjects[i], 1 + NOISE);
     printf("\n");
 }
 

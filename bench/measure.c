@@ -101,15 +101,9 @@ void print_ratio(const char *name, const struct subject *s, const struct subject
 
 void print_aim(const struct subject *s, const struct subject *to, double aim)
 {
-    print_aim_within(s, to, aim, 0);
-}
-
-void print_aim_within(const struct subject *s, const struct subject *to, double aim, double noise)
-{
     double ratio = ratio_of(s, to).middle;
-    int met = ratio <= aim + noise;
-    printf("   aim %.2f: %s", aim, met ? "met" : "missed");
-    if (!met)
+    printf("   aim %.2f: %s", aim, ratio <= aim ? "met" : "missed");
+    if (ratio > aim)
         printf(" by a factor of %.2f", ratio / aim);
 }
 

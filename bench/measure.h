@@ -38,11 +38,10 @@ struct spread ratio_of(const struct subject *s, const struct subject *to);
 /* The heading of a case, with the machine's load. */
 void heading(const char *title);
 
-/* Parts of a line: a name and its time divided by `per`; a ratio under a name; whether the median ratio is within an aim, or above it by no more than noise. */
+/* Parts of a line: a name and its time divided by `per`; a ratio under a name; whether the median ratio is within an aim. */
 void print_time(const struct subject *s, double per, const char *unit);
 void print_ratio(const char *name, const struct subject *s, const struct subject *to);
 void print_aim(const struct subject *s, const struct subject *to, double aim);
-void print_aim_within(const struct subject *s, const struct subject *to, double aim, double noise);
 
 /* How a time and a size have grown since an earlier subject, and whether the time has grown more. */
 void print_growth(const struct subject *s, const struct subject *since, double size, double size_then);
