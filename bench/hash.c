@@ -24,12 +24,11 @@ enum { BEFORE, OURS, MBEDTLS, SUBJECTS = MBEDTLS + 4 }; /* the subjects; OpenSSL
 #define WITHOUT_VECTORS "~0x1000020000000000:~0x20000128"
 
 /*
- * By how much ours may seem slower than the earlier library: the same library twice gave ratios of 0.998 to 1.002 in 24 runs, half of them crowded. This is
- * five times that, so that a loss of half a percent shows in the ratio but not in the verdict. It does not cover where the linker puts the block function: 16
- * bytes behind a multiple of 64 it took 1.06 times as long as at the other three places. Where what is linked before it has kept its size, both have it at the
- * same one.
+ * By how much ours may seem slower than the earlier library: the same library twice gave ratios of 0.998 to 1.002 in 24 runs, half of them crowded. It does
+ * not cover where the linker puts the block function: 16 bytes behind a multiple of 64 it took 1.06 times as long as at the other three places. Where what is
+ * linked before it has kept its size, both have it at the same one.
  */
-#define NOISE 0.01
+#define NOISE 0.002
 
 static uint8_t message[MESSAGE];
 static uint8_t digest[32];

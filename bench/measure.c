@@ -104,7 +104,7 @@ void print_aim(const struct subject *s, const struct subject *to, double aim)
     double ratio = ratio_of(s, to).middle;
     printf("   aim %.2f: %s", aim, ratio <= aim ? "met" : "missed");
     if (ratio > aim)
-        printf(" by a factor of %.2f", ratio / aim);
+        printf(" by a factor of %.3f", ratio / aim);
 }
 
 void print_growth(const struct subject *s, const struct subject *since, double size, double size_then)
