@@ -439,8 +439,19 @@ int32_t tn_valid_utf8(const uint8_t *bytes, size_t bytes_len);
  */
 #define TN_STACK_LIMIT 16384
 
-/* Overwrites so many bytes of the stack below the caller's frame. They must be there: a thread's stack may be small. */
-static __attribute__((noinline, unused)) void tn_clear_stack(size_t depth)
+/* Registers may hold a part of a key too, and a later call may put them on the stack, as the dynamic linker does at the first call of a function. */
+#ifdef __has_attribute
+#if __has_attribute(zero_call_used_regs) /* GCC from 11 on, clang from 15 on */
+#define TN_CLEARS_REGISTERS __attribute__((zero_call_used_regs("all")))
+#endif
+#endif
+#ifndef TN_CLEARS_REGISTERS
+#define TN_CLEARS_REGISTERS
+#endif
+
+/* Overwrites so many bytes of the stack below the caller's frame and, where the compiler can, the registers that a call may change. The bytes must be
+ * there: a thread's stack may be small. */
+static __attribute__((noinline, unused)) TN_CLEARS_REGISTERS void tn_clear_stack(size_t depth)
 {
     void *space = __builtin_alloca(depth);
     __builtin_memset(space, 0, depth);
