@@ -34,14 +34,14 @@ static void tell(struct slot *s)
     const struct connection *c = &s->connection;
     if (!s->login_reported && c->login_outcome != OUTCOME_NONE) {
         s->login_reported = true;
-        report(s->address, c, c->login_outcome, &settings, (unsigned)options.failed_lines);
+        report(s->address, c, c->login_outcome, (unsigned)options.failed_lines);
         if (c->login_outcome == OUTCOME_COMPLETE)
             logged_in(s);
     }
     if (!s->later_reported && c->later_outcome != OUTCOME_NONE) {
         s->later_reported = true;
         if (c->later_outcome != OUTCOME_STOPPED)
-            report(s->address, c, c->later_outcome, &settings, (unsigned)options.failed_lines);
+            report(s->address, c, c->later_outcome, (unsigned)options.failed_lines);
     }
 }
 
@@ -73,7 +73,7 @@ static bool send_some(struct slot *s)
 static void hide(struct slot *s, int64_t came)
 {
     struct connection *c = &s->connection;
-    if (!c->judged || settings.rule != TN_RULE_HIDE)
+    if (!c->judged || !settings_hide(&settings))
         return;
     c->judged = false;
     c->unlisted = c->identity_len > sizeof c->identity || !table_lists(&settings, c->identity, c->identity_len);

@@ -33,6 +33,11 @@ static bool complete(const struct connection *c)
     return c->login_outcome == OUTCOME_COMPLETE;
 }
 
+bool settings_hide(const struct settings *settings)
+{
+    return settings->rule != TN_RULE_TELL;
+}
+
 /* ---- ending and sending */
 
 static void conclude(struct connection *c, enum outcome how, uint8_t alert)

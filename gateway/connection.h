@@ -21,11 +21,14 @@ enum {
 /* What all connections of a gateway share. */
 struct settings {
     const char *hint; /* empty: none */
-    uint8_t rule;
+    uint8_t rule; /* one of TN_RULE_.. */
     uint8_t stand_in[TN_STAND_IN_SIZE];
     uint8_t table[TN_TABLE_LIMIT];
     size_t table_len;
 };
+
+/* Whether a client is not to learn which gates there are; it is the library's rule where none is named. */
+bool settings_hide(const struct settings *settings);
 
 /* How a login, or a connection after it, ended. */
 enum outcome {

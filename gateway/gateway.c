@@ -146,7 +146,7 @@ static bool take_table(bool again)
     if (again)
         retire(&fresh);
     table_use(&settings, &fresh);
-    if (settings.rule == TN_RULE_HIDE)
+    if (settings_hide(&settings))
         work_measure(&settings);
     if (again)
         log_line("%s read again, gates: %zu", options.table, table_gates(&settings));
@@ -295,13 +295,16 @@ static bool ready(void)
 
 static void announce(int listener)
 {
-    static const char *const rules[] = {"tell (none was named)", "tell", "hide"};
+    static const char *const rules[] = {"hide, since none was named", "tell", "hide"};
+    const char *meaning = settings_hide(&settings) ? "unknown gates are not told apart from wrong keys; --rule tell while fitting"
+                                                   : "unknown gates are told so, and so is anybody who tries names; --rule hide after fitting";
     struct sockaddr_storage at = {0};
     socklen_t size = sizeof at;
     char text[INET6_ADDRSTRLEN + 10];
     getsockname(listener, (struct sockaddr *)&at, &size);
     address_text(&at, text, sizeof text);
-    log_line("listening on %s, gates in %s: %zu, rule: %s, places: %zu", text, options.table, table_gates(&settings), rules[options.rule], places);
+    log_line("listening on %s, rule: %s (%s), places: %zu, gates in %s: %zu", text, rules[options.rule], meaning, places, options.table,
+             table_gates(&settings));
 }
 
 int main(int count, char **words)

@@ -3,7 +3,7 @@
 # make lib                   build/libturretnail.a, proved
 # make gateway               build/gateway
 # make gates                 build/gates, which edits the key table's file
-# make run                   the gateway with the sample table gateway/gates.psk; ARGUMENTS='--rule hide' adds options
+# make run                   the gateway with the sample table gateway/gates.psk; ARGUMENTS='--rule tell' adds options
 # make install PREFIX=DIR    library, header, pkg-config file, gateway and gates (DESTDIR is put in front)
 # make uninstall PREFIX=DIR  removes them
 # make header-test           the header against the exports, and a program over the installed library in C and C++

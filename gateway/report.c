@@ -91,13 +91,13 @@ static void add_alert(struct line *line, const char *front, uint8_t alert)
     add(line, "%s %u%s%s", front, (unsigned)alert, name[0] ? " " : "", name);
 }
 
-/* Under hide the client can't tell a name that is not listed from a wrong key; whoever reads the log may. */
-static bool hidden(const struct connection *c, const struct settings *settings)
+/* Under hide the client can't tell a name that is not listed from a wrong key; whoever reads the log may, however the login ended. */
+static bool hidden(const struct connection *c)
 {
-    return settings->rule == TN_RULE_HIDE && c->alert == TN_ALERT_DECRYPT_ERROR && c->login_outcome == OUTCOME_ALERT_SENT && c->identity_known && c->unlisted;
+    return c->identity_known && c->unlisted;
 }
 
-static void add_outcome(struct line *line, const struct connection *c, enum outcome outcome, const struct settings *settings)
+static void add_outcome(struct line *line, const struct connection *c, enum outcome outcome)
 {
     bool later = outcome != c->login_outcome;
     if (later)
@@ -113,7 +113,7 @@ static void add_outcome(struct line *line, const struct connection *c, enum outc
     case OUTCOME_RETIRED: add(line, later ? "retired by the new table" : "ended by the new table"); break;
     default: add(line, later ? "closed without close_notify" : "closed"); break;
     }
-    if (hidden(c, settings))
+    if (hidden(c))
         add(line, ", unknown gate");
 }
 
@@ -131,7 +131,7 @@ int64_t report_rest(bool at_once)
     return -1;
 }
 
-void report(const char *address, const struct connection *c, enum outcome outcome, const struct settings *settings, unsigned most)
+void report(const char *address, const struct connection *c, enum outcome outcome, unsigned most)
 {
     struct line line = {.n = 0};
     report_rest(false);
@@ -140,6 +140,6 @@ void report(const char *address, const struct connection *c, enum outcome outcom
     add(&line, "%s gate ", address);
     add_identity(&line, c);
     add(&line, " suite %s: ", c->suite ? c->suite->name : "-");
-    add_outcome(&line, c, outcome, settings);
+    add_outcome(&line, c, outcome);
     log_line("%s", line.text);
 }

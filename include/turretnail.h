@@ -90,7 +90,7 @@ extern "C" {
  *   50 decode_error                tn_message: a wrong layout, or a message over 16,384 bytes. Every tn_read_ function and tn_next_extension.
  *   51 decrypt_error               tn_message: a wrong Finished, or any Finished after an identity that is not listed.
  *   70 protocol_version            tn_message: a ClientHello below TLS 1.2.
- *   115 unknown_psk_identity       tn_message under the rule tell: the identity is not listed. tn_table_lookup.
+ *   115 unknown_psk_identity       tn_message under TN_RULE_TELL: the identity is not listed. tn_table_lookup.
  *
  * Alerts on records (bad_record_mac, record_overflow) and close_notify are the host's own.
  */
@@ -138,7 +138,7 @@ static inline uint8_t tn_alert_number(int32_t result)
 #define TN_SUITE_PSK_NULL_SHA256 0x00B0        /* 64 bytes: 32, 32 */
 
 /* What tn_start does about an identity that is not listed. */
-#define TN_RULE_NONE 0 /* none named: tell */
+#define TN_RULE_NONE 0 /* none named: hide */
 #define TN_RULE_TELL 1 /* alert 115 at once */
 #define TN_RULE_HIDE 2 /* go on with the stand-in key, alert 51 at the Finished */
 
@@ -201,7 +201,7 @@ static inline uint8_t tn_alert_number(int32_t result)
  *
  *   random     TN_RANDOM_SIZE bytes that no other connection was or will be started with
  *   hint       0 to TN_HINT_LIMIT bytes of UTF-8, sent to each client; none: no ServerKeyExchange is sent
- *   stand_in   TN_STAND_IN_SIZE bytes that nobody else knows, drawn once when the host starts: the key of unlisted identities under TN_RULE_HIDE
+ *   stand_in   TN_STAND_IN_SIZE bytes that nobody else knows, drawn once when the host starts: the key of unlisted identities where hide applies
  *   rule       TN_RULE_NONE, TN_RULE_TELL or TN_RULE_HIDE
  *
  *   0          `connection` awaits a ClientHello
@@ -232,7 +232,7 @@ int32_t tn_start(uint8_t connection[TN_CONNECTION_SIZE], const uint8_t *random, 
  * Order of the tests: TN_R4; fewer than 4 bytes 50; another type than the one awaited 10; the length in the header not that of the rest 50; over
  * TN_MESSAGE_LIMIT bytes 50; TN_R2; the body's; TN_R1. So a header that promises too much can be handed over alone, and is refused with 10 or 50.
  *
- * Under TN_RULE_HIDE the master secret after an unlisted identity comes from the stand-in key. It is for the records only.
+ * Where hide applies the master secret after an unlisted identity comes from the stand-in key. It is for the records only.
  */
 int32_t tn_message(uint8_t connection[TN_CONNECTION_SIZE], const uint8_t *table, size_t table_len, const uint8_t *message, size_t message_len,
                    uint8_t *out, size_t out_len, uint8_t master[TN_MASTER_SIZE]);

@@ -121,7 +121,7 @@ class Server:
         if len(random) != 32 or hint is None or len(hint) > 128 or len(stand_in) != 32:
             self.awaits = "closed"
             return "R3"
-        self.random, self.hint, self.stand_in, self.hides = random, hint, stand_in, rule == HIDE
+        self.random, self.hint, self.stand_in, self.hides = random, hint, stand_in, rule != TELL
         self.awaits, self.transcript = "hello", b""
         return "wrote 0"
 

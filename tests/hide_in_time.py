@@ -40,12 +40,12 @@ LISTED, UNLISTED = name(0), name(GATES)
 
 @contextlib.contextmanager
 def hiding(*options):
-    """A gateway under hide, with as many gates as there may be."""
+    """A gateway that is given no rule, so that hide applies, with as many gates as there may be."""
     with tempfile.TemporaryDirectory() as folder:
         table = pathlib.Path(folder) / "gates.psk"
         table.write_bytes(b"".join(name(i) + b":" + (os.urandom(16) if i else KEY).hex().encode() + b"\n" for i in range(GATES)))
         table.chmod(0o600)
-        g = Gateway("--table", table, "--rule", "hide", *options)
+        g = Gateway("--table", table, *options)
         try:
             yield g
             g.stop()

@@ -239,7 +239,7 @@ def closed_to_others(program):
 
 def main():
     begun = time.monotonic()
-    careful("--rule", "hide")
+    careful()
     careful("--rule", "tell")
     seen = careless()
     assert closed_to_others(GATEWAY) == (True, True), "its memory can be dumped"

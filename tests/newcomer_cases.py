@@ -34,11 +34,13 @@ def command_line():
         assert bad.end() == 2 and re.fullmatch(rf"gateway: [^\n]*{re.escape(named)}[^\n]*; --help lists the options\n", bad.text), (words, bad.text)
 
 
-@case("the rule that is in force is named")
+@case("the first line names the rule that applies, and says what it means")
 def rules():
-    for words, said in [([], "rule: tell (none was named),"), (["--rule", "tell"], "rule: tell,"), (["--rule", "hide"], "rule: hide,")]:
+    hide = "(unknown gates are not told apart from wrong keys; --rule tell while fitting), "
+    tell = "(unknown gates are told so, and so is anybody who tries names; --rule hide after fitting), "
+    for words, said in [([], f"hide, since none was named {hide}"), (["--rule", "hide"], f"hide {hide}"), (["--rule", "tell"], f"tell {tell}")]:
         with gateway(*words) as g:
-            assert said in g.text, g.text
+            assert f", rule: {said}places: " in g.text, g.text
 
 
 # ---- the table

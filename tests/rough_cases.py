@@ -316,9 +316,9 @@ def finishes():
             fatal(g, c, 50 if spoil == "short" else 51, "gate7", NULL)
 
 
-@case("under hide an unlisted identity is refused as a wrong key is")
+@case("where no rule is named, an unlisted identity is refused as a wrong key is")
 def hidden():
-    with gateway("--rule", "hide") as g:
+    with gateway() as g:
         for identity, shown in [(b"gate9", '"gate9"'), (b"", "of 0 bytes 0x"), (b"\xff\x1b[2J\n", "of 6 bytes 0xff1b5b324a0a"),
                                 ("\u202egate7".encode(), "of 8 bytes 0xe280ae6761746537"), (b'g" suite x', "of 10 bytes 0x67222073756974652078"),
                                 (b"y" * 16378, "of 16378 bytes 0x" + "79" * 16 + "..")]:
@@ -330,6 +330,54 @@ def hidden():
             c.send(HANDSHAKE, c.said(c.finished()))
             assert c.alert() == (2, 51)
             assert g.next_line().endswith(f" gate {shown} suite {NULL}: alert 51 decrypt_error, unknown gate"), g.text
+
+
+def silent(client):
+    """Nothing comes for a while, and the connection stays."""
+    client.socket.settimeout(0.2)
+    with contextlib.suppress(TimeoutError):
+        raise AssertionError(client.socket.recv(1))
+    client.socket.settimeout(LIMIT)
+
+
+def refused_at_the_end(g, identity, key):
+    """All that a client gets, its hello's answer without the random, and the alert at its Finished; after the messages between nothing comes."""
+    c = Client(g.port, identity=identity, key=key, timeout=LIMIT)
+    c.send(HANDSHAKE, c.said(c.hello()))
+    c.flight()
+    answer = c.transcript[len(c.hello()):]
+    c.send(HANDSHAKE, c.said(c.key_exchange()))
+    silent(c)
+    c.change()
+    silent(c)
+    c.send(HANDSHAKE, c.said(c.finished()))
+    return answer[:6] + answer[38:], c.alert()
+
+
+@case("where no rule is named, an unknown name and a wrong key get the same bytes and the same alert, each at the same step")
+def told_alike():
+    with gateway() as g:
+        unknown = refused_at_the_end(g, b"gate9", bytes.fromhex(KEY))
+        g.line("alert 51 decrypt_error, unknown gate", "gate9", NULL)
+        wrong = refused_at_the_end(g, b"gate7", bytes(16))
+        g.line("alert 51 decrypt_error", "gate7", NULL)
+        assert unknown == wrong and wrong[1] == (2, 51), (unknown, wrong)
+
+
+@case("under hide the line of a login that named an unknown gate says so, however the login ended")
+def unknown_in_the_log():
+    with gateway("--handshake-timeout", 1) as g:
+        for end, outcome in [(lambda c: c.send(HANDSHAKE, b"\x14\0\0\x0c" + bytes(12)), "alert 10 unexpected_message"),
+                             (lambda c: c.send(ALERT, b"\x02\x28"), "client sent alert 40 handshake_failure"),
+                             (lambda c: c.socket.shutdown(socket.SHUT_WR), "closed"), (lambda c: None, "time-out")]:
+            for identity, more in [(b"gate9", ", unknown gate"), (b"gate7", "")]:
+                c = plain(g, identity=identity)
+                c.send(HANDSHAKE, c.said(c.hello()))
+                c.flight()
+                c.send(HANDSHAKE, c.said(c.key_exchange()))
+                end(c)
+                g.line(outcome + more, identity.decode(), NULL)
+                c.socket.close()
 
 
 @case("a bad MAC after completion is alert 20")

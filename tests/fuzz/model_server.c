@@ -33,7 +33,7 @@ int32_t model_start(struct server *s, struct bytes random, struct bytes hint, st
     memcpy(s->stand_in, stand_in.at, 32);
     memcpy(s->hint, hint.at, hint.n);
     s->hint_n = hint.n;
-    s->hides = rule == TN_RULE_HIDE;
+    s->hides = rule != TN_RULE_TELL;
     return 0;
 }
 

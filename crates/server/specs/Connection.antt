@@ -32,9 +32,9 @@ pub record Settings : Type 0 where
 abbrev pub suites : List ℕ
 suites = 0x00ae ∷ 0x008c ∷ 0x00b0 ∷ []
 
--- where no rule is named, tell applies
+-- where no rule is named, hide applies (document 02, P3)
 abbrev pub ruleOf : Named → Rule
-ruleOf Named.Nothing = Rule.Tell
+ruleOf Named.Nothing = Rule.Hide
 ruleOf Named.Tell = Rule.Tell
 ruleOf Named.Hide = Rule.Hide
 

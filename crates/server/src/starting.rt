@@ -26,7 +26,7 @@ fn rule_of(named: Named) -> Rule
     ensures { λ r. ⌜ r ≡ Conn.ruleOf named ⌝ }
 {
     match named {
-        Named::Nothing => Rule::Tell,
+        Named::Nothing => Rule::Hide,
         Named::Tell => Rule::Tell,
         Named::Hide => Rule::Hide,
     }

@@ -1,6 +1,7 @@
 -- A series of C calls is the run that demand 3 speaks of: what one call leaves in the lent bytes is the connection that the next one reads.
 -- Assumes nothing.
 use mathlib.Core.Path.{_≡_, refl, sym, ap, ap₂, _∙_}
+use mathlib.Core.Logic.{inl, inr}
 use Prim.Native.Nat.{ℕ}
 use mathlib.Core.Bool.{Bool, true, false, cond}
 use mathlib.Core.List.{List, [], _∷_, map}
@@ -16,10 +17,11 @@ use Rattle.server.specs.Connection.{Settings, acceptable, started, badSetting, 
 use Rattle.server.specs.KeyExchange.{View, viewOf}
 use Rattle.saved.specs.Saved.{restored, phaseByte}
 use Rattle.c_interface.specs.Codes.{coded}
-use Rattle.c_interface.specs.Connections.{startCall}
+use Rattle.c_interface.specs.Connections.{startCall, namedOf}
 use Rattle.c_interface.proofs.Apart.{codes-apart}
 use Rattle.theorems.specs.Series.{Call, call, run, Seen, seen, answers}
-use Rattle.theorems.specs.FromC.{Given, Called, Series, none, one, settingsOf, Started, SamenessFromC, CompletesExactlyFromC}
+use Rattle.theorems.specs.Demand3.{Hiding, Alike}
+use Rattle.theorems.specs.FromC.{Given, Called, Series, none, one, settingsOf, Started, HidingInC, SamenessFromC, CompletesExactlyFromC}
 use Rattle.theorems.proofs.Sameness.{sameness}
 use Rattle.theorems.proofs.Completion.{completes-exactly}
 
@@ -74,15 +76,21 @@ module _ (random hint standIn : List ℕ) (rule : ℕ) where
 
 -- ---- both halves
 
+hiding : (rule : ℕ) → HidingInC rule → Hiding (namedOf rule)
+hiding rule (inl e) = inl (rw e)
+hiding rule (inr e) = inr (rw e)
+
 pub sameness-from-c : SamenessFromC
-sameness-from-c random hint standIn _ _ start start' identity table without removed good good' calls never _ _ _ _ made made' =
-    let s : Settings = settingsOf random hint standIn 2 in
-    let one-side = begun random hint standIn 2 start in
-    let other-side = begun random hint standIn 2 start' in
-    let alike = sameness s (one-side .0) refl identity table without removed good good' calls never in
+sameness-from-c random hint standIn rule rule' hide hide' _ _ start start' identity table without removed good good' calls never _ _ _ _ made made' =
+    let s : Settings = settingsOf random hint standIn rule in
+    let s' : Settings = settingsOf random hint standIn rule' in
+    let one-side = begun random hint standIn rule start in
+    let other-side = begun random hint standIn rule' start' in
+    let alike : Alike s s' = record { random = refl; hint = refl; standIn = refl; suites = refl } in
+    let same = sameness s s' alike (one-side .0) (hiding rule hide) (hiding rule' hide') identity table without removed good good' calls never in
     series-run (viewOf table) made (startAnswer s .next) (one-side .1) .1
-    ∙ ap (map asGiven) alike
-    ∙ sym (series-run (viewOf without) made' (startAnswer s .next) (other-side .1) .1)
+    ∙ ap (map asGiven) same
+    ∙ sym (series-run (viewOf without) made' (startAnswer s' .next) (other-side .1) .1)
 
 five-is-complete : (p : Phase) → phaseByte p ≡ 5 → p ≡ Phase.Complete
 five-is-complete Phase.Closed e = cc

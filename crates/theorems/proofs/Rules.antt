@@ -1,4 +1,4 @@
--- The rule that a start leads to is the one that was named, and tell where none was.
+-- The rule that a start leads to is the one that was named, and hide where none was.
 -- Assumes nothing.
 use Rattle.server.specs.Connection.{started}
 use Rattle.theorems.specs.Rules.{RulesApply}

@@ -17,9 +17,10 @@ use Rattle.lists.proofs.Equal.{same-eq, same-refl}
 use Rattle.keytable.proofs.Laws.{removed-gone, removed-else}
 use Rattle.lists.proofs.Every.{every-append, every-map}
 use Rattle.server.specs.declared.Rule.{Rule}
+use Rattle.server.specs.declared.Named.{Named}
 use Rattle.server.specs.declared.Phase.{Phase}
 use Rattle.server.specs.declared.Connection.{Connection}
-use Rattle.server.specs.Connection.{Settings, ruleOf, acceptable, started, ended}
+use Rattle.server.specs.Connection.{Settings, ruleOf, acceptable, started, startAnswer, ended}
 use Rattle.server.specs.KeyExchange.{View, viewOf, keyFound}
 use Rattle.server.specs.Step.{Step, refuse, accept, Settled, outcome, settled}
 use Rattle.server.specs.Connection.{isOver}
@@ -29,7 +30,7 @@ use Rattle.server.specs.Alert.{alertStep, alertCall}
 use Rattle.theorems.specs.Series.{Call, message, changeOfCipher, alert, call, Seen, seen, answers}
 use Rattle.theorems.specs.Terms.{LegalKeyExchange, IgnoredWarning, Aside, BadTableCall, HelloCame, KeyExchangeCame, ChangeCame, named}
 use Rattle.theorems.specs.Terms.{ShortFinished}
-use Rattle.theorems.specs.Demand3.{JudgedRight, Sameness}
+use Rattle.theorems.specs.Demand3.{Hiding, Alike, JudgedRight, Sameness}
 use Rattle.theorems.specs.Agreeing.{AgreeOutside, NoneJudgedRightOf, SamenessOfLookups}
 use Rattle.theorems.proofs.Settling.{refused-closes, accepted-next, Closes, Fate, warning-stays, alert-fate, unread, orRefuse}
 use Rattle.theorems.proofs.Stages.{helloed, keyed, exchange-read, exchange-legal, changed, change-stays, change-fate}
@@ -313,16 +314,29 @@ module _ (s : Settings) (ok : acceptable s ≡ true) (hide : ruleOf (s .named) �
       (answers-agree xs (before ++ (x ∷ [])) (call v c x .next) (call v' c' x .next) (stands-on s v ok before x stands) (goes .1)
       (rw (append-assoc before (x ∷ []) xs) never))
 
+-- ---- from the start on
+
+hides : (named : Named) → Hiding named → ruleOf named ≡ Rule.Hide
+hides named (inl e) = rw e
+hides named (inr e) = rw e
+
+-- whether hide is named or nothing is, the connection is the same
+alike-start : (s s' : Settings) → Alike s s' → Hiding (s .named) → Hiding (s' .named) → startAnswer s ≡ startAnswer s'
+unfolding started
+alike-start s s' alike hide hide' =
+    rw (hides (s .named) hide, hides (s' .named) hide', alike .random, alike .hint, alike .standIn, alike .suites)
+
 pub sameness-of-lookups : SamenessOfLookups
-sameness-of-lookups s ok hide Set v v' good good' agree calls never =
-    rw ok
-    (answers-agree s ok (ap ruleOf hide) Set v v' good good' agree calls [] (started s) (started s) (awaits-hello tt refl) (same-yet refl) never)
+sameness-of-lookups s s' alike ok hide hide' Set v v' good good' agree calls never =
+    rw (← alike-start s s' alike hide hide', ok)
+    (answers-agree s ok (hides (s .named) hide) Set v v' good good' agree calls [] (started s) (started s) (awaits-hello tt refl) (same-yet refl)
+    never)
 
 -- ---- the second table is the first one without a line
 
 pub sameness : Sameness
-sameness s ok hide identity table without removed good good' calls never =
-    sameness-of-lookups s ok hide (λ i. i ≡ identity) (viewOf table) (viewOf without) (rw good) (rw good') agree calls never-judged
+sameness s s' alike ok hide hide' identity table without removed good good' calls never =
+    sameness-of-lookups s s' alike ok hide hide' (λ i. i ≡ identity) (viewOf table) (viewOf without) (rw good) (rw good') agree calls never-judged
   where
     agree : AgreeOutside (λ i. i ≡ identity) (viewOf table) (viewOf without)
     agree i = go (same i identity) refl

@@ -6,11 +6,10 @@ use Prim.Native.Nat.{ℕ}
 use mathlib.Core.Bool.{true}
 use mathlib.Core.List.{List}
 use mathlib.Core.Option.{none}
-use Rattle.server.specs.declared.Named.{Named}
 use Rattle.server.specs.Connection.{Settings, acceptable, startAnswer}
 use Rattle.server.specs.KeyExchange.{View}
 use Rattle.theorems.specs.Series.{Call, answers}
-use Rattle.theorems.specs.Demand3.{NoneJudgedRight}
+use Rattle.theorems.specs.Demand3.{Hiding, Alike, NoneJudgedRight}
 
 -- both tables have the same for an identity, or the identity is one of the set
 abbrev pub AgreeOutside : (List ℕ → Type 0) → View → View → Type 0
@@ -22,7 +21,7 @@ NoneJudgedRightOf Set s v v' calls = (identity : List ℕ) → Set identity → 
 
 abbrev pub SamenessOfLookups : Type 1
 SamenessOfLookups =
-    (s : Settings) → acceptable s ≡ true → s .named ≡ Named.Hide
+    (s s' : Settings) → Alike s s' → acceptable s ≡ true → Hiding (s .named) → Hiding (s' .named)
     → (Set : List ℕ → Type 0) (v v' : View) → v .refusal ≡ none → v' .refusal ≡ none → AgreeOutside Set v v'
     → (calls : List Call) → NoneJudgedRightOf Set s v v' calls
-    → answers v (startAnswer s .next) calls ≡ answers v' (startAnswer s .next) calls
+    → answers v (startAnswer s .next) calls ≡ answers v' (startAnswer s' .next) calls

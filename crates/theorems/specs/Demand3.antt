@@ -1,7 +1,7 @@
 -- Demand 3, both halves: each is one statement about every series of calls from an accepted start. specs/Series.antt has the calls and the run,
 -- specs/Terms.antt the terms. proofs/Sameness.antt and proofs/Completion.antt prove them.
 use mathlib.Core.Path.{_≡_}
-use mathlib.Core.Logic.{_↔_}
+use mathlib.Core.Logic.{_⊎_, _↔_}
 use Prim.Native.Nat.{ℕ, _≤_}
 use mathlib.Core.Bool.{true}
 use mathlib.Core.List.{List, _∷_, _++_}
@@ -18,6 +18,17 @@ use Rattle.theorems.specs.Terms.{AwaitsFinished, RightFinished, named}
 
 -- ---- first half: under the hiding rule, nothing tells which identities are listed
 
+-- the hiding rule: the setting is hide, or none is named
+abbrev pub Hiding : Named → Type 0
+Hiding named = (named ≡ Named.Hide) ⊎ (named ≡ Named.Nothing)
+
+-- two servers' settings, alike but for the rule that each names
+pub record Alike (s s' : Settings) : Type 0 where
+  pub random : s .random ≡ s' .random
+  pub hint : s .hint ≡ s' .hint
+  pub standIn : s .standIn ≡ s' .standIn
+  pub suites : s .suites ≡ s' .suites
+
 -- The call that ends the sameness: a Finished that is right under the identity's key is judged in its place, after a ClientKeyExchange that named the
 -- identity. It is judged also where R1 follows, so nothing is asked of the output.
 pub record JudgedRight (s : Settings) (v : View) (identity : List ℕ) (calls : List Call) (x : Call) : Type 0 where
@@ -33,15 +44,15 @@ abbrev pub NoneJudgedRight : Settings → View → List ℕ → List Call → Ty
 NoneJudgedRight s v identity calls =
     (before : List Call) (x : Call) (after : List Call) → calls ≡ before ++ (x ∷ after) → ¬ JudgedRight s v identity before x
 
--- Two servers whose setting is hide, with the same random, hint and stand-in key, and well-formed tables that no call changes, of which the second is the
--- first without the line of one identity. The answers are compared over the whole series: said of one call at a time, from alike connections, it would
--- say nothing of a difference that a call leaves behind for a later one to show.
+-- Two servers with the same random, hint and stand-in key; the setting of each is hide, or none is named. Their tables are well formed, no call changes
+-- them, and the second is the first without the line of one identity. The answers are compared over the whole series: said of one call at a time, from
+-- alike connections, it would say nothing of a difference that a call leaves behind for a later one to show.
 abbrev pub Sameness : Type 0
 Sameness =
-    (s : Settings) → acceptable s ≡ true → s .named ≡ Named.Hide
+    (s s' : Settings) → Alike s s' → acceptable s ≡ true → Hiding (s .named) → Hiding (s' .named)
     → (identity table without : List ℕ) → LineRemoved identity table without → wellFormed table ≡ true → wellFormed without ≡ true
     → (calls : List Call) → NoneJudgedRight s (viewOf table) identity calls
-    → answers (viewOf table) (startAnswer s .next) calls ≡ answers (viewOf without) (startAnswer s .next) calls
+    → answers (viewOf table) (startAnswer s .next) calls ≡ answers (viewOf without) (startAnswer s' .next) calls
 
 -- ---- second half: completes exactly when, under either rule, with a table well formed or not
 

@@ -1,6 +1,6 @@
 -- Demand 3 for a series of C calls on the same lent bytes, in the numbers that C sees. proofs/FromC.antt proves both halves.
 use mathlib.Core.Path.{_≡_}
-use mathlib.Core.Logic.{_↔_}
+use mathlib.Core.Logic.{_⊎_, _↔_}
 use Prim.Native.Nat.{ℕ}
 use mathlib.Core.Bool.{true}
 use mathlib.Core.List.{List, [], _∷_}
@@ -39,12 +39,17 @@ settingsOf random hint standIn rule = record { random = random; hint = hint; sta
 abbrev pub Started : (random hint standIn : List ℕ) → ℕ → List ℕ → Type 0
 Started random hint standIn rule bytes = (before : List ℕ) × Starts (startCall random hint standIn rule) before (pos 0) bytes
 
--- first half: rule 2 is hide. Results and outputs are alike on the two servers.
+-- the hiding rule: rule 2 is hide, and 0 names none
+abbrev pub HidingInC : ℕ → Type 0
+HidingInC rule = (rule ≡ 2) ⊎ (rule ≡ 0)
+
+-- first half: results and outputs are alike on the two servers
 abbrev pub SamenessFromC : Type 0
 SamenessFromC =
-    (random hint standIn : List ℕ) (bytes bytes' : List ℕ) → Started random hint standIn 2 bytes → Started random hint standIn 2 bytes'
+    (random hint standIn : List ℕ) (rule rule' : ℕ) → HidingInC rule → HidingInC rule'
+    → (bytes bytes' : List ℕ) → Started random hint standIn rule bytes → Started random hint standIn rule' bytes'
     → (identity table without : List ℕ) → LineRemoved identity table without → wellFormed table ≡ true → wellFormed without ≡ true
-    → (calls : List Call) → NoneJudgedRight (settingsOf random hint standIn 2) (viewOf table) identity calls
+    → (calls : List Call) → NoneJudgedRight (settingsOf random hint standIn rule) (viewOf table) identity calls
     → (given given' : List Given) (last last' : List ℕ) → Series (viewOf table) bytes calls given last → Series (viewOf without) bytes' calls given' last'
     → given ≡ given'
 

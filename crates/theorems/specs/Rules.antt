@@ -1,4 +1,5 @@
--- Which rule a start leads to (document 01, "The server's steps"): the one that is named, and tell where none is. proofs/Rules.antt proves it.
+-- Which rule a start leads to: the one that is named (document 01, "The server's steps"), and hide where none is (document 02, P3). proofs/Rules.antt
+-- proves it.
 use mathlib.Core.Path.{_≡_}
 use mathlib.Core.Bool.{true}
 use Rattle.server.specs.declared.Rule.{Rule}
@@ -11,5 +12,4 @@ LeadsTo named rule = (s : Settings) → acceptable s ≡ true → s .named ≡ n
 pub record RulesApply : Type 0 where
   pub tell : LeadsTo Named.Tell Rule.Tell
   pub hide : LeadsTo Named.Hide Rule.Hide
-  -- a claim of its own: the sameness of demand 3 says nothing of a start that names no rule
-  pub none : LeadsTo Named.Nothing Rule.Tell
+  pub none : LeadsTo Named.Nothing Rule.Hide
