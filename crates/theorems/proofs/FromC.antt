@@ -4,9 +4,9 @@ use mathlib.Core.Path.{_≡_, refl, sym, ap, ap₂, _∙_}
 use mathlib.Core.Logic.{inl, inr}
 use Prim.Native.Nat.{ℕ}
 use mathlib.Core.Bool.{Bool, true, false, cond}
-use mathlib.Core.List.{List, [], _∷_, map}
+use mathlib.Core.List.{List, _∷_, map}
 use lib.Dec.{leb}
-use lib.IntN.{ℤ, pos}
+use lib.IntN.{ℤ}
 use native.Mathlib.Omega.{arith}
 use Rattle.refusal.specs.declared.Refusal.{Refusal}
 use Rattle.refusal.specs.declared.Written.the-variants.{Wrote, Refused}
@@ -19,9 +19,9 @@ use Rattle.saved.specs.Saved.{restored, phaseByte}
 use Rattle.c_interface.specs.Codes.{coded}
 use Rattle.c_interface.specs.Connections.{startCall, namedOf}
 use Rattle.c_interface.proofs.Apart.{codes-apart}
-use Rattle.theorems.specs.Series.{Call, call, run, Seen, seen, answers}
+use Rattle.theorems.specs.Series.{Call, call, run, Seen, answers}
 use Rattle.theorems.specs.Demand3.{Hiding, Alike}
-use Rattle.theorems.specs.FromC.{Given, Called, Series, none, one, settingsOf, Started, HidingInC, SamenessFromC, CompletesExactlyFromC}
+use Rattle.theorems.specs.FromC.{Given, Series, none, one, settingsOf, Started, HidingInC, SamenessFromC, CompletesExactlyFromC}
 use Rattle.theorems.proofs.Sameness.{sameness}
 use Rattle.theorems.proofs.Completion.{completes-exactly}
 
