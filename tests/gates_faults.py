@@ -102,12 +102,21 @@ def killed():
                 assert [*table.parent.iterdir()] == [table], (edit.words, when, k)
 
 
+INTERRUPTS = (signal.SIGTERM, signal.SIGINT, signal.SIGHUP, signal.SIGQUIT)
+
+
+def heard():
+    """No interrupt is ignored, as some are where the tests run under nohup or in the background."""
+    for number in INTERRUPTS:
+        signal.signal(number, signal.SIG_DFL)
+
+
 @case("interrupted at any call: nothing is done, or all and the key is printed; never a file beside the table")
 def interrupted():
     for edit, k in every_call():
-        number = (signal.SIGTERM, signal.SIGINT, signal.SIGHUP, signal.SIGQUIT)[k % 4]
+        number = INTERRUPTS[k % 4]
         with edit.prepared() as table:
-            run = edit.start(table, f"before:{int(number)}:{k}")
+            run = edit.start(table, f"before:{int(number)}:{k}", preexec_fn=heard)
             assert edit.clean(table), (edit.words, k, run)
             if k >= edit.begun_at():
                 assert run.status == 0 and edit.done(table) and bool(run.out) == edit.drawn, (edit.words, k, run)
