@@ -1,6 +1,6 @@
 -- Step 1: a ClientHello (document 01, "The server's steps"; RFC 5246, sections 7.4.1.2 and 7.4.1.3).
 use Prim.Native.Nat.{ℕ}
-use mathlib.Core.Bool.{Bool, true, false, cond, not, _||_}
+use mathlib.Core.Bool.{Bool, false, cond, not, _||_}
 use mathlib.Core.List.{List, [], _∷_, _++_}
 use mathlib.Core.Option.{Option, none, some}
 use lib.Dec.{ltb, eqb}

@@ -4,7 +4,6 @@ ghost use mathlib.Core.List.{List};
 ghost use Prim.Native.Nat.{ℕ, _+_, _≤_};
 ghost use lib.ListN.{length, take};
 ghost use Rattle.hellos.specs.ClientHello.{clientBody, clientFields};
-ghost use Rattle.messages.specs.Fixed.{serverHelloDone};
 ghost use Rattle.server.specs.Connection.{hintOf};
 ghost use Rattle.server.specs.Flight.{flightBytes, joined};
 ghost use Rattle.server.specs.Step.{accept};

@@ -7,7 +7,7 @@ use Prim.Native.Nat.{ℕ, _-_, _≤_}
 use native.Mathlib.Omega.{arith}
 use native.Mathlib.Decide.{decLe}
 use mathlib.Core.Bool.{Bool, true, false, cond}
-use mathlib.Core.List.{List, []}
+use mathlib.Core.List.{List}
 use mathlib.Core.Option.{Option, none, some}
 use lib.ListN.{length, replicate}
 use lib.Seq.{take-append-seam}
@@ -25,7 +25,7 @@ use Rattle.server.specs.declared.Rule.{Rule}
 use Rattle.server.specs.declared.Phase.{Phase}
 use Rattle.server.specs.declared.Connection.{Connection}
 use Rattle.server.specs.Connection.{Settings, ruleOf, started, ended, hintOf}
-use Rattle.server.specs.Flight.{Flight, silence}
+use Rattle.server.specs.Flight.{silence}
 use Rattle.server.specs.Step.{Step, refuse, accept, settled}
 use Rattle.server.specs.KeyExchange.{View, afterKeys, keyFound, keyIdentity}
 use Rattle.server.specs.Hello.{chosen, offersNull, flight, flightFor, afterHello, helloChosen, helloFields}

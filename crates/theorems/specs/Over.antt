@@ -9,7 +9,6 @@ use Rattle.refusal.specs.declared.Written.the-variants.{Refused}
 use Rattle.server.specs.declared.Connection.{Connection}
 use Rattle.server.specs.Connection.{isOver}
 use Rattle.server.specs.KeyExchange.{View}
-use Rattle.server.specs.Step.{Settled}
 use Rattle.theorems.specs.Series.{Call, message, changeOfCipher, alert, call}
 
 -- the output that a call is lent

@@ -1,7 +1,6 @@
 -- `extensions::nearer`: each return is a case of the two tests.
 -- Assumes nothing.
 use borrow.Author.Tests.{lt-ltb, le-ltb}
-use Prim.Native.Nat.{_<_}
 use native.Mathlib.Omega.{arith}
 use mathlib.Core.Bool.{and-false}
 use Rattle.extensions.proofs.nearer.Statement.{statement}

@@ -1,7 +1,7 @@
 -- `c_interface::connection::tn_message` meets its contract: what `server::message` replied, kept, and the master secret where one is handed over.
 -- Assumes nothing.
 use borrow.Author.Needs.{needs}
-use mathlib.Core.Path.{_≡_, sym, ap, subst, _∙_}
+use mathlib.Core.Path.{_≡_, ap, _∙_}
 use mathlib.Core.Logic.{⊎-elim}
 use mathlib.Core.List.{List}
 use mathlib.Core.Option.{Option}

@@ -5,7 +5,6 @@ use Rattle.layout.specs.declared.Verdict.the-variants.{Accepted}
 use Rattle.server.specs.declared.Phase.{Phase}
 use Rattle.server.specs.KeyExchange.{viewOf}
 use Rattle.server.specs.Message.{awaited, headerTest, bodyStep}
-use Rattle.server.specs.Step.{Step}
 use Rattle.server.proofs.Decisions.{same-step}
 use borrow.Author.Needs.{needs}
 use Rattle.server.proofs.calls.body.Statement.{statement}

@@ -1,7 +1,6 @@
 -- `server::calls::test_header` meets its contract: by what is awaited, and where nothing is, by the message's length.
 -- Assumes nothing.
 use mathlib.Core.Path.{_≡_, sym, _∙_}
-use Prim.Native.Nat.{ℕ}
 use mathlib.Core.Option.{none}
 use lib.ListN.{length}
 use borrow.Author.Tests.{lt-ltb, le-ltb}

@@ -1,6 +1,6 @@
 -- `server::calls::with_master` meets its contract: by what was decided.
 -- Assumes nothing.
-use mathlib.Core.Path.{_≡_, sym, ap, _∙_}
+use mathlib.Core.Path.{sym, ap, _∙_}
 use Rattle.layout.specs.declared.Verdict.{Verdict}
 use Rattle.server.specs.declared.Phase.{Phase}
 use Rattle.server.specs.Message.{handedOver, withMaster}

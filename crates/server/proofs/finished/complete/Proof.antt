@@ -2,7 +2,7 @@
 -- Assumes nothing.
 use mathlib.Core.Path.{_≡_, refl, sym, ap, _∙_}
 use lib.ListN.{length}
-use Rattle.refusal.specs.Lent.{Outcome, gives}
+use Rattle.refusal.specs.Lent.{Outcome}
 use Rattle.refusal.proofs.Laws.{sized-gives, sized-refuses}
 use Rattle.sha256.specs.State.{absorb}
 use Rattle.keys.specs.declared.Side.the-variants.{Server}

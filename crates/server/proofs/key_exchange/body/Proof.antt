@@ -1,6 +1,6 @@
 -- `server::key_exchange::body` meets its contract: the table's own refusal comes before the identity.
 -- Assumes nothing.
-use mathlib.Core.Path.{_≡_, sym, _∙_}
+use mathlib.Core.Path.{sym, _∙_}
 use Rattle.keytable.specs.Table.{tableRefusal}
 use Rattle.server.proofs.Values.{not-refused, refused-itself}
 use borrow.Author.Needs.{needs}

@@ -1,6 +1,6 @@
 -- `server::step::settle` meets its contract: by what was decided.
 -- Assumes nothing.
-use mathlib.Core.Path.{_≡_, ap}
+use mathlib.Core.Path.{ap}
 use Rattle.layout.specs.declared.Verdict.{Verdict}
 use Rattle.server.specs.Inner.{decidedBy}
 use Rattle.server.proofs.Decisions.{same-does, refused-does}
