@@ -135,7 +135,7 @@ struct bytes drawn_block(size_t slot, size_t most)
     bool many = once_in(16), clash = once_in(6);
     for (size_t i = 0, count = many ? 5000 : below(12); i < count; i++) {
         size_t type = clash ? below(40) : (first + i * 7) % 65536, size = many ? 0 : below(longest + 1);
-        if (once_in(10))
+        if (once_in(many ? 5000 : 10)) /* seldom twice, which is refused */
             type = 35;
         if (n + 4 + size > most)
             break;
@@ -180,7 +180,7 @@ struct bytes drawn_hello(struct hello *h, bool of_client)
     h->suite = (uint32_t)(once_in(10) ? draw() : below(65536));
     h->compression = (uint8_t)draw();
     h->present = once_in(2);
-    h->block = drawn_block(4, once_in(6) ? 66000 : 16340);
+    h->block = drawn_block(4, once_in(6) ? 66000 : between(16100, 16340));
     return composed(h, of_client);
 }
 
