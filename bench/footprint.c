@@ -15,8 +15,8 @@ void (*const volatile footprint[])(void) = {
     CALL(tn_write_client_hello), CALL(tn_write_server_hello), CALL(tn_write_server_key_exchange), CALL(tn_write_client_key_exchange),
     CALL(tn_write_server_hello_done), CALL(tn_write_finished), CALL(tn_write_new_session_ticket), CALL(tn_write_extension), CALL(tn_write_ticket_extension),
     CALL(tn_read_client_hello), CALL(tn_read_server_hello), CALL(tn_read_server_key_exchange), CALL(tn_read_client_key_exchange), CALL(tn_read_finished),
-    CALL(tn_read_server_hello_done), CALL(tn_read_new_session_ticket), CALL(tn_next_extension), CALL(tn_read_ticket_extension), CALL(tn_table_lookup),
-    CALL(tn_table_add), CALL(tn_table_replace), CALL(tn_table_retire), CALL(tn_valid_utf8),
+    CALL(tn_read_server_hello_done), CALL(tn_read_new_session_ticket), CALL(tn_next_extension), CALL(tn_table_lookup), CALL(tn_table_add),
+    CALL(tn_table_replace), CALL(tn_table_retire), CALL(tn_valid_utf8),
 #endif
     0,
 };

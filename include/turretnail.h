@@ -310,14 +310,14 @@ int32_t tn_finished(uint8_t side, const uint8_t *master, size_t master_len, cons
 
 /*
  * ClientHello. TN_R5: version over 65,535; a random of other than 32 bytes; a session id over 32; suites of an odd length, fewer than 2 bytes or over 65,535;
- * no method or over 255; a block that is no sequence of extensions, has one type twice or SessionTicket data that is no ticket vector.
+ * no method or over 255; a block that is no sequence of extensions or has one type twice. The extensions' data may be any bytes.
  * Without `present` there is no extension block, and `block` is not looked at; with it and no bytes there is an empty one. These are different messages.
  */
 int32_t tn_write_client_hello(uint32_t version, const uint8_t *random, size_t random_len, const uint8_t *session_id, size_t session_id_len,
                               const uint8_t *suites, size_t suites_len, const uint8_t *methods, size_t methods_len, bool present, const uint8_t *block,
                               size_t block_len, uint8_t *out, size_t out_len);
 
-/* ServerHello. TN_R5: as above where it applies, and a suite over 65,535; SessionTicket data may have any shape. */
+/* ServerHello. TN_R5: as above where it applies, and a suite over 65,535. */
 int32_t tn_write_server_hello(uint32_t version, const uint8_t *random, size_t random_len, const uint8_t *session_id, size_t session_id_len, uint32_t suite,
                               uint8_t compression, bool present, const uint8_t *block, size_t block_len, uint8_t *out, size_t out_len);
 
@@ -337,7 +337,8 @@ int32_t tn_write_new_session_ticket(uint32_t lifetime_hint, const uint8_t *ticke
 /* One extension, to be put in a block: type and data with a 2-byte length. TN_R5: a type or a length over 65,535. */
 int32_t tn_write_extension(uint32_t kind, const uint8_t *contents, size_t contents_len, uint8_t *out, size_t out_len);
 
-/* A SessionTicket extension, type 35, whose data is a ticket with a 2-byte length of its own. TN_R5: a ticket over 65,533 bytes. */
+/* A SessionTicket extension, type 35 (RFC 5077 section 3.2): its data is the ticket itself, and an empty ticket gives `00 23 00 00`. TN_R5: a ticket over
+ * 65,535 bytes. */
 int32_t tn_write_ticket_extension(const uint8_t *ticket, size_t ticket_len, uint8_t *out, size_t out_len);
 
 /* ==== Messages: reading ====================================================================================================================== */
@@ -370,12 +371,9 @@ int32_t tn_read_new_session_ticket(const uint8_t *message, size_t message_len, u
 /*
  * The extension that starts at `at` of a block: alert 50 where the block has over 65,535 bytes, wherever `at` is; else 1 and fields[0] its type, [1] and [2]
  * start and length of its data; 0 at the block's end or past it; alert 50 where the extension is cut short. Without a 1 `fields` stays as it was. To go
- * through a block begin at 0, and go on at fields[1] + fields[2].
+ * through a block begin at 0, and go on at fields[1] + fields[2]. The data of a SessionTicket extension, type 35, is the ticket itself.
  */
 int32_t tn_next_extension(const uint8_t *block, size_t block_len, size_t at, uint32_t fields[3]);
-
-/* The ticket in the data of a SessionTicket extension: start and length. */
-int32_t tn_read_ticket_extension(const uint8_t *contents, size_t contents_len, uint32_t fields[2]);
 
 /* ==== The key table ========================================================================================================================== */
 

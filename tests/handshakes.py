@@ -101,12 +101,10 @@ def read_block(block):
     seen = set()
     while block:
         kind, block = take(block, 2)
-        data, block = take_vector(block, 2)
+        _, block = take_vector(block, 2)
         if kind in seen:
             raise Refuse("alert 50")
         seen.add(kind)
-        if kind == b"\x00\x23" and take_vector(data, 2)[1]:
-            raise Refuse("alert 50")
 
 
 class Server:
@@ -266,11 +264,11 @@ def drawn(name, n=32):
     return hashlib.shake_256(name.encode()).digest(n)
 
 
-def whole(s, name, suites=EVERY, hint=b"", rule=NOTHING, identity=b"gate7"):
+def whole(s, name, suites=EVERY, hint=b"", rule=NOTHING, identity=b"gate7", block=None):
     """A handshake as far as the server's Finished, with calls on the finished connection after it."""
     server, client = drawn("server " + name), drawn("client " + name)
     s.start(server, hint, rule)
-    s.message(hello(client, suites), 60 if len(hint) <= 8 else 181)
+    s.message(hello(client, suites, block=block), 60 if len(hint) <= 8 else 181)
     s.message(exchange(identity))
     s.key_block([x for x in SUITES if x in suites][0], server, client)
     s.change()
@@ -287,6 +285,8 @@ def handshakes(s):
                 whole(s, "%r %r %d" % (suites, hint, rule), suites, hint, rule)
     for identity in KEYS:
         whole(s, repr(identity), identity=identity)
+    for block in (b"", extension(35), extension(23) + extension(35, b"ticket")):
+        whole(s, repr(block), block=block)
 
 
 def unlisted(s):
@@ -343,6 +343,9 @@ def hellos(s):
               hello(random, version=0x0302), hello(random, version=0x0304), hello(random, version=0x02FF), hello(random, methods=b""),
               hello(random, block=b""), hello(random, block=extension(23) + extension(35, b"\0\0")), hello(random, block=extension(35)),
               hello(random, block=extension(35, b"\0\x01")), hello(random, block=extension(23) + extension(10) + extension(23)),
+              hello(random, block=extension(35, b"ticket")), hello(random, block=extension(35, b"\0\x06ticket") + extension(23)),
+              hello(random, block=extension(35) + extension(35)),
+              hello(random, block=extension(35, b"ticket") + extension(23) + extension(35, b"\0\0")),
               hello(random, session=bytes(32)), hello(random, session=bytes(33)), hello(random) + b"\0",
               hello(random, version=0x0302, methods=b"\x01", suites=(1,)), hello(random, methods=b"\x01", suites=(1,)),
               hello(random, suites=(0xAE00, 0x8C00, 0xB000)), hello(random, block=b"".join(extension(1000 + i) for i in range(1500)))):

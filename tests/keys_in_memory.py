@@ -167,7 +167,7 @@ def cbc_session(g, suite, name, key):
     """A session of OpenSSL's client, which tells the master secret and the server's random."""
     with tempfile.TemporaryDirectory() as folder:
         log = pathlib.Path(folder) / "log"
-        words = ["openssl", "s_client", "-connect", f"127.0.0.1:{g.port}", "-tls1_2", "-no_ticket", "-legacy_server_connect", "-psk_identity", name, "-psk",
+        words = ["openssl", "s_client", "-connect", f"127.0.0.1:{g.port}", "-tls1_2", "-legacy_server_connect", "-psk_identity", name, "-psk",
                  key.hex(), "-cipher", f"{suite}:@SECLEVEL=0", "-msg", "-keylogfile", log]
         done = subprocess.run(words, input=b"", capture_output=True, timeout=LIMIT)
         client, master = (bytes.fromhex(x) for x in log.read_text().split()[-2:])

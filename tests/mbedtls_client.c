@@ -47,7 +47,6 @@ static void set_up(const char *suite, const char *identity, const char *hex)
     mbedtls_ssl_conf_rng(&config, mbedtls_ctr_drbg_random, &random_source);
     mbedtls_ssl_conf_min_version(&config, MBEDTLS_SSL_MAJOR_VERSION_3, MBEDTLS_SSL_MINOR_VERSION_3);
     mbedtls_ssl_conf_max_version(&config, MBEDTLS_SSL_MAJOR_VERSION_3, MBEDTLS_SSL_MINOR_VERSION_3);
-    mbedtls_ssl_conf_session_tickets(&config, MBEDTLS_SSL_SESSION_TICKETS_DISABLED);
     mbedtls_ssl_conf_ciphersuites(&config, suites);
     mbedtls_ssl_conf_read_timeout(&config, 5000);
     must(mbedtls_ssl_conf_psk(&config, key, n, (const unsigned char *)identity, strlen(identity)), "the key");

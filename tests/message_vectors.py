@@ -1,10 +1,11 @@
 """The input and the expected output of crates/message_vectors, from a parser and a writer that are written here.
 
-  message_vectors.py stdin    messages, fields for the writers, and the data of ticket extensions
+  message_vectors.py stdin    messages, and fields for the writers
   message_vectors.py stdout   what the program has to print of them
 
-The messages: document 01's V3 to V8, recordings of OpenSSL (tests/recorded, made by
-record_messages.py), messages at the limits, and damaged variants of all of these.
+The messages: document 01's V3 to V8, recordings of OpenSSL's and GnuTLS's clients (tests/recorded, made
+by record_messages.py), messages at the limits, and damaged variants of all of these. A SessionTicket
+extension is RFC 5077's: its data is the ticket, of any bytes.
 """
 import glob, os, random, sys
 
@@ -12,6 +13,18 @@ from calls import field, literal, number, series, shown
 
 HERE = os.path.dirname(os.path.abspath(__file__))
 LIMIT = 16384
+
+# the recordings, and what the SessionTicket extension of the client has in each
+RECORDED = {
+    "gnutls": "nothing",
+    "gnutls_again": "a ticket",
+    "gnutls_no_hint": "nothing",
+    "gnutls_no_ticket": "absent",
+    "openssl": "nothing",
+    "openssl_again": "a ticket",
+    "openssl_no_hint": "nothing",
+    "openssl_no_ticket": "absent",
+}
 
 
 def message(kind, body):
@@ -36,6 +49,10 @@ def extension(kind, data=b""):
     return kind.to_bytes(2, "big") + vector(2, data)
 
 
+# data as RFC 4507 had it, a length of its own in front of the ticket, and with a byte too many: tickets like any other now
+OLD_TICKETS = vector(2, b"\xaa"), vector(2, b"\xaa") + b"\xbb"
+
+
 def base():
     yield bytes.fromhex("1000000700056761746537")  # V3
     yield bytes.fromhex("100000020000")  # V4
@@ -49,9 +66,16 @@ def base():
     yield server()
     yield server(session=bytes(32), block=b"")
     yield server(block=extension(35) + extension(23))
-    for path in sorted(glob.glob(os.path.join(HERE, "recorded", "*.hex"))):
-        for line in open(path):
-            yield bytes.fromhex(line)
+    yield from recorded()
+
+
+def recorded():
+    """The messages of the recordings, each once; no recording has lost the extension that it was made for."""
+    paths = sorted(glob.glob(os.path.join(HERE, "recorded", "*.hex")))
+    made = {os.path.basename(path)[:-4]: [bytes.fromhex(line) for line in open(path)] for path in paths}
+    found = {name: ticket_in(messages[0]) for name, messages in made.items()}
+    assert found == RECORDED, f"the ticket extensions of tests/recorded: {found}"
+    return dict.fromkeys(m for messages in made.values() for m in messages)
 
 
 def special():
@@ -61,11 +85,15 @@ def special():
     yield client(suites=b"\x00\xae\x00")
     yield client(methods=b"")
     yield client(version=0x0302)
-    yield client(block=extension(35))
-    yield client(block=extension(35, b"\x00\x01"))
-    yield client(block=extension(35, b"\x00\x01\xaa"))
-    yield client(block=extension(35, b"\x00\x01\xaa\xbb"))
-    for first, second in ((0, 0), (1023, 1024), (1024, 1024), (65535, 65535), (64512, 64512), (5, 1029), (65535, 64511)):
+    for data in (b"", b"\x00", b"\x00\x00", b"\x00\x01", b"\xff\xff", b"ticket", *OLD_TICKETS, bytes(range(256))):
+        yield client(block=extension(35, data))
+        yield server(block=extension(35, data))
+    for size in (LIMIT - 51, LIMIT - 50):  # the longest ticket of a ClientHello
+        yield client(block=extension(35, bytes(size)))
+    for data in (b"", b"ticket", *OLD_TICKETS):
+        yield client(block=extension(35, data) + extension(35, data))
+        yield client(block=extension(35) + extension(23) + extension(35, data))
+    for first, second in ((0, 0), (35, 35), (1023, 1024), (1024, 1024), (65535, 65535), (64512, 64512), (5, 1029), (65535, 64511)):
         pair = extension(first, b"\x01") + extension(7000) + extension(second)
         yield client(block=pair)
         yield server(block=pair)
@@ -149,22 +177,35 @@ def one_vector_at(r):
     return f"{at} {len(data)}"
 
 
-def block(r, is_client):
+def extensions(contents):
+    """The extensions of a block, data by type: whole ones, no type twice, and any data."""
+    inner, found = Reader(contents), {}
+    while inner.at < len(contents):
+        kind = inner.number(2)
+        _, data = inner.vector(2)
+        if kind in found:
+            raise Refused
+        found[kind] = data
+    return found
+
+
+def block(r):
     if r.at == len(r.data):
         return "absent"
     _, contents = r.vector(2)
     r.end()
-    inner, seen, text = Reader(contents), set(), ""
-    while inner.at < len(contents):
-        kind = inner.number(2)
-        _, data = inner.vector(2)
-        if kind in seen:
-            raise Refused
-        seen.add(kind)
-        if is_client and kind == 35:
-            one_vector_at(Reader(data))
-        text += f" {kind} {len(data)}"
-    return text.strip()
+    return " ".join(f"{kind} {len(data)}" for kind, data in extensions(contents).items())
+
+
+def ticket_in(hello):
+    """What a ClientHello, which has a block, has in its SessionTicket extension."""
+    r = body(hello, 1)
+    r.take(34)
+    for width in (1, 2, 1):  # session id, suites, methods
+        r.vector(width)
+    _, contents = r.vector(2)
+    data = extensions(contents).get(35)
+    return "absent" if data is None else "a ticket" if data else "nothing"
 
 
 def client_hello(m):
@@ -180,7 +221,7 @@ def client_hello(m):
     methods_at, methods = r.vector(1)
     if not methods:
         raise Refused
-    return f"{version} {len(session)} {suites_at} {len(suites)} {methods_at} {len(methods)} {block(r, True)}"
+    return f"{version} {len(session)} {suites_at} {len(suites)} {methods_at} {len(methods)} {block(r)}"
 
 
 def server_hello(m):
@@ -191,7 +232,7 @@ def server_hello(m):
     if len(session) > 32:
         raise Refused
     suite, compression = r.number(2), r.number(1)
-    return f"{version} {len(session)} {suite} {compression} {block(r, False)}"
+    return f"{version} {len(session)} {suite} {compression} {block(r)}"
 
 
 def ticket(m):
@@ -243,8 +284,8 @@ def line(m):
 
 
 CLIENT, SERVER, TICKET, HINT, DONE, IDENTITY, FINISHED = 3, 2, 4, 12, 14, 16, 20
-EXTENSION, TICKET_DATA, TICKET_EXTENSION = 5, 6, 35
-TWICE, EMPTY_TICKET = extension(23) + extension(23), extension(35)
+EXTENSION, TICKET_EXTENSION = 5, 35
+TWICE, TWO_TICKETS, EMPTY_TICKET = extension(23) + extension(23), extension(35) + extension(35, b"ticket"), extension(35)
 
 
 def allow(condition):
@@ -257,21 +298,21 @@ def limited(m):
     return m
 
 
-def allow_block(contents, is_client):
+def allow_block(contents):
     """A hello may carry the blocks that its reader takes."""
     if contents is not None:
-        block(Reader(vector(2, contents)), is_client)
+        extensions(contents)
 
 
 def write_client(version, sizes, contents):
     random_size, session, suites, methods = sizes
     allow(random_size == 32 and session <= 32 and suites >= 2 and suites % 2 == 0 and methods >= 1)
-    allow_block(contents, True)
+    allow_block(contents)
     return limited(client(bytes(session), bytes(suites), bytes(methods), contents, version))
 
 
 def write_server(suite, contents):
-    allow_block(contents, False)
+    allow_block(contents)
     return limited(server(block=contents, suite=suite))
 
 
@@ -327,16 +368,7 @@ def any_extension(kind, size, room):
 def ticket_extension(size, room):
     """The writer of a SessionTicket extension, for a ticket of so many bytes 07, 08, .."""
     data = series(7, 1, size)
-    return writer(TICKET_EXTENSION, room, data), answer(lambda: extension(35, vector(2, shown(data))), room, 8)
-
-
-def ticket_data(data):
-    """The reader of such an extension's data."""
-    try:
-        said = one_vector_at(Reader(data))
-    except Refused:
-        said = "50"
-    return bytes((TICKET_DATA,)) + field(literal(data)), " " + said
+    return writer(TICKET_EXTENSION, room, data), answer(lambda: extension(35, shown(data)), room, 8)
 
 
 # The calls beside the messages: each is its input and the line that it has to give.
@@ -361,12 +393,15 @@ CALLS = [
     hello(CLIENT, 771, sizes=(32, 0, 16342, 1)),
     hello(CLIENT, 771, sizes=(32, 0, 16340, 1)),
     hello(CLIENT, 771, block=TWICE),
+    hello(CLIENT, 771, block=TWO_TICKETS),
     hello(CLIENT, 771, block=EMPTY_TICKET),
+    *(hello(CLIENT, 771, block=extension(35, data)) for data in OLD_TICKETS),
     hello(CLIENT, 771, room=44),
     hello(CLIENT, 771, room=45),
     hello(SERVER, 65536),
     hello(SERVER, 174, block=TWICE),
     hello(SERVER, 174, room=41),
+    hello(SERVER, 174, block=TWO_TICKETS),
     hello(SERVER, 174, block=EMPTY_TICKET),
     any_extension(0, 0, 4),
     any_extension(0, 0, 3),
@@ -382,24 +417,18 @@ CALLS = [
     any_extension(65535, 65536, 16400),
     any_extension(65536, 0, 16400),
     any_extension(65536, 0, 0),
-    ticket_extension(0, 6),
-    ticket_extension(0, 5),
+    ticket_extension(0, 4),
+    ticket_extension(0, 3),
+    ticket_extension(1, 5),
+    ticket_extension(1, 4),
     ticket_extension(1, 16400),
-    ticket_extension(256, 262),
-    ticket_extension(256, 261),
-    ticket_extension(16000, 16006),
-    ticket_extension(16000, 16005),
-    ticket_extension(65533, 16400),
-    ticket_extension(65534, 0),
-    ticket_data(b""),
-    ticket_data(b"\x00"),
-    ticket_data(b"\x00\x00"),
-    ticket_data(b"\x00\x01"),
-    ticket_data(b"\x00\x01\xaa"),
-    ticket_data(b"\x00\x01\xaa\xbb"),
-    ticket_data(b"\x01\x00\xaa"),
-    ticket_data(vector(2, bytes(258))),
-    ticket_data(b"\xff\xff"),
+    ticket_extension(256, 260),
+    ticket_extension(256, 259),
+    ticket_extension(16000, 16004),
+    ticket_extension(16000, 16003),
+    ticket_extension(65535, 16400),
+    ticket_extension(65536, 16400),
+    ticket_extension(65536, 0),
 ]
 
 

@@ -128,9 +128,9 @@ class Client:
         value = prf(self.master, b"server finished", hashlib.sha256(self.transcript).digest(), 12)
         assert self.receive() == (HANDSHAKE, message(20, value)), "the server's Finished is wrong"
 
-    def handshake(self, piece=16384):
+    def handshake(self, piece=16384, block=None):
         """A whole handshake, in records of at most so many bytes."""
-        self.send(HANDSHAKE, self.said(self.hello()), piece)
+        self.send(HANDSHAKE, self.said(self.hello(block=block)), piece)
         self.flight()
         self.send(HANDSHAKE, self.said(self.key_exchange()), piece)
         self.change()

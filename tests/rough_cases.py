@@ -216,6 +216,23 @@ def longest_message():
         g.line("complete", "gate7", NULL)
 
 
+def ticket(data):
+    """A SessionTicket extension."""
+    return b"\0\x23" + len(data).to_bytes(2, "big") + data
+
+
+@case("a ticket of any bytes is passed over, with a length of its own in front of it or not; two are alert 50")
+def any_ticket():
+    with gateway() as g:
+        for data in (b"", b"\0", b"\0\0", b"\0\x06ticket", b"ticket", b"\xff" * 16000):
+            plain(g).handshake(block=ticket(data)).bye()
+            g.line("complete", "gate7", NULL)
+        for data in (b"", b"ticket"):
+            c = plain(g)
+            c.send(HANDSHAKE, c.hello(block=ticket(data) + ticket(b"")))
+            fatal(g, c, 50)
+
+
 @case("messages in records of one byte each")
 def one_byte_records():
     with gateway("--hint", "barn") as g:

@@ -121,7 +121,7 @@ static size_t put_extension(uint8_t *at, size_t type, size_t n)
     at[2] = (uint8_t)(n >> 8);
     at[3] = (uint8_t)n;
     draw_bytes(at + 4, n);
-    if (type == 35 && n >= 2 && !once_in(8)) {
+    if (type == 35 && n >= 2 && once_in(2)) { /* a length of its own in front of the ticket, as RFC 4507 had it: data like any other */
         at[4] = (uint8_t)((n - 2) >> 8);
         at[5] = (uint8_t)(n - 2);
     }
@@ -180,7 +180,7 @@ struct bytes drawn_hello(struct hello *h, bool of_client)
     h->suite = (uint32_t)(once_in(10) ? draw() : below(65536));
     h->compression = (uint8_t)draw();
     h->present = once_in(2);
-    h->block = drawn_block(4, once_in(6) ? 66000 : between(16100, 16340));
+    h->block = drawn_block(4, once_in(6) ? 66000 : between(16100, 16340)); /* full, it has room in a message or just not */
     return composed(h, of_client);
 }
 

@@ -40,7 +40,7 @@ build/fuzz/replay: tests/fuzz/target.c $(FUZZ_MODELS) $(FUZZ_HEADERS) $(LIBRARY)
 	@mkdir -p build/fuzz
 	@$(CC) $(FUZZ_FLAGS) -fsanitize=address,undefined $(filter %.c,$^) $(LIBRARY) -lcrypto -o $@
 
-build/fuzz/seeds: tests/fuzz/seeds.py tests/handshakes.py
+build/fuzz/seeds: tests/fuzz/seeds.py tests/handshakes.py $(wildcard tests/recorded/*.hex)
 	@rm -rf $@
 	@mkdir -p $@
 	@python3 tests/fuzz/seeds.py $@

@@ -45,8 +45,6 @@ void compare_readers(struct bytes m)
     compare_reader("tn_read_finished", tn_read_finished, m, 2, good, f);
     good = model_read_new_session_ticket(m, f);
     compare_reader("tn_read_new_session_ticket", tn_read_new_session_ticket, m, 3, good, f);
-    good = model_read_ticket_extension(m, f);
-    compare_reader("tn_read_ticket_extension", tn_read_ticket_extension, m, 2, good, f);
     compare_reader("tn_read_server_hello_done", read_done, m, 0, model_read_server_hello_done(m), f);
 }
 
@@ -133,7 +131,7 @@ static void compare_write_tickets(void)
     t = lend(ticket);
     out = lend_room(drawn_room(wanted.said));
     settle(tn_write_extension(kind, t->bytes, t->n, out->bytes, out->n), out, &wanted);
-    ticket = drawn(0, draw_length(once_in(4) ? 65533 : 60, 66000));
+    ticket = drawn(0, draw_length(once_in(4) ? 65535 : 60, 66000));
     model_write_ticket_extension(ticket, &wanted);
     begin("tn_write_ticket_extension");
     t = lend(ticket);
@@ -143,16 +141,15 @@ static void compare_write_tickets(void)
 
 /* ---- a round */
 
-/* A short message of one of the other kinds, or the data of a SessionTicket extension. */
+/* A short message of one of the other kinds. */
 static struct bytes drawn_short(void)
 {
     struct bytes contents = drawn(0, once_in(2) ? 12 : draw_length(12, once_in(4) ? 16400 : 40));
-    switch (below(6)) {
+    switch (below(5)) {
     case 0: model_write_new_session_ticket((uint32_t)draw(), contents, &wanted); break;
     case 1: model_write_key_exchange(12, contents, &wanted); break;
     case 2: model_write_key_exchange(16, contents, &wanted); break;
     case 3: compose_message(20, contents, &wanted); break;
-    case 4: model_write_ticket_extension(contents, &wanted); return copied(MESSAGE, (struct bytes){wanted.bytes + 4, contents.n + 2});
     default: compose_message(14, (struct bytes){contents.at, once_in(2) ? 0 : contents.n}, &wanted);
     }
     return wanted.said < 0 ? drawn(MESSAGE, below(40)) : copied(MESSAGE, (struct bytes){wanted.bytes, (size_t)wanted.said});

@@ -52,7 +52,6 @@ static const struct {
     {"tn_read_server_hello_done", {0, ALERT(50), 99}},
     {"tn_read_new_session_ticket", {0, ALERT(50), 99}},
     {"tn_next_extension", {0, 1, ALERT(50), 99}},
-    {"tn_read_ticket_extension", {0, ALERT(50), 99}},
     {"tn_table_test", {0, TN_R2, 99}},
     {"tn_table_lookup", {1, 2, TN_R1, ALERT(115), 99}},
     {"tn_table_add", {2, TN_R1, TN_R2, TN_R5, TN_R6, TN_R8, 99}},

@@ -52,7 +52,6 @@ bool model_read_key_exchange(uint8_t type, struct bytes message, uint32_t fields
 bool model_read_server_hello_done(struct bytes message);
 bool model_read_finished(struct bytes message, uint32_t fields[2]);
 bool model_read_new_session_ticket(struct bytes message, uint32_t fields[3]);
-bool model_read_ticket_extension(struct bytes contents, uint32_t fields[2]);
 int32_t model_next_extension(struct bytes block, size_t at, uint32_t fields[3]);
 
 /* ---- the key table (model_table.c) */

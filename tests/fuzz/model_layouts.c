@@ -1,4 +1,7 @@
-/* The message layouts a second time, written from document 01, "Message layouts": readers that eat a body from its front, writers that grow one. */
+/*
+ * The message layouts a second time, written from document 01, "Message layouts", the ticket extension from RFC 5077: readers that eat a body from
+ * its front, writers that grow one.
+ */
 #include "model.h"
 
 #include <string.h>
@@ -154,23 +157,16 @@ static struct eating opened(uint8_t type, struct bytes message)
     return e;
 }
 
-static bool is_ticket_vector(struct bytes data)
-{
-    struct eating e = {data, 0, false};
-    eat_vector(&e, 2);
-    return at_end(&e);
-}
-
-/* A sequence of extensions, none with another's type; a client's SessionTicket holds a ticket. */
-static bool is_block(struct bytes block, bool of_client)
+/* A sequence of extensions, none with another's type; any data will do. */
+static bool is_block(struct bytes block)
 {
     static uint8_t seen[65536];
     struct eating e = {block, 0, false}, again;
     bool good = true;
     while (good && !at_end(&e)) {
         uint32_t type = eat_number(&e, 2);
-        struct bytes data = eat_vector(&e, 2);
-        good = !e.bad && !seen[type] && !(of_client && type == 35 && !is_ticket_vector(data));
+        eat_vector(&e, 2);
+        good = !e.bad && !seen[type];
         seen[type] = 1;
     }
     for (again = (struct eating){block, 0, false}; !again.bad && !at_end(&again); eat_vector(&again, 2))
@@ -180,7 +176,7 @@ static bool is_block(struct bytes block, bool of_client)
 }
 
 /* The end of a hello: nothing, or an extension block. fields: present, start, length. */
-static bool eat_extensions(struct eating *e, bool of_client, uint32_t fields[3])
+static bool eat_extensions(struct eating *e, uint32_t fields[3])
 {
     memset(fields, 0, 3 * sizeof fields[0]);
     if (at_end(e))
@@ -188,7 +184,7 @@ static bool eat_extensions(struct eating *e, bool of_client, uint32_t fields[3])
     struct bytes block = eat_vector(e, 2);
     fields[0] = 1;
     place(e->whole, block, fields + 1);
-    return at_end(e) && is_block(block, of_client);
+    return at_end(e) && is_block(block);
 }
 
 bool model_read_client_hello(struct bytes message, uint32_t fields[9])
@@ -202,7 +198,7 @@ bool model_read_client_hello(struct bytes message, uint32_t fields[9])
     fields[1] = (uint32_t)session_id.n;
     place(message, suites, fields + 2);
     place(message, methods, fields + 4);
-    return eat_extensions(&e, true, fields + 6);
+    return eat_extensions(&e, fields + 6);
 }
 
 bool model_read_server_hello(struct bytes message, uint32_t fields[7])
@@ -214,7 +210,7 @@ bool model_read_server_hello(struct bytes message, uint32_t fields[7])
     fields[1] = (uint32_t)session_id.n;
     fields[2] = eat_number(&e, 2);
     fields[3] = eat_number(&e, 1);
-    return !e.bad && session_id.n <= 32 && eat_extensions(&e, false, fields + 4);
+    return !e.bad && session_id.n <= 32 && eat_extensions(&e, fields + 4);
 }
 
 bool model_read_key_exchange(uint8_t type, struct bytes message, uint32_t fields[2])
@@ -245,13 +241,6 @@ bool model_read_new_session_ticket(struct bytes message, uint32_t fields[3])
     return at_end(&e);
 }
 
-bool model_read_ticket_extension(struct bytes contents, uint32_t fields[2])
-{
-    struct eating e = {contents, 0, false};
-    place(contents, eat_vector(&e, 2), fields);
-    return at_end(&e);
-}
-
 int32_t model_next_extension(struct bytes block, size_t at, uint32_t fields[3])
 {
     if (block.n > 65535)
@@ -266,21 +255,21 @@ int32_t model_next_extension(struct bytes block, size_t at, uint32_t fields[3])
 
 /* ---- writers: what the layout forbids, then the bytes */
 
-static bool hello_forbidden(const struct hello *h, bool of_client)
+static bool hello_forbidden(const struct hello *h)
 {
-    return h->version > 65535 || h->random.n != 32 || h->session_id.n > 32 || (h->present && (h->block.n > 65535 || !is_block(h->block, of_client)));
+    return h->version > 65535 || h->random.n != 32 || h->session_id.n > 32 || (h->present && (h->block.n > 65535 || !is_block(h->block)));
 }
 
 void model_write_client_hello(const struct hello *h, struct answer *a)
 {
     bool suites = h->suites.n >= 2 && h->suites.n <= 65535 && h->suites.n % 2 == 0, methods = h->methods.n >= 1 && h->methods.n <= 255;
-    if (hello_forbidden(h, true) || !suites || !methods || !compose_client_hello(h, a) || a->said > 16384)
+    if (hello_forbidden(h) || !suites || !methods || !compose_client_hello(h, a) || a->said > 16384)
         a->said = TN_R5;
 }
 
 void model_write_server_hello(const struct hello *h, struct answer *a)
 {
-    if (hello_forbidden(h, false) || h->suite > 65535 || !compose_server_hello(h, a) || a->said > 16384)
+    if (hello_forbidden(h) || h->suite > 65535 || !compose_server_hello(h, a) || a->said > 16384)
         a->said = TN_R5;
 }
 
@@ -324,9 +313,5 @@ void model_write_extension(uint32_t kind, struct bytes contents, struct answer *
 
 void model_write_ticket_extension(struct bytes ticket, struct answer *a)
 {
-    struct growing g = {a, 0, false};
-    put_number(&g, 2, 35);
-    put_number(&g, 2, ticket.n + 2);
-    put_vector(&g, 2, ticket);
-    a->said = g.full || ticket.n > 65533 ? TN_R5 : (int32_t)g.n;
+    model_write_extension(35, ticket, a);
 }

@@ -24,6 +24,29 @@ MESSAGE_MADE = "m->bytes, m->n, out->bytes, out->n, master->bytes);\n    settle_
 # the place in table.c where an edit has just been made
 EDIT_MADE = "    settle(result, l, &wanted);\n"
 
+# how the readers of the two hellos end, and where the block's place stands among the fields
+CLIENT_HELLO, SERVER_HELLO = ("eat_extensions(&e, fields + 6)", 7), ("!e.bad && session_id.n <= 32 && eat_extensions(&e, fields + 4)", 5)
+
+# RFC 4507's form of a ticket extension: a length of its own in front of the ticket
+OLD_FORM = "data.n >= 2 && data.at[0] * 256u + data.at[1] == data.n - 2"
+
+
+def ticket_refused(name, hello, data):
+    """A fault in a hello's reader: it refuses a SessionTicket extension with such data."""
+    good, at = hello
+    return name, "model_layouts.c", f"    return {good};\n", f"""
+    if (!({good}))
+        return false;
+    for (struct eating x = {{{{message.at + fields[{at}], fields[{at + 1}]}}, 0, false}}; !at_end(&x);) {{
+        bool ticket = eat_number(&x, 2) == 35;
+        struct bytes data = eat_vector(&x, 2);
+        if (ticket && ({data}))
+            return false;
+    }}
+    return true;
+"""
+
+
 PLANTED = [
     # secrets
     ("randoms swapped in the master secret", "model_secrets.c", "LABEL_MASTER_SECRET, client, server", "LABEL_MASTER_SECRET, server, client"),
@@ -39,18 +62,29 @@ PLANTED = [
     ("sides exchanged", "model_secrets.c", "side == 0 ? TN_LABEL_CLIENT", "side == 1 ? TN_LABEL_CLIENT"),
     # layouts
     ("version and suite of a ServerHello exchanged", "model_layouts.c", "fields[2] = eat_number(&e, 2);", "fields[2] = fields[0], fields[0] = eat_number(&e, 2);"),
-    ("the ticket extension's number", "model_layouts.c", "put_number(&g, 2, 35);", "put_number(&g, 2, 36);"),
+    ("the ticket extension's number", "model_layouts.c", "model_write_extension(35, ticket, a);", "model_write_extension(36, ticket, a);"),
+    ("a ticket extension with the ticket's own length in it", "model_layouts.c",
+     "    model_write_extension(35, ticket, a);\n",
+     "    struct growing g = {a, 0, false};\n    put_number(&g, 2, 35);\n    put_number(&g, 2, ticket.n + 2);\n    put_vector(&g, 2, ticket);\n"
+     "    a->said = g.full || ticket.n > 65533 ? TN_R5 : (int32_t)g.n;\n"),
+    ("a ticket extension of 65,533 bytes at most", "model_layouts.c",
+     "    model_write_extension(35, ticket, a);\n",
+     "    model_write_extension(35, ticket, a);\n    if (ticket.n > 65533)\n        a->said = TN_R5;\n"),
     ("suites of an odd length", "model_layouts.c", " || suites.n % 2 != 0 ||", " ||"),
     ("no suite", "model_layouts.c", "suites.n < 2 ||", ""),
     ("no method", "model_layouts.c", "methods.n < 1)", "false)"),
     ("a session id of 33 bytes read", "model_layouts.c", "e.bad || session_id.n > 32", "e.bad || session_id.n > 33"),
     ("a session id of 33 bytes written", "model_layouts.c", "h->session_id.n > 32", "h->session_id.n > 33"),
-    ("one type twice", "model_layouts.c", "!seen[type] && ", ""),
+    ("one type twice", "model_layouts.c", " && !seen[type]", ""),
     ("1,000 extensions at most", "model_layouts.c",
      "    while (good && !at_end(&e)) {\n",
      "    size_t count = 0;\n    while (good && !at_end(&e) && (good = ++count <= 1000)) {\n"),
-    ("a ticket of any shape", "model_layouts.c", "of_client && type == 35", "false && type == 35"),
-    ("a ticket's shape in a ServerHello", "model_layouts.c", "of_client && type == 35", "type == 35"),
+    ("two tickets", "model_layouts.c", "!seen[type]", "(type == 35 || !seen[type])"),
+    ticket_refused("a ticket's own length asked for in a ClientHello", CLIENT_HELLO, f"!({OLD_FORM})"),
+    ticket_refused("a ticket's own length asked for in a ServerHello", SERVER_HELLO, f"!({OLD_FORM})"),
+    ticket_refused("a ticket's own length refused in a ClientHello", CLIENT_HELLO, OLD_FORM),
+    ticket_refused("no data for a ticket refused in a ClientHello", CLIENT_HELLO, "data.n == 0"),
+    ticket_refused("a ticket of 1 byte refused in a ClientHello", CLIENT_HELLO, "data.n == 1"),
     ("an empty block as none", "model_layouts.c", "    fields[0] = 1;\n", "    fields[0] = block.n > 0;\n"),
     ("bytes after a body", "model_layouts.c",
      "place(message, eat(&e, 12), fields);\n    return at_end(&e);",

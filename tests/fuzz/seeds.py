@@ -64,7 +64,8 @@ def logins():
 
 def hellos():
     for m in (HELLO, hello(drawn("client"), block=b""), hello(drawn("client"), block=extension(23) + extension(35, b"\0\2ab")),
-              hello(drawn("client"), block=extension(35)), hello(drawn("client"), block=extension(1) + extension(1)),
+              hello(drawn("client"), block=extension(35)), hello(drawn("client"), block=extension(35, b"ticket") + extension(0)),
+              hello(drawn("client"), block=extension(35) + extension(35, b"ticket")), hello(drawn("client"), block=extension(1) + extension(1)),
               hello(drawn("client"), version=0x0302), hello(drawn("client"), version=0x0304, session=bytes(32)),
               hello(drawn("client"), methods=b"\1"), hello(drawn("client"), suites=(1,)), hello(drawn("client"), suites=range(3000)),
               hello(drawn("client"), session=bytes(33)), hello(drawn("client"), methods=b""), hello(drawn("client"), suites=()), ODD,
@@ -75,11 +76,12 @@ def hellos():
 
 def messages():
     for m in (message(2, b"\3\3" + bytes(32) + b"\0\0\xae\0"), message(2, b"\3\3" + bytes(32) + b"\0\0\xae\0" + vector(2, extension(35))),
+              message(2, b"\3\3" + bytes(32) + b"\0\0\xae\0" + vector(2, extension(35, b"ticket") + extension(35))),
               message(12, vector(2, b"barn")), message(14, b""), message(4, bytes(4) + vector(2, b"ticket")), message(20, bytes(12)),
-              exchange(b""), exchange(b"gate7"), vector(2, b"ticket")):
+              exchange(b""), exchange(b"gate7")):
         yield send(m)
         yield start() + send(m) + start(2) + send(HELLO) + send(m) + CHANGE + send(m)
-    yield b"\7" + vector(2, extension(23) + extension(35, b"\0\0") + extension(0, b"name"))
+    yield b"\7" + vector(2, extension(23) + extension(35, b"ticket") + extension(0, b"name"))
 
 
 def lines(count):

@@ -77,11 +77,6 @@ finished-fits m b =
     behind-header 20 m (filledBy 12 m) b
     (λ _. part-if-fits (eqb (length m) 16) 4 12 (λ _. record { start-fits = omega arith; len-fits = omega arith }))
 
--- of any length: the ticket's own length field has two bytes
-pub ticket-extension-fits : (d : List ℕ) → Bytes d → PartFits (lastAt 2 d 0)
-ticket-extension-fits d b =
-    part-if-fits (eqb (endAt 2 d 0) (length d)) 2 (stated 2 d) (λ _. record { start-fits = omega arith; len-fits = omega (arith, two-bytes d b) })
-
 abbrev pub TicketFits : Ticket → Type 0
 TicketFits (Ticket.Read hint s n) = Fits s n
 TicketFits Ticket.Refused = Unit
@@ -99,23 +94,23 @@ abbrev FoundFits : BlockFound → Type 0
 FoundFits (BlockFound.Found b) = BlockFits b
 FoundFits BlockFound.Refused = Unit
 
-block-fits : (client : Bool) (m : List ℕ) (at : ℕ) → length m ≤ 16384 → FoundFits (blockAt client m at)
-block-fits client m at size = go (eqb at (length m))
+block-fits : (m : List ℕ) (at : ℕ) → length m ≤ 16384 → FoundFits (blockAt m at)
+block-fits m at size = go (eqb at (length m))
   where
     held : (t : Bool) (s n : ℕ) → Fits s n → FoundFits (cond t (BlockFound.Found (Block.At s n)) BlockFound.Refused)
     held true s n h = h
     held false s n h = tt
 
-    in-part : (p : Part) → PartFits p → FoundFits (blockIn client m p)
-    in-part (Part.At s n) h = held (blockRule client (take n (drop s m))) s n h
+    in-part : (p : Part) → PartFits p → FoundFits (blockIn m p)
+    in-part (Part.At s n) h = held (blockRule (take n (drop s m))) s n h
     in-part Part.Refused h = tt
 
-    go : (t : Bool) → FoundFits (cond t (BlockFound.Found Block.Absent) (blockIn client m (lastAt 2 m at)))
+    go : (t : Bool) → FoundFits (cond t (BlockFound.Found Block.Absent) (blockIn m (lastAt 2 m at)))
     go true = tt
     go false = in-part (lastAt 2 m at) (last-fits m at size)
 
-found-fits : (client : Bool) (m : List ℕ) (at : ℕ) (b : Block) → length m ≤ 16384 → blockAt client m at ≡ BlockFound.Found b → BlockFits b
-found-fits client m at b size e = rw e at (block-fits client m at size)
+found-fits : (m : List ℕ) (at : ℕ) (b : Block) → length m ≤ 16384 → blockAt m at ≡ BlockFound.Found b → BlockFits b
+found-fits m at b size e = rw e at (block-fits m at size)
 
 pub record ServerNumbers (version n suite : ℕ) (b : Block) : Type 0 where
   pub version-fits : version < 2 ^ 32
@@ -135,7 +130,7 @@ server-fits m b = ServerHellos.by-header m ServerFits tt (λ a x n c p.
       version-fits = number-fits m 4 b;
       session-fits = omega arith;
       suite-fits = number-fits m (39 + n) b;
-      block = found-fits false m (42 + n) c size (p .block);
+      block = found-fits m (42 + n) c size (p .block);
     })
 
 pub record ClientNumbers (version n s k t j : ℕ) (b : Block) : Type 0 where
@@ -160,7 +155,7 @@ client-fits m b = ClientHellos.by-header m ClientFits tt (λ a x n s k t j c p.
       session-fits = omega arith;
       suites = record { start-fits = omega arith; len-fits = omega arith };
       methods = record { start-fits = omega arith; len-fits = omega arith };
-      block = found-fits true m (t + j) c size (p .block);
+      block = found-fits m (t + j) c size (p .block);
     })
 
 -- ---- a step through a block

@@ -3,7 +3,6 @@
 ghost use mathlib.Core.Path.{_≡_};
 ghost use Rattle.messages.specs.KeyExchange.{vectorPlace};
 ghost use Rattle.messages.specs.Fixed.{fixedPlace};
-ghost use Rattle.layout.specs.Place.{lastAt};
 ghost use Rattle.messages.specs.NewSessionTicket.{ticketPlace};
 ghost use Rattle.hellos.specs.ClientHello.{clientPlace};
 ghost use Rattle.hellos.specs.ServerHello.{serverPlace};
@@ -182,12 +181,4 @@ pub extern "C" fn tn_next_extension(block: &[u8], at: usize, fields: &mut [u32; 
         Step::End => 0,
         Step::Refused => code::of_refusal(Refusal::DecodeError),
     }
-}
-
-// Start and length of the ticket in the data of a SessionTicket extension.
-#[no_mangle]
-pub extern "C" fn tn_read_ticket_extension(contents: &[u8], fields: &mut [u32; 2]) -> i32
-    ensures { λ r. ⌜ Reads (partRead (lastAt 2 (now (contents .entry)) 0)) (now (fields .entry)) r (now (fields .exit)) ⌝ }
-{
-    put_part(extensions::ticket(contents), fields)
 }

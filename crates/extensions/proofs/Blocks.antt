@@ -5,22 +5,23 @@ use mathlib.Core.Path.{_≡_, refl, sym, ap, ap₂, _∙_}
 use Prim.Native.Nat.{ℕ, zero, suc, _+_, _^_, _≤_, _<_}
 use native.Mathlib.Omega.{arith}
 use native.Mathlib.Decide.{decLe}
-use mathlib.Core.Bool.{Bool, true, _&&_, cond, and-false, and-eq-true-iff}
+use mathlib.Core.Bool.{true, cond, and-eq-true-iff}
 use mathlib.Core.List.{List, [], _∷_, _++_, append-assoc, append-nil}
 use mathlib.Core.Option.{Option, none, some, Option·none-ne-some}
 use lib.ListN.{length, take, drop, length-drop, length-append, take-append-drop, drop-of-length-le}
 use lib.Seq.{drop-drop, length-take-le, take-append-seam, drop-append-seam}
-use lib.Dec.{leb, ltb}
-use borrow.Author.Tests.{le-leb, lt-leb, lt-ltb, ltb-true, eq-eqb, eqb-true}
+use lib.Dec.{leb, ltb, eqb}
+use borrow.Author.Tests.{le-leb, lt-leb, lt-ltb, ltb-true}
+use Rattle.lists.specs.Lists.{each, distinct}
 use Rattle.endian.specs.Number.{Bytes, be, number}
 use Rattle.endian.specs.Vector.{vector, writable, stated}
 use Rattle.endian.proofs.Numbers.{number-be-lt, number-lt, be-number-at, bytes-take, bytes-drop}
 use Rattle.extensions.specs.declared.Step.{Step}
 use Rattle.extensions.specs.declared.Step.the-variants.{Extension, End, Refused}
 use Rattle.layout.specs.Place.{endAt}
-use Rattle.extensions.specs.Extensions.{Ext, extensionBytes, blockBytes, first, firstEnd, adding, extensionsUpTo, extensionsIn}
-use Rattle.extensions.specs.Extensions.{ticketExtension, ticketShape, stepAt}
-use Rattle.layout.proofs.Places.{vector-at, vector-last}
+use Rattle.extensions.specs.Extensions.{Ext, writableExt, extensionBytes, blockBytes, first, firstEnd, adding, extensionsUpTo, extensionsIn}
+use Rattle.extensions.specs.Extensions.{ticketExtension, kinds, blockRule, ruled, stepAt}
+use Rattle.layout.proofs.Places.{vector-at}
 
 -- ---- how many are asked for does not matter, once they are no fewer than the bytes
 
@@ -145,18 +146,10 @@ step-refused b at =
 
 -- ---- reading what was written, and writing what was read
 
--- an extension that can be written
-abbrev pub writableExt : Ext → Bool
-writableExt e = ltb (e .kind) (256 ^ 2) && writable 2 (e .contents)
-
-abbrev pub allWritable : List Ext → Bool
-allWritable [] = true
-allWritable (e ∷ es) = writableExt e && allWritable es
-
-pub in-block : (es : List Ext) → allWritable es ≡ true → extensionsIn (blockBytes es) ≡ some es
+pub in-block : (es : List Ext) → each writableExt es ≡ true → extensionsIn (blockBytes es) ≡ some es
 in-block [] h = refl
 in-block (e ∷ es) h =
-    let ok = and-eq-true-iff (writableExt e) (allWritable es) .0 h in
+    let ok = and-eq-true-iff (writableExt e) (each writableExt es) .0 h in
     let own = and-eq-true-iff (ltb (e .kind) (256 ^ 2)) (writable 2 (e .contents)) .0 (ok .0) in
     let b : List ℕ = blockBytes (e ∷ es) in
     let says : stated 2 (drop 2 b) ≡ length (e .contents) = number-be-lt 2 (length (e .contents)) (ltb-true _ _ (own .1)) in
@@ -168,6 +161,10 @@ in-block (e ∷ es) h =
     let rest : drop (firstEnd b) b ≡ blockBytes es =
     sym (drop-drop (stated 2 (drop 2 b)) 4 b) ∙ ap (λ (n : ℕ). drop n (drop 4 b)) says ∙ drop-append-seam (e .contents) (blockBytes es) in
     in-first b (omega arith) (omega arith) ∙ ap₂ adding named (ap extensionsIn rest ∙ in-block es (ok .1))
+
+-- a hello may carry them exactly if no type is there twice, whatever their data
+pub by-types : (es : List Ext) → each writableExt es ≡ true → blockRule (blockBytes es) ≡ distinct eqb (kinds es)
+by-types es h = ap ruled (in-block es h)
 
 -- an extension was added to what there was
 adding-gives : (e : Ext) (o : Option (List Ext)) (es : List Ext) → adding e o ≡ some es → (rest : List Ext) × (o ≡ some rest) × (es ≡ e ∷ rest)
@@ -188,7 +185,7 @@ first-is b h fits =
 
 -- bytes that are these extensions, each of which can be written
 abbrev Written : List ℕ → List Ext → Type 0
-Written b es = (b ≡ blockBytes es) × (allWritable es ≡ true)
+Written b es = (b ≡ blockBytes es) × (each writableExt es ≡ true)
 
 block-first : (b : List ℕ) (o : Option (List Ext)) (es : List Ext) → Bytes b
     → ((rest : List Ext) → o ≡ some rest → Written (drop (firstEnd b) b) rest)
@@ -201,7 +198,7 @@ block-first b o es h written e = go (decLe (firstEnd b) (length b))
         let own = first-is b h fits in
         let rest = written (parts .0) (parts .1) in (
           own .0 ∙ ap (λ (l : List ℕ). extensionBytes (first b) ++ l) (rest .0) ∙ ap blockBytes (sym (parts .2)),
-          ap allWritable (parts .2)
+          ap (each writableExt) (parts .2)
               ∙ rw (own .1) (rest .1),
         )
     go (no cut) = absurd (Option·none-ne-some es (rw (lt-leb (firstEnd b) (length b) (omega arith)) at e))
@@ -214,25 +211,14 @@ block-up-to (suc n) (x ∷ xs) es h e =
     let b : List ℕ = x ∷ xs in
     block-first b (extensionsUpTo n (drop (firstEnd b) b)) es h (λ rest r. block-up-to n (drop (firstEnd b) b) rest (bytes-drop (firstEnd b) b h) r) e
 
-pub block-in : (b : List ℕ) (es : List Ext) → Bytes b → extensionsIn b ≡ some es → (b ≡ blockBytes es) × (allWritable es ≡ true)
+pub block-in : (b : List ℕ) (es : List Ext) → Bytes b → extensionsIn b ≡ some es → (b ≡ blockBytes es) × (each writableExt es ≡ true)
 block-in b es h e = block-up-to (length b) b es h e
 
--- ---- the SessionTicket extension: data of the right shape is exactly a ticket with its length in front
-
-pub ticket-written : (ticket : List ℕ) → writable 2 ticket ≡ true → ticketShape true (record { kind = 35; contents = vector 2 ticket }) ≡ true
-ticket-written ticket h =
-    let d : List ℕ = vector 2 ticket in
-    let says : stated 2 d ≡ length ticket = number-be-lt 2 (length ticket) (ltb-true _ _ h) in
-    eq-eqb (endAt 2 d 0) (length d) (omega arith)
+-- ---- the SessionTicket extension
 
 -- its bytes, of which the first two are its number, are read as it
-pub ticket-numbered : (ticket : List ℕ) → length ticket < 65534
-    → extensionsIn (0x00 ∷ 0x23 ∷ vector 2 (vector 2 ticket)) ≡ some (ticketExtension ticket ∷ [])
+pub ticket-numbered : (ticket : List ℕ) → length ticket < 65536 → extensionsIn (0x00 ∷ 0x23 ∷ vector 2 ticket) ≡ some (ticketExtension ticket ∷ [])
 ticket-numbered ticket fits =
     let e : Ext = ticketExtension ticket in
-    let ok : allWritable (e ∷ []) ≡ true = rw (lt-ltb (length (vector 2 ticket)) (256 ^ 2) (omega arith)) in
+    let ok : each writableExt (e ∷ []) ≡ true = rw (lt-ltb (length ticket) (256 ^ 2) fits) in
     ap extensionsIn (sym (append-nil (extensionBytes e))) ∙ in-block (e ∷ []) ok
-
-pub ticket-read : (d : List ℕ) → Bytes d → ticketShape true (record { kind = 35; contents = d }) ≡ true
-    → (d ≡ vector 2 (take (stated 2 d) (drop 2 d))) × (writable 2 (take (stated 2 d) (drop 2 d)) ≡ true)
-ticket-read d b h = vector-last 2 d 0 b (eqb-true (endAt 2 d 0) (length d) h)

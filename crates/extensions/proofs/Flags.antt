@@ -1,5 +1,5 @@
--- The search for a type twice: one pass with a bit for each type of a part finds a repeat in that part, and the rules hold of a block exactly if they
--- hold of each of its eight parts; a part that a pass goes by has no extensions.
+-- The search for a type twice: one pass with a bit for each type of a part finds a repeat in that part, and the types are distinct exactly if those
+-- of each of the eight parts are; a part that a pass goes by has no extensions.
 -- Assumes nothing.
 use mathlib.Core.Path.{_≡_, refl, sym, ap, _∙_}
 use Prim.Native.Nat.{ℕ, zero, suc, _/_, _%_, _^_, _≤_, _<_, _+_}
@@ -13,14 +13,15 @@ use lib.ListN.{length, getD, set, replicate, length-set, length-replicate}
 use lib.Seq.{getD-set-same, getD-set-other}
 use lib.Dec.{eqb, ltb}
 use borrow.Author.Tests.{eq-eqb, ne-eqb, lt-ltb, le-ltb, ltb-true}
+use Rattle.lists.specs.Lists.{each, any, distinct}
 use Rattle.endian.specs.Number.{Bytes}
 use Rattle.endian.specs.Vector.{writable}
 use Rattle.extensions.specs.declared.Pass.{Pass}
 use Rattle.extensions.specs.declared.Pass.the-variants.{Holds, Fails}
-use Rattle.extensions.specs.Extensions.{Ext, adding, extensionsIn, member, distinct, kinds, ticketShape, allShaped, rules, ruled}
+use Rattle.extensions.specs.Extensions.{Ext, adding, extensionsIn, writableExt, kinds, ruled}
 use Rattle.extensions.specs.Parts.{inPart, nearer, nearestOf, passOver}
 use Rattle.extensions.proofs.Bits.{set-same, set-other}
-use Rattle.extensions.proofs.Blocks.{writableExt, allWritable, block-in, zero-not-one}
+use Rattle.extensions.proofs.Blocks.{block-in, zero-not-one}
 
 -- the bit of a type, and the words with that bit set
 abbrev bitOf : List ℕ → ℕ → ℕ
@@ -68,68 +69,64 @@ and-swap true b c = refl
 and-swap false true c = refl
 and-swap false false c = refl
 
-and-regroup : (n b c d : Bool) → ((n && b) && (c && d)) ≡ (b && ((n && c) && d))
-and-regroup true b c d = refl
-and-regroup false b c d = sym (and-false b)
+and-rotate : (a b c : Bool) → ((a && b) && c) ≡ (b && (a && c))
+and-rotate true b c = refl
+and-rotate false b c = sym (and-false b)
 
 -- ---- one pass
 
--- what a pass does from here on: an extension of the part is one whose bit is clear and whose data has its shape, and sets the bit; one of
--- another part may bring the nearest part closer
-abbrev pub passFrom : List ℕ → ℕ → Bool → ℕ → List Ext → Pass
-passFrom words n client p [] = Holds n
-passFrom words n client p (e ∷ es) =
-    cond (eqb (e .kind / 8192) p)
-    (cond (eqb (bitOf words (e .kind)) 0) (cond (ticketShape client e) (passFrom (marked words (e .kind)) n client p es) Fails) Fails)
-    (passFrom words (nearer p (e .kind / 8192) n) client p es)
+-- what a pass does from here on: an extension of the part is one whose bit is clear, and sets the bit; one of another part may bring the
+-- nearest part closer
+abbrev pub passFrom : List ℕ → ℕ → ℕ → List Ext → Pass
+passFrom words n p [] = Holds n
+passFrom words n p (e ∷ es) =
+    cond (eqb (e .kind / 8192) p) (cond (eqb (bitOf words (e .kind)) 0) (passFrom (marked words (e .kind)) n p es) Fails)
+    (passFrom words (nearer p (e .kind / 8192) n) p es)
 
 -- setting t's bit takes t out of what is clear, and nothing else of its part
 clear-set : (words : List ℕ) (p t : ℕ) (es : List Ext) → length words ≡ 128 → t / 8192 ≡ p → bitOf words t ≡ 0
-    → clear (marked words t) (kinds (inPart p es)) ≡ (not (member t (kinds (inPart p es))) && clear words (kinds (inPart p es)))
+    → clear (marked words t) (kinds (inPart p es)) ≡ (not (any (eqb t) (kinds (inPart p es))) && clear words (kinds (inPart p es)))
 clear-set words p t [] l h free = refl
 clear-set words p t (e ∷ es) l h free =
     clear-next (ℕ-discrete (e .kind / 8192) p) (ℕ-discrete t (e .kind)) (clear-set words p t es l h free)
   where
     clear-next : Dec (e .kind / 8192 ≡ p) → Dec (t ≡ e .kind)
-        → clear (marked words t) (kinds (inPart p es)) ≡ (not (member t (kinds (inPart p es))) && clear words (kinds (inPart p es)))
+        → clear (marked words t) (kinds (inPart p es)) ≡ (not (any (eqb t) (kinds (inPart p es))) && clear words (kinds (inPart p es)))
         → clear (marked words t) (kinds (inPart p (e ∷ es)))
-        ≡ (not (member t (kinds (inPart p (e ∷ es)))) && clear words (kinds (inPart p (e ∷ es))))
+        ≡ (not (any (eqb t) (kinds (inPart p (e ∷ es)))) && clear words (kinds (inPart p (e ∷ es))))
     clear-next (no hu) d ih = rw (ne-eqb (e .kind / 8192) p hu) ih
     clear-next (yes hu) (yes f) ih = rw (eq-eqb (e .kind / 8192) p hu, ← f, bit-set words t l free, eq-eqb t t refl)
     clear-next (yes hu) (no f) ih =
         rw (eq-eqb (e .kind / 8192) p hu, bit-kept words p t (e .kind) l h hu free f, ne-eqb t (e .kind) f, ih)
-        (and-swap (eqb (bitOf words (e .kind)) 0) (not (member t (kinds (inPart p es)))) (clear words (kinds (inPart p es))))
+        (and-swap (eqb (bitOf words (e .kind)) 0) (not (any (eqb t) (kinds (inPart p es)))) (clear words (kinds (inPart p es))))
 
 -- a part is not nearer to itself
 nearer-own : (p q n : ℕ) → q ≡ p → nearer p q n ≡ n
 nearer-own p q n e = rw (le-ltb p q (omega arith))
 
--- a pass finds just what the rules forbid in its part, and the types whose bits were set before
-pass-is : (words : List ℕ) (n : ℕ) (client : Bool) (p : ℕ) (es : List Ext) → length words ≡ 128
-    → passFrom words n client p es ≡ cond (clear words (kinds (inPart p es)) && rules client (inPart p es)) (Holds (nearestOf p n es)) Fails
-pass-is words n client p [] l = refl
-pass-is words n client p (e ∷ es) l =
-    pass-next (ℕ-discrete (e .kind / 8192) p) (ℕ-discrete (bitOf words (e .kind)) 0) (ticketShape client e) refl
-    (pass-is words (nearer p (e .kind / 8192) n) client p es l)
-    (pass-is (marked words (e .kind)) n client p es (length-set words (e .kind / 64 % 128) _ ∙ l))
+-- a pass finds just the types that are twice in its part, and those whose bits were set before
+pass-is : (words : List ℕ) (n p : ℕ) (es : List Ext) → length words ≡ 128
+    → passFrom words n p es ≡ cond (clear words (kinds (inPart p es)) && distinct eqb (kinds (inPart p es))) (Holds (nearestOf p n es)) Fails
+pass-is words n p [] l = refl
+pass-is words n p (e ∷ es) l =
+    pass-next (ℕ-discrete (e .kind / 8192) p) (ℕ-discrete (bitOf words (e .kind)) 0) (pass-is words (nearer p (e .kind / 8192) n) p es l)
+    (pass-is (marked words (e .kind)) n p es (length-set words (e .kind / 64 % 128) _ ∙ l))
   where
-    pass-next : Dec (e .kind / 8192 ≡ p) → Dec (bitOf words (e .kind) ≡ 0) → (shape : Bool) → ticketShape client e ≡ shape
-        → passFrom words (nearer p (e .kind / 8192) n) client p es
-        ≡ cond (clear words (kinds (inPart p es)) && rules client (inPart p es)) (Holds (nearestOf p (nearer p (e .kind / 8192) n) es)) Fails
-        → passFrom (marked words (e .kind)) n client p es
-        ≡ cond (clear (marked words (e .kind)) (kinds (inPart p es)) && rules client (inPart p es)) (Holds (nearestOf p n es)) Fails
-        → passFrom words n client p (e ∷ es)
-        ≡ cond (clear words (kinds (inPart p (e ∷ es))) && rules client (inPart p (e ∷ es))) (Holds (nearestOf p n (e ∷ es))) Fails
-    pass-next (no h) d s shape same after = rw (ne-eqb (e .kind / 8192) p h) same
-    pass-next (yes h) (no taken) s shape same after = rw (eq-eqb (e .kind / 8192) p h, ne-eqb (bitOf words (e .kind)) 0 taken)
-    pass-next (yes h) (yes free) false shape same after =
-        rw (eq-eqb (e .kind / 8192) p h, eq-eqb (bitOf words (e .kind)) 0 free, shape, and-false, and-false)
-    pass-next (yes h) (yes free) true shape same after =
+    pass-next : Dec (e .kind / 8192 ≡ p) → Dec (bitOf words (e .kind) ≡ 0)
+        → passFrom words (nearer p (e .kind / 8192) n) p es
+        ≡ cond (clear words (kinds (inPart p es)) && distinct eqb (kinds (inPart p es))) (Holds (nearestOf p (nearer p (e .kind / 8192) n) es)) Fails
+        → passFrom (marked words (e .kind)) n p es
+        ≡ cond (clear (marked words (e .kind)) (kinds (inPart p es)) && distinct eqb (kinds (inPart p es))) (Holds (nearestOf p n es)) Fails
+        → passFrom words n p (e ∷ es)
+        ≡ cond (clear words (kinds (inPart p (e ∷ es))) && distinct eqb (kinds (inPart p (e ∷ es)))) (Holds (nearestOf p n (e ∷ es))) Fails
+    pass-next (no h) d same after = rw (ne-eqb (e .kind / 8192) p h) same
+    pass-next (yes h) (no taken) same after = rw (eq-eqb (e .kind / 8192) p h, ne-eqb (bitOf words (e .kind)) 0 taken)
+    pass-next (yes h) (yes free) same after =
         let ks : List ℕ = kinds (inPart p es) in
-        rw (eq-eqb (e .kind / 8192) p h, eq-eqb (bitOf words (e .kind)) 0 free, shape, nearer-own p (e .kind / 8192) n h)
+        rw (eq-eqb (e .kind / 8192) p h, eq-eqb (bitOf words (e .kind)) 0 free, nearer-own p (e .kind / 8192) n h)
         (after ∙ ap (λ (t : Bool). cond t (Holds (nearestOf p n es)) Fails)
-        (ap (λ (t : Bool). t && rules client (inPart p es)) (clear-set words p (e .kind) es l h free)
-        ∙ and-regroup (not (member (e .kind) ks)) (clear words ks) (distinct ks) (allShaped client (inPart p es))))
+        (ap (λ (t : Bool). t && distinct eqb ks) (clear-set words p (e .kind) es l h free)
+        ∙ and-rotate (not (any (eqb (e .kind)) ks)) (clear words ks) (distinct eqb ks)))
 
 -- an array that nothing was stored to
 zeros-read-zero : (n i : ℕ) → getD {A = ℕ} (replicate n 0) i 0 ≡ 0
@@ -142,92 +139,71 @@ all-clear [] = refl
 all-clear (t ∷ ts) = rw (zeros-read-zero 128 (t / 64 % 128), zero-div (2 ^ (t % 64)), all-clear ts)
 
 -- the same over the extensions of a block
-abbrev pub passIn : List ℕ → ℕ → Bool → ℕ → Option (List Ext) → Pass
-passIn words n client p none = Fails
-passIn words n client p (some es) = passFrom words n client p es
+abbrev pub passIn : List ℕ → ℕ → ℕ → Option (List Ext) → Pass
+passIn words n p none = Fails
+passIn words n p (some es) = passFrom words n p es
 
-pub pass-over : (client : Bool) (p : ℕ) (o : Option (List Ext)) → passIn (replicate 128 0) 8 client p o ≡ passOver client p o
-pass-over client p none = refl
-pass-over client p (some es) =
-    pass-is (replicate 128 0) 8 client p es (length-replicate {A = ℕ} 128 0) ∙ rw (all-clear (kinds (inPart p es)))
+pub pass-over : (p : ℕ) (o : Option (List Ext)) → passIn (replicate 128 0) 8 p o ≡ passOver p o
+pass-over p none = refl
+pass-over p (some es) = pass-is (replicate 128 0) 8 p es (length-replicate {A = ℕ} 128 0) ∙ rw (all-clear (kinds (inPart p es)))
 
-module _ (words : List ℕ) (n : ℕ) (client : Bool) (p : ℕ) (e : Ext) where
-  pub pass-repeat : (o : Option (List Ext)) → e .kind / 8192 ≡ p → ¬ (bitOf words (e .kind) ≡ 0) → passIn words n client p (adding e o) ≡ Fails
+module _ (words : List ℕ) (n p : ℕ) (e : Ext) where
+  pub pass-repeat : (o : Option (List Ext)) → e .kind / 8192 ≡ p → ¬ (bitOf words (e .kind) ≡ 0) → passIn words n p (adding e o) ≡ Fails
   pass-repeat none h taken = refl
   pass-repeat (some es) h taken = rw (eq-eqb (e .kind / 8192) p h, ne-eqb (bitOf words (e .kind)) 0 taken)
 
-  pub pass-misshapen : (o : Option (List Ext)) → e .kind / 8192 ≡ p → bitOf words (e .kind) ≡ 0 → ticketShape client e ≡ false
-      → passIn words n client p (adding e o) ≡ Fails
-  pass-misshapen none h free shape = refl
-  pass-misshapen (some es) h free shape = rw (eq-eqb (e .kind / 8192) p h, eq-eqb (bitOf words (e .kind)) 0 free, shape)
+  pub pass-marked : (o : Option (List Ext)) → e .kind / 8192 ≡ p → bitOf words (e .kind) ≡ 0
+      → passIn words n p (adding e o) ≡ passIn (marked words (e .kind)) n p o
+  pass-marked none h free = refl
+  pass-marked (some es) h free = rw (eq-eqb (e .kind / 8192) p h, eq-eqb (bitOf words (e .kind)) 0 free)
 
-  pub pass-marked : (o : Option (List Ext)) → e .kind / 8192 ≡ p → bitOf words (e .kind) ≡ 0 → ticketShape client e ≡ true
-      → passIn words n client p (adding e o) ≡ passIn (marked words (e .kind)) n client p o
-  pass-marked none h free shape = refl
-  pass-marked (some es) h free shape = rw (eq-eqb (e .kind / 8192) p h, eq-eqb (bitOf words (e .kind)) 0 free, shape)
-
-  pub pass-other : (o : Option (List Ext)) → ¬ (e .kind / 8192 ≡ p)
-      → passIn words n client p (adding e o) ≡ passIn words (nearer p (e .kind / 8192) n) client p o
+  pub pass-other : (o : Option (List Ext)) → ¬ (e .kind / 8192 ≡ p) → passIn words n p (adding e o) ≡ passIn words (nearer p (e .kind / 8192) n) p o
   pass-other none h = refl
   pass-other (some es) h = rw (ne-eqb (e .kind / 8192) p h)
 
 -- ---- the parts together
 
-member-part : (p t : ℕ) (es : List Ext) → t / 8192 ≡ p → member t (kinds (inPart p es)) ≡ member t (kinds es)
+member-part : (p t : ℕ) (es : List Ext) → t / 8192 ≡ p → any (eqb t) (kinds (inPart p es)) ≡ any (eqb t) (kinds es)
 member-part p t [] h = refl
 member-part p t (e ∷ es) h = part-next (ℕ-discrete (e .kind / 8192) p) (member-part p t es h)
   where
-    part-next : Dec (e .kind / 8192 ≡ p) → member t (kinds (inPart p es)) ≡ member t (kinds es)
-        → member t (kinds (inPart p (e ∷ es))) ≡ member t (kinds (e ∷ es))
+    part-next : Dec (e .kind / 8192 ≡ p) → any (eqb t) (kinds (inPart p es)) ≡ any (eqb t) (kinds es)
+        → any (eqb t) (kinds (inPart p (e ∷ es))) ≡ any (eqb t) (kinds (e ∷ es))
     part-next (yes hu) ih = rw (eq-eqb (e .kind / 8192) p hu, ih)
     part-next (no hu) ih =
         rw (ne-eqb (e .kind / 8192) p hu, ne-eqb t (e .kind) (λ f. hu (ap (λ (k : ℕ). k / 8192) (sym f) ∙ h))) ih
 
--- the rules on an extension and those behind it
-abbrev First : Bool → Ext → List Ext → Type 0
-First client e es = (not (member (e .kind) (kinds es)) ≡ true) × (ticketShape client e ≡ true) × (rules client es ≡ true)
+-- distinct types: of an extension and of those behind it
+first-of : (e : Ext) (es : List Ext) → distinct eqb (kinds (e ∷ es)) ≡ true → (not (any (eqb (e .kind)) (kinds es)) ≡ true) × (distinct eqb (kinds es) ≡ true)
+first-of e es h = and-eq-true-iff (not (any (eqb (e .kind)) (kinds es))) (distinct eqb (kinds es)) .0 h
 
-first-of : (client : Bool) (e : Ext) (es : List Ext) → rules client (e ∷ es) ≡ true → First client e es
-first-of client e es h =
-    let both = and-eq-true-iff (distinct (kinds (e ∷ es))) (allShaped client (e ∷ es)) .0 h in
-    let types = and-eq-true-iff (not (member (e .kind) (kinds es))) (distinct (kinds es)) .0 (both .0) in
-    let shapes = and-eq-true-iff (ticketShape client e) (allShaped client es) .0 (both .1) in
-    (types .0, shapes .0, rw (types .1) (shapes .1))
-
-of-first : (client : Bool) (e : Ext) (es : List Ext) → First client e es → rules client (e ∷ es) ≡ true
-of-first client e es (alone, shape, rest) = rw (alone, shape) rest
-
--- the rules on all hold of a part
-part-ruled : (client : Bool) (p : ℕ) (es : List Ext) → rules client es ≡ true → rules client (inPart p es) ≡ true
-part-ruled client p [] h = refl
-part-ruled client p (e ∷ es) h =
-    let (alone, shape, rest) = first-of client e es h in
-    part-next (ℕ-discrete (e .kind / 8192) p) alone shape (part-ruled client p es rest)
+-- types that are distinct are so in a part
+part-ruled : (p : ℕ) (es : List Ext) → distinct eqb (kinds es) ≡ true → distinct eqb (kinds (inPart p es)) ≡ true
+part-ruled p [] h = refl
+part-ruled p (e ∷ es) h = let (alone, rest) = first-of e es h in part-next (ℕ-discrete (e .kind / 8192) p) alone (part-ruled p es rest)
   where
-    part-next : Dec (e .kind / 8192 ≡ p) → not (member (e .kind) (kinds es)) ≡ true → ticketShape client e ≡ true
-        → rules client (inPart p es) ≡ true → rules client (inPart p (e ∷ es)) ≡ true
-    part-next (yes f) alone shape rest =
-        rw (eq-eqb (e .kind / 8192) p f) (of-first client e (inPart p es) (rw (member-part p (e .kind) es f) alone, shape, rest))
-    part-next (no f) alone shape rest = rw (ne-eqb (e .kind / 8192) p f) rest
+    part-next : Dec (e .kind / 8192 ≡ p) → not (any (eqb (e .kind)) (kinds es)) ≡ true → distinct eqb (kinds (inPart p es)) ≡ true
+        → distinct eqb (kinds (inPart p (e ∷ es))) ≡ true
+    part-next (yes f) alone rest = rw (eq-eqb (e .kind / 8192) p f, member-part p (e .kind) es f, alone) rest
+    part-next (no f) alone rest = rw (ne-eqb (e .kind / 8192) p f) rest
 
 -- what holds of a part of e ∷ es holds of that part of es
-ruled-tail : (client : Bool) (p : ℕ) (e : Ext) (es : List Ext) → rules client (inPart p (e ∷ es)) ≡ true → rules client (inPart p es) ≡ true
-ruled-tail client p e es h = part-next (ℕ-discrete (e .kind / 8192) p)
+ruled-tail : (p : ℕ) (e : Ext) (es : List Ext) → distinct eqb (kinds (inPart p (e ∷ es))) ≡ true → distinct eqb (kinds (inPart p es)) ≡ true
+ruled-tail p e es h = part-next (ℕ-discrete (e .kind / 8192) p)
   where
-    part-next : Dec (e .kind / 8192 ≡ p) → rules client (inPart p es) ≡ true
-    part-next (yes f) = first-of client e (inPart p es) (rw (eq-eqb (e .kind / 8192) p f) at h) .2
+    part-next : Dec (e .kind / 8192 ≡ p) → distinct eqb (kinds (inPart p es)) ≡ true
+    part-next (yes f) = first-of e (inPart p es) (rw (eq-eqb (e .kind / 8192) p f) at h) .1
     part-next (no f) = rw (ne-eqb (e .kind / 8192) p f) at h
 
-all-ruled : (client : Bool) (es : List Ext) → allWritable es ≡ true → ((p : ℕ) → p < 8 → rules client (inPart p es) ≡ true)
-    → rules client es ≡ true
-all-ruled client [] small h = refl
-all-ruled client (e ∷ es) small h =
-    let ok = and-eq-true-iff (writableExt e) (allWritable es) .0 small in
+all-ruled : (es : List Ext) → each writableExt es ≡ true → ((p : ℕ) → p < 8 → distinct eqb (kinds (inPart p es)) ≡ true) → distinct eqb (kinds es) ≡ true
+all-ruled [] small h = refl
+all-ruled (e ∷ es) small h =
+    let ok = and-eq-true-iff (writableExt e) (each writableExt es) .0 small in
     let below : e .kind < 65536 = ltb-true (e .kind) 65536 (and-eq-true-iff (ltb (e .kind) 65536) (writable 2 (e .contents)) .0 (ok .0) .0) in
     let p : ℕ = e .kind / 8192 in
-    let own = first-of client e (inPart p es) (rw (eq-eqb p p refl) at (h p (omega arith))) in
-    of-first client e es
-    (rw (member-part p (e .kind) es refl) at (own .0), own .1, all-ruled client es (ok .1) (λ q l. ruled-tail client q e es (h q l)))
+    let own = first-of e (inPart p es) (rw (eq-eqb p p refl) at (h p (omega arith))) in
+    let alone : not (any (eqb (e .kind)) (kinds es)) ≡ true = rw (member-part p (e .kind) es refl) at (own .0) in
+    rw alone (all-ruled es (ok .1) (λ q l. ruled-tail q e es (h q l)))
 
 -- ---- the parts that passes go by
 
@@ -265,21 +241,21 @@ between-none p n q (e ∷ es) above below =
 
 -- ---- over the extensions of a block
 
-abbrev pub partRuled : Bool → ℕ → Option (List Ext) → Bool
-partRuled client p none = false
-partRuled client p (some es) = rules client (inPart p es)
+abbrev pub partRuled : ℕ → Option (List Ext) → Bool
+partRuled p none = false
+partRuled p (some es) = distinct eqb (kinds (inPart p es))
 
--- what a pass that found nothing says: the rules hold of its part and of those below the nearest
-pub record Passed (client : Bool) (p n : ℕ) (o : Option (List Ext)) : Type 0 where
+-- what a pass that found nothing says: the types are distinct in its part and in those below the nearest
+pub record Passed (p n : ℕ) (o : Option (List Ext)) : Type 0 where
   pub ahead : p < n
   pub inside : n ≤ 8
-  pub holds : (q : ℕ) → p ≤ q → q < n → partRuled client q o ≡ true
+  pub holds : (q : ℕ) → p ≤ q → q < n → partRuled q o ≡ true
 
-pub pass-holds : (client : Bool) (p n : ℕ) (o : Option (List Ext)) → p < 8 → passOver client p o ≡ Holds n → Passed client p n o
-pass-holds client p n none h e = absurd (zero-not-one (cc e))
-pass-holds client p n (some es) h e = judged (rules client (inPart p es)) refl e
+pub pass-holds : (p n : ℕ) (o : Option (List Ext)) → p < 8 → passOver p o ≡ Holds n → Passed p n o
+pass-holds p n none h e = absurd (zero-not-one (cc e))
+pass-holds p n (some es) h e = judged (distinct eqb (kinds (inPart p es))) refl e
   where
-    judged : (t : Bool) → rules client (inPart p es) ≡ t → cond t (Holds (nearestOf p 8 es)) Fails ≡ Holds n → Passed client p n (some es)
+    judged : (t : Bool) → distinct eqb (kinds (inPart p es)) ≡ t → cond t (Holds (nearestOf p 8 es)) Fails ≡ Holds n → Passed p n (some es)
     judged false own f = absurd (zero-not-one (cc f))
     judged true own f =
         let nearest : nearestOf p 8 es ≡ n = cc f in
@@ -292,15 +268,15 @@ pass-holds client p n (some es) h e = judged (rules client (inPart p es)) refl e
           ];
         }
 
-pub pass-fails : (client : Bool) (p : ℕ) (o : Option (List Ext)) → passOver client p o ≡ Fails → ruled client o ≡ false
-pass-fails client p none e = refl
-pass-fails client p (some es) e = judged (rules client es) refl
+pub pass-fails : (p : ℕ) (o : Option (List Ext)) → passOver p o ≡ Fails → ruled o ≡ false
+pass-fails p none e = refl
+pass-fails p (some es) e = judged (distinct eqb (kinds es)) refl
   where
-    judged : (t : Bool) → rules client es ≡ t → t ≡ false
+    judged : (t : Bool) → distinct eqb (kinds es) ≡ t → t ≡ false
     judged false own = refl
-    judged true own = absurd (zero-not-one (cc (e, part-ruled client p es own)))
+    judged true own = absurd (zero-not-one (cc (e, part-ruled p es own)))
 
-pub parts-ruled : (client : Bool) (b : List ℕ) (o : Option (List Ext)) → Bytes b → extensionsIn b ≡ o
-    → ((p : ℕ) → p < 8 → partRuled client p o ≡ true) → ruled client o ≡ true
-parts-ruled client b none h e parts = parts 0 (omega arith)
-parts-ruled client b (some es) h e parts = all-ruled client es (block-in b es h e .1) parts
+pub parts-ruled : (b : List ℕ) (o : Option (List Ext)) → Bytes b → extensionsIn b ≡ o
+    → ((p : ℕ) → p < 8 → partRuled p o ≡ true) → ruled o ≡ true
+parts-ruled b none h e parts = parts 0 (omega arith)
+parts-ruled b (some es) h e parts = all-ruled es (block-in b es h e .1) parts

@@ -1,10 +1,11 @@
 -- The extension block of a hello (RFC 5246, section 7.4.1.4): extensions one after the other, each a type and data with a 2-byte length.
 use Prim.Native.Nat.{ℕ, zero, suc, _+_}
-use mathlib.Core.Bool.{Bool, true, false, not, _&&_, _||_, cond}
+use mathlib.Core.Bool.{Bool, false, _&&_, cond}
 use mathlib.Core.List.{List, [], _∷_, _++_}
 use mathlib.Core.Option.{Option, none, some}
 use lib.ListN.{length, take, drop}
 use lib.Dec.{leb, ltb, eqb}
+use Rattle.lists.specs.Lists.{distinct}
 use Rattle.endian.specs.Number.{be, number}
 use Rattle.endian.specs.Vector.{vector, writable, stated}
 use Rattle.refusal.specs.declared.Refusal.the-variants.{BadValue}
@@ -26,13 +27,17 @@ blockBytes (e ∷ es) = extensionBytes e ++ blockBytes es
 
 -- ---- writing
 
--- a type that two bytes hold, and data whose length they hold; else R5
-abbrev pub extensionWritten : Ext → Outcome
-extensionWritten e = cond (ltb (e .kind) 65536 && writable 2 (e .contents)) (gives (extensionBytes e)) (refuses BadValue)
+-- a type that two bytes hold, and data whose length they hold
+abbrev pub writableExt : Ext → Bool
+writableExt e = ltb (e .kind) 65536 && writable 2 (e .contents)
 
--- SessionTicket, 35: its data is the ticket as a vector of its own, with a 2-byte length
+-- else R5
+abbrev pub extensionWritten : Ext → Outcome
+extensionWritten e = cond (writableExt e) (gives (extensionBytes e)) (refuses BadValue)
+
+-- SessionTicket, 35 (RFC 5077, section 3.2): its data is the ticket itself; one without a ticket has no data
 abbrev pub ticketExtension : List ℕ → Ext
-ticketExtension ticket = record { kind = 35; contents = vector 2 ticket }
+ticketExtension ticket = record { kind = 35; contents = ticket }
 
 -- ---- reading
 
@@ -59,39 +64,19 @@ extensionsUpTo (suc n) (x ∷ xs) =
 abbrev pub extensionsIn : List ℕ → Option (List Ext)
 extensionsIn b = extensionsUpTo (length b) b
 
--- ---- the rules on a block
-
-abbrev pub member : ℕ → List ℕ → Bool
-member t [] = false
-member t (u ∷ us) = eqb t u || member t us
-
-abbrev pub distinct : List ℕ → Bool
-distinct [] = true
-distinct (t ∷ ts) = not (member t ts) && distinct ts
+-- ---- the rule on a block
 
 abbrev pub kinds : List Ext → List ℕ
 kinds [] = []
 kinds (e ∷ es) = e .kind ∷ kinds es
 
--- in a ClientHello the data of type 35 is just such a ticket vector; no other data is judged
-abbrev pub ticketShape : Bool → Ext → Bool
-ticketShape client e = cond (client && eqb (e .kind) 35) (eqb (endAt 2 (e .contents) 0) (length (e .contents))) true
+abbrev pub ruled : Option (List Ext) → Bool
+ruled none = false
+ruled (some es) = distinct eqb (kinds es)
 
-abbrev pub allShaped : Bool → List Ext → Bool
-allShaped client [] = true
-allShaped client (e ∷ es) = ticketShape client e && allShaped client es
-
--- the extensions of a hello: no type is there twice (the house's rule), and the data have their shapes
-abbrev pub rules : Bool → List Ext → Bool
-rules client es = distinct (kinds es) && allShaped client es
-
-abbrev pub ruled : Bool → Option (List Ext) → Bool
-ruled client none = false
-ruled client (some es) = rules client es
-
--- the block of a hello: whole extensions, and the rules on them
-abbrev pub blockRule : Bool → List ℕ → Bool
-blockRule client b = ruled client (extensionsIn b)
+-- the block of a hello: whole extensions, and no type twice (the house's rule); what their data is, is not judged
+abbrev pub blockRule : List ℕ → Bool
+blockRule b = ruled (extensionsIn b)
 
 -- ---- going through a block
 

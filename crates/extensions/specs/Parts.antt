@@ -1,12 +1,13 @@
 -- The types of a block by eight parts of 8,192 numbers: what a pass over the block says of one of them. The rule itself is `blockRule`.
 use Prim.Native.Nat.{ℕ, _/_}
-use mathlib.Core.Bool.{Bool, _&&_, cond}
+use mathlib.Core.Bool.{_&&_, cond}
 use mathlib.Core.List.{List, [], _∷_}
 use mathlib.Core.Option.{Option, none, some}
 use lib.Dec.{eqb, ltb}
+use Rattle.lists.specs.Lists.{distinct}
 use Rattle.extensions.specs.declared.Pass.{Pass}
 use Rattle.extensions.specs.declared.Pass.the-variants.{Holds, Fails}
-use Rattle.extensions.specs.Extensions.{Ext, rules}
+use Rattle.extensions.specs.Extensions.{Ext, kinds}
 
 -- the extensions whose types are in the part p, from 8,192 p on
 abbrev pub inPart : ℕ → List Ext → List Ext
@@ -22,6 +23,6 @@ abbrev pub nearestOf : ℕ → ℕ → List Ext → ℕ
 nearestOf p nearest [] = nearest
 nearestOf p nearest (e ∷ es) = nearestOf p (nearer p (e .kind / 8192) nearest) es
 
-abbrev pub passOver : Bool → ℕ → Option (List Ext) → Pass
-passOver client p none = Fails
-passOver client p (some es) = cond (rules client (inPart p es)) (Holds (nearestOf p 8 es)) Fails
+abbrev pub passOver : ℕ → Option (List Ext) → Pass
+passOver p none = Fails
+passOver p (some es) = cond (distinct eqb (kinds (inPart p es))) (Holds (nearestOf p 8 es)) Fails

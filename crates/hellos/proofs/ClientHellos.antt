@@ -40,7 +40,7 @@ pub record Parts (m : List ℕ) (x n s k t j : ℕ) (b : Block) : Type 0 where
   pub session : sessionAt m ≡ At x n
   pub suites : ruled suitesLength (partAt 2 m (x + n)) ≡ At s k
   pub methods : ruled methodsLength (partAt 1 m (s + k)) ≡ At t j
-  pub block : blockAt true m (t + j) ≡ Found b
+  pub block : blockAt m (t + j) ≡ Found b
 
 -- how a ClientHello is read, by cases: what holds of a refusal, and wherever the parts stand so, holds of what is read
 module _ (m : List ℕ) (Holds : Client → Type 0) (refused : Holds Client.Refused) where
@@ -49,14 +49,14 @@ module _ (m : List ℕ) (Holds : Client → Type 0) (refused : Holds Client.Refu
   by-parts read = by-session (sessionAt m) refl
     where
       by-block : (x n s k t j : ℕ) (o : BlockFound) → sessionAt m ≡ At x n → ruled suitesLength (partAt 2 m (x + n)) ≡ At s k
-          → ruled methodsLength (partAt 1 m (s + k)) ≡ At t j → blockAt true m (t + j) ≡ o → Holds (clientBlock m n s k t j o)
+          → ruled methodsLength (partAt 1 m (s + k)) ≡ At t j → blockAt m (t + j) ≡ o → Holds (clientBlock m n s k t j o)
       by-block x n s k t j (Found b) session suites methods block =
           read x n s k t j b (record { session = session; suites = suites; methods = methods; block = block })
       by-block x n s k t j BlockFound.Refused session suites methods block = refused
 
       by-methods : (x n s k : ℕ) (p : Part) → sessionAt m ≡ At x n → ruled suitesLength (partAt 2 m (x + n)) ≡ At s k
           → ruled methodsLength (partAt 1 m (s + k)) ≡ p → Holds (clientMethods m n s k p)
-      by-methods x n s k (At t j) session suites methods = by-block x n s k t j (blockAt true m (t + j)) session suites methods refl
+      by-methods x n s k (At t j) session suites methods = by-block x n s k t j (blockAt m (t + j)) session suites methods refl
       by-methods x n s k Part.Refused session suites methods = refused
 
       by-suites : (x n : ℕ) (p : Part) → sessionAt m ≡ At x n → ruled suitesLength (partAt 2 m (x + n)) ≡ p → Holds (clientSuites m n p)
@@ -105,14 +105,14 @@ module _ (f : ClientHello) (h : valid clientHello f ≡ true) where
   rules-of : (frontRules (f .version) (f .random) (f .sessionId) ≡ true)
       × ((writable 2 (f .suites) ≡ true) × (suitesLength (length (f .suites)) ≡ true))
       × ((writable 1 (f .methods) ≡ true) × (methodsLength (length (f .methods)) ≡ true))
-      × (blockRules true (f .extensions) ≡ true)
+      × (blockRules (f .extensions) ≡ true)
   rules-of =
       let suites : Bool = writable 2 (f .suites) && suitesLength (length (f .suites)) in
       let methods : Bool = writable 1 (f .methods) && methodsLength (length (f .methods)) in
-      let two = and-eq-true-iff (frontRules (f .version) (f .random) (f .sessionId)) (suites && (methods && blockRules true (f .extensions))) .0
+      let two = and-eq-true-iff (frontRules (f .version) (f .random) (f .sessionId)) (suites && (methods && blockRules (f .extensions))) .0
       (valid-parts clientHello f h .0) in
-      let three = and-eq-true-iff suites (methods && blockRules true (f .extensions)) .0 (two .1) in
-      let four = and-eq-true-iff methods (blockRules true (f .extensions)) .0 (three .1) in (
+      let three = and-eq-true-iff suites (methods && blockRules (f .extensions)) .0 (two .1) in
+      let four = and-eq-true-iff methods (blockRules (f .extensions)) .0 (three .1) in (
         two .0,
         and-eq-true-iff (writable 2 (f .suites)) (suitesLength (length (f .suites))) .0 (three .0),
         and-eq-true-iff (writable 1 (f .methods)) (methodsLength (length (f .methods))) .0 (four .0),
@@ -151,7 +151,7 @@ client-reads f h =
     (rules .0) in
     let suites = part-written 2 m (39 + n) (f .suites) (vector 1 (f .methods) ++ tail) (omega arith) (rules .1 .0) (front .4) in
     let methods = part-written 1 m (39 + n + 2 + k) (f .methods) tail (omega arith) (rules .2 .0) (suites .3) in
-    let block = block-written true m (39 + n + 2 + k + 1 + j) (f .extensions) (omega arith) (rules .3) (methods .3) in
+    let block = block-written m (39 + n + 2 + k + 1 + j) (f .extensions) (omega arith) (rules .3) (methods .3) in
     let suites-at : ruled suitesLength (partAt 2 m (39 + n)) ≡ At (39 + n + 2) k =
     rw (le-leb (endAt 2 m (39 + n)) (length m) (omega arith), suites .1, rules .1 .1) in
     let methods-at : ruled methodsLength (partAt 1 m (39 + n + 2 + k)) ≡ At (39 + n + 2 + k + 1) j =
@@ -204,7 +204,7 @@ module _ (m : List ℕ) (f : ClientHello) (b : Bytes m) where
       let front = front-read m x n b (p .session) in
       let second = vector-read suitesLength 2 m (x + n) s k b (p .suites) in
       let third = vector-read methodsLength 1 m (s + k) t j b (p .methods) in
-      let block = block-read true m (t + j) c b (p .block) in
+      let block = block-read m (t + j) c b (p .block) in
       let rest : drop (39 + n) m ≡ vector 2 (read .suites) ++ (vector 1 (read .methods) ++ tailBytes (read .extensions)) =
       rw (front .0) at (second .0) ∙ ap (λ (l : List ℕ). vector 2 (read .suites) ++ l)
       (third .0 ∙ ap (λ (l : List ℕ). vector 1 (read .methods) ++ l) (block .0)) in

@@ -83,46 +83,46 @@ front-read m s n b e =
     )
 
 -- the block at the end
-pub block-written : (client : Bool) (m : List ℕ) (at : ℕ) (o : Option (List ℕ)) → at ≤ length m → blockRules client o ≡ true → drop at m ≡ tailBytes o
-    → (b : Block) × (blockAt client m at ≡ Found b) × (blockContents m b ≡ o)
-block-written client m at none inside h e =
+pub block-written : (m : List ℕ) (at : ℕ) (o : Option (List ℕ)) → at ≤ length m → blockRules o ≡ true → drop at m ≡ tailBytes o
+    → (b : Block) × (blockAt m at ≡ Found b) × (blockContents m b ≡ o)
+block-written m at none inside h e =
     let size : length (drop at m) ≡ 0 = ap length e in
     let left : length (drop at m) ≡ length m - at = length-drop at m in
     let over : at ≡ length m = omega arith in
     (Block.Absent, rw (eq-eqb at (length m) over), refl)
-block-written client m at (some b) inside h e =
-    let ok = and-eq-true-iff (writable 2 b) (blockRule client b) .0 h in
+block-written m at (some b) inside h e =
+    let ok = and-eq-true-iff (writable 2 b) (blockRule b) .0 h in
     let part = part-written 2 m at b [] (omega arith) (ok .0) (e ∙ sym (append-nil (vector 2 b))) in
     let more : ¬ (at ≡ length m) = λ over. absurd (omega arith) in
     let place : lastAt 2 m at ≡ At (at + 2) (length b) = rw (eq-eqb (endAt 2 m at) (length m) (omega arith), part .1) in
     (Block.At (at + 2) (length b), rw (ne-eqb at (length m) more, place, part .2, ok .1), ap some (part .2))
 
 -- what a found block says of the message
-abbrev Tail : Bool → List ℕ → ℕ → Block → Type 0
-Tail client m at b = (drop at m ≡ tailBytes (blockContents m b)) × (blockRules client (blockContents m b) ≡ true)
+abbrev Tail : List ℕ → ℕ → Block → Type 0
+Tail m at b = (drop at m ≡ tailBytes (blockContents m b)) × (blockRules (blockContents m b) ≡ true)
 
-block-there : (client : Bool) (m : List ℕ) (at : ℕ) (b : Block) (s n : ℕ) (t : Bool) → Bytes m → lastAt 2 m at ≡ At s n
-    → blockRule client (take n (drop s m)) ≡ t → cond t (Found (Block.At s n)) BlockFound.Refused ≡ Found b → Tail client m at b
-block-there client m at b s n true h l r e =
+block-there : (m : List ℕ) (at : ℕ) (b : Block) (s n : ℕ) (t : Bool) → Bytes m → lastAt 2 m at ≡ At s n
+    → blockRule (take n (drop s m)) ≡ t → cond t (Found (Block.At s n)) BlockFound.Refused ≡ Found b → Tail m at b
+block-there m at b s n true h l r e =
     let same : b ≡ Block.At s n = cc e in
     let there = last-there 2 m at s n l in
     let read = vector-last 2 m at h (there .0) in
     let contents : take n (drop s m) ≡ take (stated 2 (drop at m)) (drop (at + 2) m) = rw (there .1, there .2) in
     rw same (read .0 ∙ ap (vector 2) (sym contents), rw (contents, read .1) (rw contents at r))
-block-there client m at b s n false h l r e = absurd (let z : _≡_ {A = ℕ} 0 1 = cc e in omega arith)
+block-there m at b s n false h l r e = absurd (let z : _≡_ {A = ℕ} 0 1 = cc e in omega arith)
 
-block-in-part : (client : Bool) (m : List ℕ) (at : ℕ) (b : Block) (p : Part) → Bytes m → lastAt 2 m at ≡ p → blockIn client m p ≡ Found b
-    → Tail client m at b
-block-in-part client m at b (At s n) h l e = block-there client m at b s n (blockRule client (take n (drop s m))) h l refl e
-block-in-part client m at b Part.Refused h l e = absurd (let z : _≡_ {A = ℕ} 0 1 = cc e in omega arith)
+block-in-part : (m : List ℕ) (at : ℕ) (b : Block) (p : Part) → Bytes m → lastAt 2 m at ≡ p → blockIn m p ≡ Found b
+    → Tail m at b
+block-in-part m at b (At s n) h l e = block-there m at b s n (blockRule (take n (drop s m))) h l refl e
+block-in-part m at b Part.Refused h l e = absurd (let z : _≡_ {A = ℕ} 0 1 = cc e in omega arith)
 
-pub block-read : (client : Bool) (m : List ℕ) (at : ℕ) (b : Block) → Bytes m → blockAt client m at ≡ Found b
-    → (drop at m ≡ tailBytes (blockContents m b)) × (blockRules client (blockContents m b) ≡ true)
-block-read client m at b h e = elim (ℕ-discrete at (length m)) [
+pub block-read : (m : List ℕ) (at : ℕ) (b : Block) → Bytes m → blockAt m at ≡ Found b
+    → (drop at m ≡ tailBytes (blockContents m b)) × (blockRules (blockContents m b) ≡ true)
+block-read m at b h e = elim (ℕ-discrete at (length m)) [
   | yes over ↦
       let absent : b ≡ Block.Absent = cc (rw (eq-eqb at (length m) over) at e) in
       rw absent (rw over (drop-length m), refl)
-  | no more ↦ block-in-part client m at b (lastAt 2 m at) h refl (rw (ne-eqb at (length m) more) at e)
+  | no more ↦ block-in-part m at b (lastAt 2 m at) h refl (rw (ne-eqb at (length m) more) at e)
 ]
 
 -- ---- writing

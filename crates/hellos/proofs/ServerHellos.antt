@@ -4,7 +4,7 @@ use mathlib.Core.Path.{_≡_, refl, sym, ap, ap₂, _∙_}
 use Prim.Native.Nat.{ℕ, suc, _+_, _≤_, _<_}
 use native.Mathlib.Omega.{arith}
 use native.Mathlib.Decide.{decLe}
-use mathlib.Core.Bool.{true, false, _&&_, and-eq-true-iff}
+use mathlib.Core.Bool.{true, _&&_, and-eq-true-iff}
 use mathlib.Core.List.{List, _∷_, _++_}
 use mathlib.Core.Option.{some, Option·none-ne-some}
 use lib.ListN.{length, getD, take, drop, length-drop, take-append-drop}
@@ -37,7 +37,7 @@ use Rattle.hellos.proofs.Hellos.{front-written, front-read, block-writt
 pub record Parts (m : List ℕ) (x n : ℕ) (b : Block) : Type 0 where
   pub session : sessionAt m ≡ At x n
   pub room : 42 + n ≤ length m
-  pub block : blockAt false m (42 + n) ≡ Found b
+  pub block : blockAt m (42 + n) ≡ Found b
 
 -- what is read then
 abbrev pub readAt : List ℕ → ℕ → Block → Server
@@ -49,13 +49,13 @@ module _ (m : List ℕ) (Holds : Server → Type 0) (refused : Holds Server.Refu
   by-header read = go (header serverHelloType m) refl
     where
       by-block : (x n : ℕ) (o : BlockFound) → header serverHelloType m ≡ Verdict.Accepted → sessionAt m ≡ At x n → 42 + n ≤ length m
-          → blockAt false m (42 + n) ≡ o → Holds (serverBlock m n o)
+          → blockAt m (42 + n) ≡ o → Holds (serverBlock m n o)
       by-block x n (Found b) a session room block = read a x n b (record { session = session; room = room; block = block })
       by-block x n BlockFound.Refused a session room block = refused
 
       by-session : (p : Part) → header serverHelloType m ≡ Verdict.Accepted → sessionAt m ≡ p → Holds (serverSession m p)
       by-session (At x n) a session = elim (decLe (42 + n) (length m)) [
-        | yes room ↦ rw (le-leb (42 + n) (length m) room) (by-block x n (blockAt false m (42 + n)) a session room refl)
+        | yes room ↦ rw (le-leb (42 + n) (length m) room) (by-block x n (blockAt m (42 + n)) a session room refl)
         | no cut ↦ rw (lt-leb (42 + n) (length m) (omega arith)) refused
       ]
       by-session Part.Refused a session = refused
@@ -71,9 +71,9 @@ server-reads f h =
     let m : List ℕ = bytes serverHello f in
     let ok = valid-parts serverHello f h in
     let two = and-eq-true-iff (frontRules (f .version) (f .random) (f .sessionId))
-    (ltb (f .suite) 65536 && (ltb (f .compression) 256 && blockRules false (f .extensions))) .0 (ok .0) in
-    let three = and-eq-true-iff (ltb (f .suite) 65536) (ltb (f .compression) 256 && blockRules false (f .extensions)) .0 (two .1) in
-    let four = and-eq-true-iff (ltb (f .compression) 256) (blockRules false (f .extensions)) .0 (three .1) in
+    (ltb (f .suite) 65536 && (ltb (f .compression) 256 && blockRules (f .extensions))) .0 (ok .0) in
+    let three = and-eq-true-iff (ltb (f .suite) 65536) (ltb (f .compression) 256 && blockRules (f .extensions)) .0 (two .1) in
+    let four = and-eq-true-iff (ltb (f .compression) 256) (blockRules (f .extensions)) .0 (three .1) in
     let tail : List ℕ = tailBytes (f .extensions) in
     let rest : List ℕ = be 2 (f .suite) ++ (f .compression ∷ tail) in
     let n : ℕ = length (f .sessionId) in
@@ -85,7 +85,7 @@ server-reads f h =
     let compressed : getD m (41 + n) 0 ≡ f .compression =
     ap (λ (k : ℕ). getD m k 0) plus-two ∙ sym (getD-drop (39 + n) m 2 0) ∙ ap (λ (l : List ℕ). getD l 2 0) (front .4) in
     let behind : drop (42 + n) m ≡ tail = ap (λ (k : ℕ). drop k m) plus-three ∙ sym (drop-drop 3 (39 + n) m) ∙ ap (drop 3) (front .4) in
-    let block = block-written false m (42 + n) (f .extensions) (omega arith) (four .1) behind in
+    let block = block-written m (42 + n) (f .extensions) (omega arith) (four .1) behind in
     let place : serverPlace m ≡ Read (number (take 2 (drop 4 m))) n (number (take 2 (drop (39 + n) m))) (getD m (41 + n) 0) (block .0) =
     rw (header-message serverHelloType (serverHello .body f) (ok .1), front .0, le-leb (42 + n) (length m) (omega arith), block .1) in
     ap (serverFields m) place ∙ (λ i. some (record {
@@ -146,7 +146,7 @@ module _ (m : List ℕ) (f : ServerHello) (b : Bytes m) where
       let head = header-read serverHelloType m b accepted in
       let front = front-read m x n b (p .session) in
       let chosen = chosen-read m n b (p .room) in
-      let block = block-read false m (42 + n) c b (p .block) in
+      let block = block-read m (42 + n) c b (p .block) in
       let rest = chosen .0 ∙ ap (λ (l : List ℕ). be 2 (read .suite) ++ (read .compression ∷ l)) (block .0) in
       let body : drop 4 m ≡ serverHello .body read = front .2 ∙ ap (frontBytes (read .version) (read .random) (read .sessionId)) rest in
       let rules : serverHello .rules read ≡ true =

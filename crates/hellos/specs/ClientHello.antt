@@ -1,6 +1,6 @@
 -- ClientHello (RFC 5246, section 7.4.1.2).
 use Prim.Native.Nat.{ℕ, _+_, _%_}
-use mathlib.Core.Bool.{Bool, true, _&&_}
+use mathlib.Core.Bool.{Bool, _&&_}
 use mathlib.Core.List.{List, _++_}
 use mathlib.Core.Option.{Option, none, some}
 use lib.ListN.{length, take, drop}
@@ -40,7 +40,7 @@ clientHello = record {
   kind = clientHelloType;
   rules = λ f. frontRules (f .version) (f .random) (f .sessionId)
       && ((writable 2 (f .suites) && suitesLength (length (f .suites)))
-      && ((writable 1 (f .methods) && methodsLength (length (f .methods))) && blockRules true (f .extensions)));
+      && ((writable 1 (f .methods) && methodsLength (length (f .methods))) && blockRules (f .extensions)));
   body = λ f. frontBytes (f .version) (f .random) (f .sessionId) (vector 2 (f .suites) ++ (vector 1 (f .methods) ++ tailBytes (f .extensions)));
 }
 
@@ -62,7 +62,7 @@ clientBlock m n s k t j (BlockFound.Found b) = Read (number (take 2 (drop 4 m)))
 clientBlock m n s k t j BlockFound.Refused = Refused
 
 abbrev pub clientMethods : List ℕ → ℕ → ℕ → ℕ → Part → Client
-clientMethods m n s k (Part.At t j) = clientBlock m n s k t j (blockAt true m (t + j))
+clientMethods m n s k (Part.At t j) = clientBlock m n s k t j (blockAt m (t + j))
 clientMethods m n s k Part.Refused = Refused
 
 abbrev pub clientSuites : List ℕ → ℕ → Part → Client

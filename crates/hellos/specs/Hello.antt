@@ -32,22 +32,22 @@ sessionAt m = ruled (λ n. leb n 32) (partAt 1 m 38)
 
 -- ---- the extension block: nothing, or a vector of extensions
 
-abbrev pub blockRules : Bool → Option (List ℕ) → Bool
-blockRules client none = true
-blockRules client (some b) = writable 2 b && blockRule client b
+abbrev pub blockRules : Option (List ℕ) → Bool
+blockRules none = true
+blockRules (some b) = writable 2 b && blockRule b
 
 abbrev pub tailBytes : Option (List ℕ) → List ℕ
 tailBytes none = []
 tailBytes (some b) = vector 2 b
 
-abbrev pub blockIn : Bool → List ℕ → Part → BlockFound
-blockIn client m (At start len) =
-    cond (blockRule client (take len (drop start m))) (BlockFound.Found (Block.At start len)) BlockFound.Refused
-blockIn client m Refused = BlockFound.Refused
+abbrev pub blockIn : List ℕ → Part → BlockFound
+blockIn m (At start len) =
+    cond (blockRule (take len (drop start m))) (BlockFound.Found (Block.At start len)) BlockFound.Refused
+blockIn m Refused = BlockFound.Refused
 
 -- the block from `at` to the end of the message
-abbrev pub blockAt : Bool → List ℕ → ℕ → BlockFound
-blockAt client m at = cond (eqb at (length m)) (BlockFound.Found Block.Absent) (blockIn client m (lastAt 2 m at))
+abbrev pub blockAt : List ℕ → ℕ → BlockFound
+blockAt m at = cond (eqb at (length m)) (BlockFound.Found Block.Absent) (blockIn m (lastAt 2 m at))
 
 abbrev pub blockContents : List ℕ → Block → Option (List ℕ)
 blockContents m Block.Absent = none
@@ -65,10 +65,10 @@ pub record Front : Type 0 where
   pub sessionId : List ℕ
   pub extensions : Option (List ℕ)
 
-abbrev pub helloWith : ℕ → Bool → List ℕ → Layout Front
-helloWith kind client middle = record {
+abbrev pub helloWith : ℕ → List ℕ → Layout Front
+helloWith kind middle = record {
   kind = kind;
-  rules = λ f. frontRules (f .version) (f .random) (f .sessionId) && blockRules client (f .extensions);
+  rules = λ f. frontRules (f .version) (f .random) (f .sessionId) && blockRules (f .extensions);
   body = λ f. frontBytes (f .version) (f .random) (f .sessionId) (middle ++ tailBytes (f .extensions));
 }
 

@@ -1,6 +1,6 @@
 -- ServerHello (RFC 5246, section 7.4.1.3).
 use Prim.Native.Nat.{ℕ, _+_}
-use mathlib.Core.Bool.{Bool, false, _&&_, cond}
+use mathlib.Core.Bool.{Bool, _&&_, cond}
 use mathlib.Core.List.{List, _∷_, _++_}
 use mathlib.Core.Option.{Option, none, some}
 use lib.ListN.{length, getD, take, drop}
@@ -27,7 +27,7 @@ pub record ServerHello : Type 0 where
 abbrev pub serverHello : Layout ServerHello
 serverHello = record {
   kind = serverHelloType;
-  rules = λ f. frontRules (f .version) (f .random) (f .sessionId) && (ltb (f .suite) 65536 && (ltb (f .compression) 256 && blockRules false (f .extensions)));
+  rules = λ f. frontRules (f .version) (f .random) (f .sessionId) && (ltb (f .suite) 65536 && (ltb (f .compression) 256 && blockRules (f .extensions)));
   body = λ f. frontBytes (f .version) (f .random) (f .sessionId) (be 2 (f .suite) ++ (f .compression ∷ tailBytes (f .extensions)));
 }
 
@@ -49,7 +49,7 @@ serverBlock m n (BlockFound.Found b) = Read (number (take 2 (drop 4 m))) n (numb
 serverBlock m n BlockFound.Refused = Refused
 
 abbrev pub serverSession : List ℕ → Part → Server
-serverSession m (Part.At start n) = cond (leb (42 + n) (length m)) (serverBlock m n (blockAt false m (42 + n))) Refused
+serverSession m (Part.At start n) = cond (leb (42 + n) (length m)) (serverBlock m n (blockAt m (42 + n))) Refused
 serverSession m Part.Refused = Refused
 
 abbrev pub serverHeader : List ℕ → Verdict → Server

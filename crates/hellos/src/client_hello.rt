@@ -80,7 +80,7 @@ fn behind_suites(
     ensures { λ r. ⌜ r ≡ clientSuites (now (message .entry)) «session_len» (Part.At «suites_start» «suites_len») ⌝ }
 {
     match methods(message, suites_start + suites_len) {
-        Part::At { start, len } => match hello::tail(true, message, start + len) {
+        Part::At { start, len } => match hello::tail(message, start + len) {
             BlockFound::Found(block) => {
                 let version = endian::number16(message[4], message[5]);
                 Client::Read {
@@ -175,7 +175,6 @@ pub fn write(
     let methods_size = [methods.len() as u8];
     hello::write(
         types::CLIENT_HELLO,
-        true,
         version,
         random,
         session_id,

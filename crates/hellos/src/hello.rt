@@ -33,15 +33,15 @@ pub(crate) fn session_id(message: &[u8]) -> Part
 }
 
 // The block that starts at `at`, where the message does not end there.
-pub(crate) fn tail(client: bool, message: &[u8], at: usize) -> BlockFound
-    ensures { λ r. ⌜ r ≡ blockAt client (now (message .entry)) at ⌝ }
+pub(crate) fn tail(message: &[u8], at: usize) -> BlockFound
+    ensures { λ r. ⌜ r ≡ blockAt (now (message .entry)) at ⌝ }
 {
     if at == message.len() {
         return BlockFound::Found(Block::Absent);
     }
     match place::last16(message, at) {
         Part::At { start, len } => {
-            if !extensions::test(client, &message[start..start + len]) {
+            if !extensions::test(&message[start..start + len]) {
                 return BlockFound::Refused;
             }
             BlockFound::Found(Block::At { start, len })
@@ -66,8 +66,8 @@ fn front_valid(version: usize, random: &[u8], session_id: &[u8]) -> bool
 }
 
 // Whether the block is such as a hello may carry; an absent one always is.
-fn tail_valid(client: bool, present: bool, block: &[u8]) -> bool
-    ensures { λ r. ⌜ r ≡ blockRules client (given present (now (block .entry))) ⌝ }
+fn tail_valid(present: bool, block: &[u8]) -> bool
+    ensures { λ r. ⌜ r ≡ blockRules (given present (now (block .entry))) ⌝ }
 {
     if !present {
         return true;
@@ -75,7 +75,7 @@ fn tail_valid(client: bool, present: bool, block: &[u8]) -> bool
     if 65535 < block.len() {
         return false;
     }
-    extensions::test(client, block)
+    extensions::test(block)
 }
 
 // The bytes that the block takes with its length.
@@ -152,7 +152,6 @@ fn put_all(
 // hello may carry, or past the limit on a message; then R1.
 pub(crate) fn write(
     kind: u8,
-    client: bool,
     version: usize,
     random: &[u8],
     session_id: &[u8],
@@ -165,13 +164,13 @@ pub(crate) fn write(
     out: &mut [u8],
 ) -> Written
     requires { ⌜ (length (now a) < 65536) × (length (now b) < 65536) × (length (now c) < 65536) × (length (now d) < 65536) ⌝ }
-    ensures { λ r. ⌜ Answers (written (helloWith kind client (between (now (a .entry)) (now (b .entry)) (now (c .entry)) (now (d .entry))))
+    ensures { λ r. ⌜ Answers (written (helloWith kind (between (now (a .entry)) (now (b .entry)) (now (c .entry)) (now (d .entry))))
         (frontGiven version (now (random .entry)) (now («session_id» .entry)) present (now (block .entry)))) (now (out .entry)) r (now (out .exit)) ⌝ }
 {
     if !front_valid(version, random, session_id) {
         return Written::Refused(Refusal::BadValue);
     }
-    if !tail_valid(client, present, block) {
+    if !tail_valid(present, block) {
         return Written::Refused(Refusal::BadValue);
     }
     let parts = a.len() + b.len() + c.len() + d.len();

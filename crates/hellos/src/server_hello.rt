@@ -40,7 +40,7 @@ fn behind_session(message: &[u8], session_len: usize) -> Server
     let version = endian::number16(message[4], message[5]);
     let suite = endian::number16(message[39 + session_len], message[40 + session_len]);
     let compression = message[41 + session_len];
-    match hello::tail(false, message, 42 + session_len) {
+    match hello::tail(message, 42 + session_len) {
         BlockFound::Found(block) => Server::Read {
             version,
             session_len,
@@ -92,7 +92,6 @@ pub fn write(
     let none = &random[0..0];
     hello::write(
         types::SERVER_HELLO,
-        false,
         version,
         random,
         session_id,

@@ -4,8 +4,7 @@
 // the bytes at its front too. tests/message_vectors.py makes the input, and prints the same lines from a
 // parser and a writer of its own.
 //
-// A call is 1 and a message, 6 and the data of a SessionTicket extension, or a byte that names a writer, the
-// output's room, and what it takes.
+// A call is 1 and a message, or a byte that names a writer, the output's room, and what it takes.
 use extensions::Step;
 use hellos::Block;
 use hellos::client_hello::Client;
@@ -300,37 +299,20 @@ fn try_writer(kind: u8) {
     lines::text(b"\n");
 }
 
-// A line: where the ticket stands in the data of a SessionTicket extension.
-fn show_data(data: &[u8]) {
-    match extensions::ticket(data) {
-        Part::At { start, len } => {
-            print_number(start);
-            print_number(len);
-        }
-        Part::Refused => print_refusal(Refusal::DecodeError),
-    }
-    lines::text(b"\n");
-}
-
 // A call of the input, and whether there was one.
 fn call() -> bool {
     let kind = lines::byte();
     if kind == 0 {
         return false;
     }
-    if kind != 1 && kind != 6 {
+    if kind != 1 {
         try_writer(kind);
         return true;
     }
     let mut buffer = [0u8; 16400];
     let mut out = [0u8; 16400];
     let n = lines::field(&mut buffer);
-    let bytes = lines::part(&buffer, 0, n);
-    if kind == 1 {
-        show(bytes, &mut out);
-    } else {
-        show_data(bytes);
-    }
+    show(lines::part(&buffer, 0, n), &mut out);
     true
 }
 

@@ -7,7 +7,7 @@ use Rattle.endian.proofs.Vectors.{split-vector, split-none, split-writable, vec
 use Rattle.sha256.proofs.Padding.{zeros-fill, zeros-least}
 use Rattle.sha256.proofs.Finish.{finish-absorbed}
 use Rattle.utf8.proofs.Ranges.{valid-text}
-use Rattle.extensions.proofs.Blocks.{ticket-numbered, ticket-written, ticket-read}
+use Rattle.extensions.proofs.Blocks.{by-types, ticket-numbered}
 use Rattle.hellos.proofs.ClientHellos.{client-inverse}
 use Rattle.hellos.proofs.ServerHellos.{server-inverse}
 use Rattle.messages.proofs.KeyExchanges.{vector-inverse}
@@ -59,9 +59,8 @@ claims =
       clientKeyExchangeInverse = vector-inverse 16;
       finishedInverse = fixed-inverse 20 12;
       newSessionTicketInverse = ticket-inverse;
+      blockByTypes = by-types;
       ticketExtensionRead = ticket-numbered;
-      ticketExtensionAccepted = ticket-written;
-      ticketExtensionOnly = ticket-read;
       utf8Twice = valid-text;
       testedSoundly = sound;
       testedCompletely = complete;

@@ -6,8 +6,9 @@ use Prim.Native.Nat.{ℕ, _+_, _%_, _^_, _≤_, _<_}
 use mathlib.Core.Bool.{true, false}
 use mathlib.Core.List.{List, [], _∷_, _++_}
 use mathlib.Core.Option.{none, some}
-use lib.ListN.{length, take, drop, replicate}
-use Rattle.lists.specs.Lists.{Each}
+use lib.ListN.{length, drop, replicate}
+use lib.Dec.{eqb}
+use Rattle.lists.specs.Lists.{each, distinct, Each}
 use Rattle.refusal.specs.declared.Refusal.{Refusal}
 use Rattle.refusal.specs.declared.Refusal.the-variants.{ShortOutput}
 use Rattle.refusal.specs.declared.Written.{Written}
@@ -18,8 +19,8 @@ use Rattle.sha256.specs.Message.{zeros}
 use Rattle.sha256.specs.Hash.{sha256}
 use Rattle.sha256.specs.State.{fresh, absorb, finished}
 use Rattle.layout.specs.Layout.{Inverse}
-use Rattle.endian.specs.Vector.{vector, writable, Split, stated, split}
-use Rattle.extensions.specs.Extensions.{extensionsIn, ticketExtension, ticketShape}
+use Rattle.endian.specs.Vector.{vector, writable, Split, split}
+use Rattle.extensions.specs.Extensions.{Ext, writableExt, blockBytes, extensionsIn, kinds, blockRule, ticketExtension}
 use Rattle.utf8.specs.Utf8.{validUtf8}
 use Rattle.utf8.specs.Ranges.{Text}
 use Rattle.hellos.specs.ClientHello.{clientHello, readClientHello}
@@ -82,11 +83,9 @@ pub record Claims : Type 1 where
   pub clientKeyExchangeInverse : Inverse clientKeyExchange (readVector 16)
   pub finishedInverse : Inverse Fixed.finished (readFixed 20 12)
   pub newSessionTicketInverse : Inverse newSessionTicket readTicket
-  pub ticketExtensionRead : (ticket : List ℕ) → length ticket < 65534
-      → extensionsIn (0x00 ∷ 0x23 ∷ vector 2 (vector 2 ticket)) ≡ some (ticketExtension ticket ∷ [])
-  pub ticketExtensionAccepted : (ticket : List ℕ) → writable 2 ticket ≡ true → ticketShape true (record { kind = 35; contents = vector 2 ticket }) ≡ true
-  pub ticketExtensionOnly : (d : List ℕ) → Bytes d → ticketShape true (record { kind = 35; contents = d }) ≡ true
-      → (d ≡ vector 2 (take (stated 2 d) (drop 2 d))) × (writable 2 (take (stated 2 d) (drop 2 d)) ≡ true)
+  pub blockByTypes : (es : List Ext) → each writableExt es ≡ true → blockRule (blockBytes es) ≡ distinct eqb (kinds es)
+  pub ticketExtensionRead : (ticket : List ℕ) → length ticket < 65536
+      → extensionsIn (0x00 ∷ 0x23 ∷ vector 2 ticket) ≡ some (ticketExtension ticket ∷ [])
   -- texts
   pub utf8Twice : (s : List ℕ) → (validUtf8 s ≡ true) ↔ Text s
   -- the key table

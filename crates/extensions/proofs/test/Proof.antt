@@ -1,11 +1,11 @@
--- `extensions::test`: the passes have shown the rules to hold of each part below `part`; the eight parts are all types (Flags).
+-- `extensions::test`: the passes have shown the types of each part below `part` to be distinct; the eight parts are all types (Flags).
 -- Assumes nothing.
 use borrow.Author.Needs.{needs}
 use Prim.Native.Nat.{ℕ, _-_, _≤_, _<_, zero-le}
 use native.Mathlib.Omega.{arith}
 use native.Mathlib.Decide.{decLt}
 use mathlib.Core.Path.{_≡_, refl, sym, _∙_}
-use mathlib.Core.Bool.{Bool, true}
+use mathlib.Core.Bool.{true}
 use mathlib.Core.List.{List}
 use Rattle.endian.specs.Number.{Bytes}
 use Rattle.extensions.specs.Extensions.{extensionsIn}
@@ -14,10 +14,10 @@ use Rattle.extensions.proofs.test.Statement.{statement}
 use Rattle.extensions.proofs.test.Tie as tie
 
 abbrev Inv-loop : tie.InvT-loop
-Inv-loop client block part₀ part = (part ≤ 8) × ((p : ℕ) → p < part → partRuled client p (extensionsIn block) ≡ true)
+Inv-loop block part₀ part = (part ≤ 8) × ((p : ℕ) → p < part → partRuled p (extensionsIn block) ≡ true)
 
 abbrev μ-loop : tie.MeasureT-loop
-μ-loop client block part₀ part = 8 - part
+μ-loop block part₀ part = 8 - part
 
 loop-holds : tie.Need-loop-holds Inv-loop μ-loop
 loop-holds c = (zero-le, λ p h. absurd (omega arith))
@@ -29,16 +29,13 @@ Turn = tie.At-loop Inv-loop μ-loop
 abbrev block : Turn → List ℕ
 block l = l .before .before .args .block .now
 
-abbrev client : Turn → Bool
-client l = l .before .before .args .client
-
 abbrev turn : tie.After-known-told Inv-loop μ-loop → Turn
 turn c = c .before .before .before .before .before
 
 passed : (c : tie.After-known-told Inv-loop μ-loop)
-    → Passed (client (turn c)) (turn c .loop .part) (c .before .nearest .given .0 .0) (extensionsIn (block (turn c)))
+    → Passed (turn c .loop .part) (c .before .nearest .given .0 .0) (extensionsIn (block (turn c)))
 passed c =
-    pass-holds _ _ _ _ (omega arith) (sym (c .before .before .before .test-part .ensures) ∙ c .before .nearest .given .1)
+    pass-holds _ _ _ (omega arith) (sym (c .before .before .before .test-part .ensures) ∙ c .before .nearest .given .1)
 
 loop-less : tie.Need-loop-less Inv-loop μ-loop
 loop-less c = omega (arith, passed c)
@@ -55,13 +52,13 @@ loop-again c = (
 returns : tie.Need-returns Inv-loop μ-loop
 returns c =
     let l = c .before .before .before .before in
-    sym (pass-fails (client l) (l .loop .part) (extensionsIn (block l)) (sym (c .before .before .test-part .ensures) ∙ c .enum-told .given .1))
+    sym (pass-fails (l .loop .part) (extensionsIn (block l)) (sym (c .before .before .test-part .ensures) ∙ c .enum-told .given .1))
 
 returns-2 : tie.Need-returns-2 Inv-loop μ-loop
 returns-2 c =
     let l = c .before in
     let bytes : Bytes (block l) = λ i. omega (arith, l .before .shared-slice-known .given i) in
-    sym (parts-ruled (client l) (block l) (extensionsIn (block l)) bytes refl (λ p h. l .loop .inv .1 p (omega arith)))
+    sym (parts-ruled (block l) (extensionsIn (block l)) bytes refl (λ p h. l .loop .inv .1 p (omega arith)))
 
 pub test-spec : {M : Type 1} → statement M
 test-spec =

@@ -2,33 +2,30 @@
 -- the block.
 -- Assumes nothing.
 use borrow.Author.Needs.{needs}
-use borrow.Author.Tests.{not-true, not-false}
 use Prim.Native.Nat.{ℕ, _+_, _-_, _/_, _%_, _≤_, zero-le}
-use native.Mathlib.Nat.{add-sub-cancel-left}
 use native.Mathlib.Omega.{arith}
 use mathlib.Core.Path.{_≡_, refl, sym, ap, _∙_}
-use mathlib.Core.Bool.{Bool}
 use mathlib.Core.List.{List}
 use mathlib.Core.Option.{Option}
 use lib.ListN.{length, drop, set, length-set}
 use Rattle.extensions.specs.declared.Pass.{Pass}
-use Rattle.extensions.specs.Extensions.{Ext, adding, extensionsIn, ticketShape}
+use Rattle.extensions.specs.Extensions.{Ext, adding, extensionsIn}
 use Rattle.extensions.specs.Parts.{nearer, passOver}
 use Rattle.extensions.proofs.Blocks.{extAt, Found, step-found, step-ended, step-refused}
-use Rattle.extensions.proofs.Flags.{passIn, pass-over, pass-repeat, pass-misshapen, pass-marked, pass-other}
+use Rattle.extensions.proofs.Flags.{passIn, pass-over, pass-repeat, pass-marked, pass-other}
 use Rattle.extensions.proofs.test_part.Statement.{statement}
 use Rattle.extensions.proofs.test_part.Tie as tie
 
 abbrev Inv-loop : tie.InvT-loop
-Inv-loop client block part words₀ nearest₀ at₀ words nearest at =
+Inv-loop block part words₀ nearest₀ at₀ words nearest at =
     (at ≤ length block) × (length words ≡ 128)
-    × (passIn words nearest client part (extensionsIn (drop at block)) ≡ passOver client part (extensionsIn block))
+    × (passIn words nearest part (extensionsIn (drop at block)) ≡ passOver part (extensionsIn block))
 
 abbrev μ-loop : tie.MeasureT-loop
-μ-loop client block part words₀ nearest₀ at₀ words nearest at = length block - at
+μ-loop block part words₀ nearest₀ at₀ words nearest at = length block - at
 
 loop-holds : tie.Need-loop-holds Inv-loop μ-loop
-loop-holds c = let a = c .before .args in (zero-le, refl, pass-over (a .client) (a .part) (extensionsIn (a .block .now)))
+loop-holds c = let a = c .before .args in (zero-le, refl, pass-over (a .part) (extensionsIn (a .block .now)))
 
 -- a turn's start, its block, and the extension that `next` found there
 abbrev Turn : Type 0
@@ -39,9 +36,6 @@ block l = l .before .before .args .block .now
 
 abbrev part : Turn → ℕ
 part l = l .before .before .args .part
-
-abbrev client : Turn → Bool
-client l = l .before .before .args .client
 
 abbrev turn : tie.After-known-told Inv-loop μ-loop → Turn
 turn c = c .before .before .before .before
@@ -58,25 +52,11 @@ found c = step-found (block (turn c)) (turn c .loop .at) _ _ _ (sym (c .before .
 
 -- what the pass says of all: what it says of the extension here and those behind it
 judged : (c : tie.After-known-told Inv-loop μ-loop) (said : Pass)
-    → passIn (turn c .loop .words) (turn c .loop .nearest) (client (turn c)) (part (turn c)) (adding (here c) (behind c)) ≡ said
-    → said ≡ passOver (client (turn c)) (part (turn c)) (extensionsIn (block (turn c)))
+    → passIn (turn c .loop .words) (turn c .loop .nearest) (part (turn c)) (adding (here c) (behind c)) ≡ said
+    → said ≡ passOver (part (turn c)) (extensionsIn (block (turn c)))
 judged c said e =
     let l = turn c .loop in
-    sym (sym (l .inv .2) ∙ ap (passIn (l .words) (l .nearest) (client (turn c)) (part (turn c))) (found c .left) ∙ e)
-
--- the length of a part from its two ends
-same-shape : (client : Bool) (b : List ℕ) (t s n : ℕ) → ticketShape client (extAt b t s n) ≡ ticketShape client (extAt b t s (s + n - s))
-same-shape client b t s n = rw (add-sub-cancel-left s n)
-
--- what `shaped` says of the extension here
-abbrev told : tie.After-shaped Inv-loop μ-loop → tie.After-known-told Inv-loop μ-loop
-told c = c .before .before .before .before
-
-shape : (c : tie.After-shaped Inv-loop μ-loop) → ticketShape (client (turn (told c))) (here (told c)) ≡ c .shaped .result
-shape c =
-    let d = told c in
-    let g = d .before .kind .given .0 in
-    same-shape (client (turn d)) (block (turn d)) (g .0) (g .1 .0) (g .1 .1 .0) ∙ sym (c .shaped .ensures)
+    sym (sym (l .inv .2) ∙ ap (passIn (l .words) (l .nearest) (part (turn c))) (found c .left) ∙ e)
 
 add-behind : tie.Need-add-behind Inv-loop μ-loop
 add-behind c = record { fits = omega (arith, found c) }
@@ -86,35 +66,20 @@ returns c =
     let d = c .before .before in
     let l = turn d .loop in
     judged d _
-    (pass-repeat (l .words) (l .nearest) (client (turn d)) (part (turn d)) (here d) (behind d) (c .before .if1 .taken) (c .if2 .taken))
-
-part-shaped-end : tie.Need-part-shaped-end Inv-loop μ-loop
-part-shaped-end c = omega (arith, found (c .before .before))
-
-returns-2 : tie.Need-returns-2 Inv-loop μ-loop
-returns-2 c =
-    let d = told (c .before) in
-    let l = turn d .loop in
-    let wrong = shape (c .before) ∙ not-true (c .before .shaped .result) (c .if3 .taken) in
-    judged d _ (pass-misshapen (l .words) (l .nearest) (client (turn d)) (part (turn d)) (here d) (behind d)
-    (c .before .before .before .before .if1 .taken) (c .before .before .before .if2 .left) wrong)
+    (pass-repeat (l .words) (l .nearest) (part (turn d)) (here d) (behind d) (c .before .if1 .taken) (c .if2 .taken))
 
 with-bit-requires : tie.Need-with-bit-requires Inv-loop μ-loop
-with-bit-requires c κs = (omega arith, c .before .before .before .if2 .left)
+with-bit-requires c κs = (omega arith, c .if2 .left)
 
 loop-less : tie.Need-loop-less Inv-loop μ-loop
-loop-less c = omega (arith, found (told (c .before .before)))
+loop-less c = omega (arith, found (c .before .before .before))
 
 loop-again : tie.Need-loop-again Inv-loop μ-loop
 loop-again c =
-    let s = c .before .before in
-    let d = told s in
+    let d = c .before .before .before in
     let l = turn d .loop in
-    let word = ap (λ (y : ℕ). passIn (set (l .words) (here d .kind / 64 % 128) y) (l .nearest) (client (turn d)) (part (turn d)) (behind d))
-    (c .with-bit .ensures) in
-    let right = shape s ∙ not-false (s .shaped .result) (c .before .if3 .left) in
-    let rest = pass-marked (l .words) (l .nearest) (client (turn d)) (part (turn d)) (here d) (behind d)
-    (s .before .before .before .if1 .taken) (s .before .before .if2 .left) right in
+    let word = ap (λ (y : ℕ). passIn (set (l .words) (here d .kind / 64 % 128) y) (l .nearest) (part (turn d)) (behind d)) (c .with-bit .ensures) in
+    let rest = pass-marked (l .words) (l .nearest) (part (turn d)) (here d) (behind d) (c .before .before .if1 .taken) (c .before .if2 .left) in
     (found d .inside, length-set (l .words) _ _ ∙ l .inv .1, word ∙ judged d _ rest)
 
 loop-less-2 : tie.Need-loop-less-2 Inv-loop μ-loop
@@ -124,21 +89,21 @@ loop-again-2 : tie.Need-loop-again-2 Inv-loop μ-loop
 loop-again-2 c =
     let d = c .before .before in
     let l = turn d .loop in
-    let closer = ap (λ (n : ℕ). passIn (l .words) n (client (turn d)) (part (turn d)) (behind d)) (c .nearer .ensures) in
-    let other = pass-other (l .words) (l .nearest) (client (turn d)) (part (turn d)) (here d) (behind d) (c .before .if1 .left) in
+    let closer = ap (λ (n : ℕ). passIn (l .words) n (part (turn d)) (behind d)) (c .nearer .ensures) in
+    let other = pass-other (l .words) (l .nearest) (part (turn d)) (here d) (behind d) (c .before .if1 .left) in
     (found d .inside, l .inv .1, closer ∙ judged d _ other)
+
+returns-2 : tie.Need-returns-2 Inv-loop μ-loop
+returns-2 c =
+    let t = c .before .before .before in
+    let e = step-ended (block t) (t .loop .at) (sym (c .before .before .next .ensures) ∙ c .enum-told .given .1) in
+    sym (ap (passIn (t .loop .words) (t .loop .nearest) (part t)) e) ∙ t .loop .inv .2
 
 returns-3 : tie.Need-returns-3 Inv-loop μ-loop
 returns-3 c =
     let t = c .before .before .before in
-    let e = step-ended (block t) (t .loop .at) (sym (c .before .before .next .ensures) ∙ c .enum-told .given .1) in
-    sym (ap (passIn (t .loop .words) (t .loop .nearest) (client t) (part t)) e) ∙ t .loop .inv .2
-
-returns-4 : tie.Need-returns-4 Inv-loop μ-loop
-returns-4 c =
-    let t = c .before .before .before in
     let e = step-refused (block t) (t .loop .at) (sym (c .before .before .next .ensures) ∙ c .enum-told2 .given .1) in
-    sym (ap (passIn (t .loop .words) (t .loop .nearest) (client t) (part t)) e) ∙ t .loop .inv .2
+    sym (ap (passIn (t .loop .words) (t .loop .nearest) (part t)) e) ∙ t .loop .inv .2
 
 pub test-part-spec : {M : Type 1} → statement M
 test-part-spec =
@@ -154,11 +119,6 @@ test-part-spec =
     (λ c. search needs)
     (λ c. search needs)
     returns
-    (λ c. search needs)
-    (λ c. search needs)
-    part-shaped-end
-    (λ c κs. search needs)
-    returns-2
     with-bit-requires
     (λ c. search needs)
     (λ c. search needs)
@@ -168,6 +128,6 @@ test-part-spec =
     loop-less-2
     loop-again-2
     (λ c. search needs)
-    returns-3
+    returns-2
     (λ c. search needs)
-    returns-4)
+    returns-3)

@@ -34,7 +34,7 @@ abbrev methods : tie.Start → Bool
 methods s = writable 1 (s .args .methods .now) && methodsLength (length (s .args .methods .now))
 
 abbrev block : tie.Start → Bool
-block s = blockRules true (given (s .args .present) (s .args .block .now))
+block s = blockRules (given (s .args .present) (s .args .block .now))
 
 rules-by : (s : tie.Start) → clientHello .rules (fields s) ≡ (front s && ((suites s && methods s) && block s))
 rules-by s = ap (λ (t : Bool). front s && t) (sym (and-assoc (suites s) (methods s) (block s)))
@@ -91,7 +91,7 @@ returns-2 c =
     let size = two .bytes16 .result in
     let parts = four-parts (a .suites .now) (a .methods .now) tail size (two .bytes16 .ensures) (lists-ok (two .before) .1) in
     let same = same-written clientHello (fields s)
-    (helloWith 1 true (between size (a .suites .now) (length (a .methods .now) ∷ []) (a .methods .now)))
+    (helloWith 1 (between size (a .suites .now) (length (a .methods .now) ∷ []) (a .methods .now)))
     (frontGiven (a .version) (a .random .now) (a .session-id .now) (a .present) (a .block .now)) refl
     (rules-by s ∙ rw (lists-true (two .before)))
     (ap (frontBytes (a .version) (a .random .now) (a .session-id .now)) parts) in

@@ -37,18 +37,18 @@ inside c =
     omega arith
 
 -- the length of a part from its two ends
-same-rule : (client : Bool) (m : List ℕ) (s n : ℕ) → blockRule client (take n (drop s m)) ≡ blockRule client (take (s + n - s) (drop s m))
-same-rule client m s n = rw (add-sub-cancel-left s n)
+same-rule : (m : List ℕ) (s n : ℕ) → blockRule (take n (drop s m)) ≡ blockRule (take (s + n - s) (drop s m))
+same-rule m s n = rw (add-sub-cancel-left s n)
 
 -- what the block's own test was asked
 rule : (c : tie.After-test) →
     let a = start (known c) .args in
     let g = known c .before .start .given .0 in
-    blockRule (a .client) (take (g .1 .0) (drop (g .0) (a .message .now))) ≡ c .test .result
+    blockRule (take (g .1 .0) (drop (g .0) (a .message .now))) ≡ c .test .result
 rule c =
     let a = start (known c) .args in
     let g = known c .before .start .given .0 in
-    same-rule (a .client) (a .message .now) (g .0) (g .1 .0) ∙ sym (c .test .ensures)
+    same-rule (a .message .now) (g .0) (g .1 .0) ∙ sym (c .test .ensures)
 
 add-test : tie.Need-add-test
 add-test c = record { fits = omega (arith, inside c) }
@@ -57,19 +57,19 @@ part-test-end : tie.Need-part-test-end
 part-test-end c = omega (arith, inside c)
 
 -- what is left once the block is tested
-block-tested : (client : Bool) (m : List ℕ) (at s n : ℕ) (t : Bool) → ¬ (at ≡ length m) → lastAt 2 m at ≡ At s n
-    → blockRule client (take n (drop s m)) ≡ t → blockAt client m at ≡ cond t (Found (Block.At s n)) Refused
-block-tested client m at s n t more there e = rw (ne-eqb at (length m) more, there, e)
+block-tested : (m : List ℕ) (at s n : ℕ) (t : Bool) → ¬ (at ≡ length m) → lastAt 2 m at ≡ At s n
+    → blockRule (take n (drop s m)) ≡ t → blockAt m at ≡ cond t (Found (Block.At s n)) Refused
+block-tested m at s n t more there e = rw (ne-eqb at (length m) more, there, e)
 
 rule-left : (c : tie.After-test) {t : Bool} → c .test .result ≡ t →
     let a = start (known c) .args in
     let g = known c .before .start .given .0 in
-    blockAt (a .client) (a .message .now) (a .at) ≡ cond t (Found (Block.At (g .0) (g .1 .0))) Refused
+    blockAt (a .message .now) (a .at) ≡ cond t (Found (Block.At (g .0) (g .1 .0))) Refused
 rule-left c e =
     let found = known c .before in
     let a = start (known c) .args in
     let more = found .before .before .before .if1 .left in
-    block-tested (a .client) (a .message .now) (a .at) _ _ _ more (sym (found .before .before .last16 .ensures) ∙ found .start .given .1) (rule c ∙ e)
+    block-tested (a .message .now) (a .at) _ _ _ more (sym (found .before .before .last16 .ensures) ∙ found .start .given .1) (rule c ∙ e)
 
 returns-2 : tie.Need-returns-2
 returns-2 c = sym (rule-left (c .before) (not-true (c .before .test .result) (c .if2 .taken)))

@@ -19,7 +19,7 @@ use Rattle.hellos.proofs.hello.write.Tie as tie
 
 -- the layout, the fields that are given, and the output
 abbrev layout : tie.Start → Layout Front
-layout s = let a = s .args in helloWith (a .kind) (a .client) (between (a .a .now) (a .b .now) (a .c .now) (a .d .now))
+layout s = let a = s .args in helloWith (a .kind) (between (a .a .now) (a .b .now) (a .c .now) (a .d .now))
 
 abbrev fields : tie.Start → Front
 fields s = let a = s .args in frontGiven (a .version) (a .random .now) (a .session-id .now) (a .present) (a .block .now)
@@ -62,7 +62,7 @@ ok c =
     let s = start3 (c .before) in
     let tested = c .before .before in
     let n = sized (c .before) in
-    let block : blockRules (s .args .client) (given (s .args .present) (s .args .block .now)) ≡ true =
+    let block : blockRules (given (s .args .present) (s .args .block .now)) ≡ true =
     sym (tested .before .tail-valid .ensures) ∙ not-false (tested .before .tail-valid .result) (tested .if2 .left) in
     valid-within (layout s) (fields s) (rw (front-true (tested .before .before)) block) (omega arith)
 
@@ -75,7 +75,7 @@ returns c =
 returns-2 : tie.Need-returns-2
 returns-2 c =
     let s = start2 (c .before) in
-    let bad : blockRules (s .args .client) (given (s .args .present) (s .args .block .now)) ≡ false =
+    let bad : blockRules (given (s .args .present) (s .args .block .now)) ≡ false =
     sym (c .before .tail-valid .ensures) ∙ not-true (c .before .tail-valid .result) (c .if2 .taken) in
     writes-none (layout s) (fields s) (out s) (valid-rules (layout s) (fields s) (simp (bad, and-false)))
 

@@ -4,7 +4,7 @@ use borrow.Author.Needs.{needs}
 use borrow.Author.Tests.{lt-ltb, le-ltb}
 use native.Mathlib.Omega.{arith}
 use mathlib.Core.Path.{_≡_, refl, sym, ap, _∙_}
-use mathlib.Core.Bool.{false, and-false}
+use mathlib.Core.Bool.{and-false}
 use Prim.Native.Nat.{ℕ}
 use mathlib.Core.List.{List, [], _∷_, _++_, append-assoc, append-nil}
 use Rattle.endian.specs.Number.{be}
@@ -46,7 +46,7 @@ returns-2 c =
     let tail : List ℕ = tailBytes (given (a .present) (a .block .now)) in
     let number = two .bytes16 .result in
     let parts = four-parts (a .suite) (a .compression) number tail (two .bytes16 .ensures) in
-    let same = same-written serverHello (fields s) (helloWith 2 false (between number (a .compression ∷ []) [] []))
+    let same = same-written serverHello (fields s) (helloWith 2 (between number (a .compression ∷ []) [] []))
     (frontGiven (a .version) (a .random .now) (a .session-id .now) (a .present) (a .block .now)) refl
     (rw (lt-ltb (a .suite) 65536 (omega (arith, two .before .if1 .left)), lt-ltb (a .compression) 256 (s .fits .compression .fits)))
     (ap (frontBytes (a .version) (a .random .now) (a .session-id .now)) parts) in
