@@ -1,7 +1,7 @@
 // A key as hex digits in lower case, and the line of an identity and a key.
 ghost use mathlib.Core.Path.{_≡_};
 ghost use mathlib.Core.List.{_++_, _∷_, []};
-ghost use Prim.Native.Nat.{_+_, _*_, _≤_, _<_};
+ghost use Prim.Native.Nat.{_+_, _*_, _<_};
 ghost use lib.ListN.{length, getD};
 ghost use Rattle.keytable.specs.Table.{lineEnd};
 ghost use Rattle.table_edits.specs.Edits.{lowerDigit, lowerHex, lineWith};
