@@ -8,7 +8,7 @@ use lib.Dec.{eqb}
 use lib.IntN.{ℤ, pos, negsuc}
 use Rattle.refusal.specs.declared.Refusal.{Refusal}
 use Rattle.refusal.specs.declared.Refusal.the-variants.{ShortOutput, BadTable, BadSetting, ConnectionOver, BadValue}
-use Rattle.refusal.specs.declared.Refusal.the-variants.{AlreadyListed, NotListed, TableFull}
+use Rattle.refusal.specs.declared.Refusal.the-variants.{AlreadyListed, NotListed, TableFull, SequenceSpent, BadRecordMac, RecordOverflow}
 use Rattle.refusal.specs.declared.Refusal.the-variants.{UnexpectedMessage, HandshakeFailure, IllegalParameter, DecodeError, DecryptError}
 use Rattle.refusal.specs.declared.Refusal.the-variants.{ProtocolVersion, UnknownPskIdentity}
 use Rattle.refusal.specs.declared.Written.{Written}
@@ -26,13 +26,16 @@ refusalBelow n =
     (cond (eqb n 5) AlreadyListed
     (cond (eqb n 6) NotListed
     (cond (eqb n 7) TableFull
+    (cond (eqb n 8) SequenceSpent
     (cond (eqb n 1009) UnexpectedMessage
+    (cond (eqb n 1019) BadRecordMac
+    (cond (eqb n 1021) RecordOverflow
     (cond (eqb n 1039) HandshakeFailure
     (cond (eqb n 1046) IllegalParameter
     (cond (eqb n 1049) DecodeError
     (cond (eqb n 1050) DecryptError
     (cond (eqb n 1069) ProtocolVersion
-    UnknownPskIdentity)))))))))))))
+    UnknownPskIdentity))))))))))))))))
 
 said : ℤ → Written
 said (pos n) = Wrote n
@@ -48,7 +51,10 @@ refusal-said BadValue = refl
 refusal-said AlreadyListed = refl
 refusal-said NotListed = refl
 refusal-said TableFull = refl
+refusal-said SequenceSpent = refl
 refusal-said UnexpectedMessage = refl
+refusal-said BadRecordMac = refl
+refusal-said RecordOverflow = refl
 refusal-said HandshakeFailure = refl
 refusal-said IllegalParameter = refl
 refusal-said DecodeError = refl

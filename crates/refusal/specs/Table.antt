@@ -1,11 +1,11 @@
--- Document 01, "Numbers that come back", and the numbers of document 02's P1, as a table: for each refusal its number, who is given it, and what
+-- Document 01, "Numbers that come back", and the numbers of document 02's P1 and P5, as a table: for each refusal its number, who is given it, and what
 -- becomes of the connection.
 use Prim.Native.Nat.{ℕ}
 use mathlib.Core.Bool.{Bool, true, false}
 use Rattle.refusal.specs.declared.Refusal.{Refusal}
 use Rattle.refusal.specs.declared.Refusal.the-variants.{ShortOutput, BadTable, BadSetting, ConnectionOver, BadValue}
-use Rattle.refusal.specs.declared.Refusal.the-variants.{AlreadyListed, NotListed, TableFull}
-use Rattle.refusal.specs.declared.Refusal.the-variants.{UnexpectedMessage, HandshakeFailure, IllegalParameter, DecodeError}
+use Rattle.refusal.specs.declared.Refusal.the-variants.{AlreadyListed, NotListed, TableFull, SequenceSpent}
+use Rattle.refusal.specs.declared.Refusal.the-variants.{UnexpectedMessage, BadRecordMac, RecordOverflow, HandshakeFailure, IllegalParameter, DecodeError}
 use Rattle.refusal.specs.declared.Refusal.the-variants.{DecryptError, ProtocolVersion, UnknownPskIdentity}
 
 -- An R number is for the host, and any other for the client, as a fatal alert.
@@ -38,7 +38,10 @@ row BadValue = R 5 noneInvolved
 row AlreadyListed = R 6 noneInvolved
 row NotListed = R 7 noneInvolved
 row TableFull = R 8 noneInvolved
+row SequenceSpent = R 9 unchanged
 row UnexpectedMessage = alert 10
+row BadRecordMac = alert 20
+row RecordOverflow = alert 22
 row HandshakeFailure = alert 40
 row IllegalParameter = alert 47
 row DecodeError = alert 50

@@ -4,7 +4,7 @@ use mathlib.Core.Path.{_≡_, refl}
 use mathlib.Core.Bool.{cond}
 use Rattle.refusal.specs.declared.Refusal.{Refusal}
 use Rattle.refusal.specs.declared.Refusal.the-variants.{ShortOutput, BadTable, BadSetting, ConnectionOver, BadValue}
-use Rattle.refusal.specs.declared.Refusal.the-variants.{AlreadyListed, NotListed, TableFull}
+use Rattle.refusal.specs.declared.Refusal.the-variants.{AlreadyListed, NotListed, TableFull, SequenceSpent, BadRecordMac, RecordOverflow}
 use Rattle.refusal.specs.declared.Refusal.the-variants.{UnexpectedMessage, HandshakeFailure, IllegalParameter, DecodeError, DecryptError}
 use Rattle.refusal.specs.declared.Refusal.the-variants.{ProtocolVersion, UnknownPskIdentity}
 use Rattle.refusal.specs.Table.{toClient}
@@ -21,7 +21,10 @@ alerts-close BadValue c = refl
 alerts-close AlreadyListed c = refl
 alerts-close NotListed c = refl
 alerts-close TableFull c = refl
+alerts-close SequenceSpent c = refl
 alerts-close UnexpectedMessage c = refl
+alerts-close BadRecordMac c = refl
+alerts-close RecordOverflow c = refl
 alerts-close HandshakeFailure c = refl
 alerts-close IllegalParameter c = refl
 alerts-close DecodeError c = refl
