@@ -17,16 +17,16 @@ use Rattle.sha256.specs.Hash.{limit, concatenated}
 use Rattle.sha256.specs.State.{finished}
 use Rattle.sha256.proofs.Finish.{length-digest}
 use Rattle.keys.specs.declared.Label.{Label}
-use Rattle.keys.specs.declared.Label.the-variants.{MasterSecret}
+use Rattle.keys.specs.declared.Label.the-variants.{MasterSecret, KeyExpansion}
 use Rattle.keys.specs.declared.Side.{Side}
 use Rattle.keys.specs.Hmac.{mac, keyed}
 use Rattle.keys.specs.Prf.{P, expanded, prf, text}
-use Rattle.keys.specs.Secrets.{premaster, premasterBytes, master, masterUnder, verifyData, finishedLabel, finishedOf}
+use Rattle.keys.specs.Secrets.{premaster, premasterBytes, master, masterUnder, keyBlockLength, keys, verifyData, finishedLabel, finishedOf}
 use Rattle.keys.proofs.PrfSteps.{prf-within}
 
 -- ---- the PRF
 
-length-mac : (key message : List ℕ) → length (mac key message) ≡ 32
+pub length-mac : (key message : List ℕ) → length (mac key message) ≡ 32
 unfolding mac keyed
 length-mac key message = length-digest _
 
@@ -84,6 +84,20 @@ pub master-under-given : (key client server : List ℕ) → 1 ≤ length key →
     → (bytes : List ℕ) × (length bytes ≡ 48) × (masterUnder key client server ≡ gives bytes)
 master-under-given key client server some few c s =
     rw (premaster-given key some few) (master-given (premasterBytes key) client server (rw (length-premaster key) (omega arith)) c s)
+
+-- ---- the key block
+
+pub key-block-given : (secret server client : List ℕ) (suite : ℕ) → length secret ≡ 48 → length server ≡ 32 → length client ≡ 32
+    → 1 ≤ keyBlockLength suite → keyBlockLength suite ≤ 256
+    → (bytes : List ℕ) × (length bytes ≡ keyBlockLength suite) × (keys secret server client suite ≡ gives bytes)
+unfolding keys
+key-block-given secret server client suite h k l some few =
+    let two : length (server ++ client) ≤ 65536 = simp length-append (omega arith) in (
+      expanded secret (text KeyExpansion ++ (server ++ client)) (keyBlockLength suite),
+      length-expanded secret _ (keyBlockLength suite),
+      rw (eq-eqb (length secret) 48 h, eq-eqb (length server) 32 k, eq-eqb (length client) 32 l, le-leb 1 (keyBlockLength suite) some)
+          (prf-within secret KeyExpansion (server ++ client) (keyBlockLength suite) (omega arith) two few),
+    )
 
 -- ---- Finished values
 

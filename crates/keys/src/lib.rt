@@ -39,18 +39,29 @@ const KEY_LIMIT: usize = 0x1fff_ffff_ffff_ffff;
 // The most bytes of a message: 64 fewer, since the key's block is hashed before it.
 const MESSAGE_LIMIT: usize = 0x1fff_ffff_ffff_ffbf;
 
-// HMAC-SHA-256 at the front of the lent output: R5 where the message or the key is too long, then R1.
-pub fn hmac(key: &[u8], message: &[u8], out: &mut [u8]) -> Written
-    ensures { λ r. ⌜ Answers (Hmac.hmac (now (key .entry)) (now (message .entry))) (now (out .entry)) r (now (out .exit)) ⌝ }
+// HMAC-SHA-256 of a message in two parts, one behind the other, at the front of the lent output: R5 where the
+// message or the key is too long, then R1.
+pub fn hmac_of_two(key: &[u8], first: &[u8], second: &[u8], out: &mut [u8]) -> Written
+    ensures { λ r. ⌜ Answers (Hmac.hmac (now (key .entry)) (now (first .entry) ++ now (second .entry))) (now (out .entry)) r (now (out .exit)) ⌝ }
 {
-    if MESSAGE_LIMIT < message.len() {
+    if MESSAGE_LIMIT < first.len() {
+        return Written::Refused(Refusal::BadValue);
+    }
+    if MESSAGE_LIMIT - first.len() < second.len() {
         return Written::Refused(Refusal::BadValue);
     }
     if KEY_LIMIT < key.len() {
         return Written::Refused(Refusal::BadValue);
     }
-    let value = mac::value(key, message);
+    let value = mac::value_of_two(key, first, second);
     refusal::put(&value, out)
+}
+
+// The same of a message in one part.
+pub fn hmac(key: &[u8], message: &[u8], out: &mut [u8]) -> Written
+    ensures { λ r. ⌜ Answers (Hmac.hmac (now (key .entry)) (now (message .entry))) (now (out .entry)) r (now (out .exit)) ⌝ }
+{
+    hmac_of_two(key, b"", message, out)
 }
 
 // n bytes of PRF(secret, label, seed) at the front of the lent output: R5 where the secret or the seed

@@ -2,7 +2,7 @@
 use sha256::Sha256;
 ghost use mathlib.Core.Path.{_≡_};
 ghost use mathlib.Core.List.{List, _++_};
-ghost use Prim.Native.Nat.{ℕ, _-_, _≤_};
+ghost use Prim.Native.Nat.{ℕ, _+_, _-_, _≤_};
 ghost use lib.ListN.{length};
 ghost use Rattle.sha256.specs.Hash.{limit};
 ghost use Rattle.sha256.specs.State.{absorb, fresh};
@@ -47,13 +47,22 @@ pub(crate) fn end(block: [u8; 64], inner: Sha256) -> [u8; 32]
     value
 }
 
-// HMAC of a message under a key.
+// HMAC of a message in two parts under a key.
+pub(crate) fn value_of_two(key: &[u8], first: &[u8], second: &[u8]) -> [u8; 32]
+    requires { ⌜ length (now key) ≤ limit ⌝ }
+    requires { ⌜ length (now first) + length (now second) ≤ limit - 64 ⌝ }
+    ensures { λ r. ⌜ r ≡ mac (now (key .entry)) (now (first .entry) ++ now (second .entry)) ⌝ }
+{
+    let block = block_of(key);
+    let inner = begin(block, 0x36).update(first).update(second);
+    end(block, inner)
+}
+
+// The same of a message in one part.
 pub(crate) fn value(key: &[u8], message: &[u8]) -> [u8; 32]
     requires { ⌜ length (now key) ≤ limit ⌝ }
     requires { ⌜ length (now message) ≤ limit - 64 ⌝ }
     ensures { λ r. ⌜ r ≡ mac (now (key .entry)) (now (message .entry)) ⌝ }
 {
-    let block = block_of(key);
-    let inner = begin(block, 0x36).update(message);
-    end(block, inner)
+    value_of_two(key, b"", message)
 }
