@@ -2,16 +2,16 @@
 -- the server promises it.
 -- Assumes nothing.
 use mathlib.Core.Path.{_≡_, refl}
-use Prim.Native.Nat.{ℕ, _+_, _-_, _≤_, _<_, _^_}
+use Prim.Native.Nat.{ℕ, _-_, _≤_, _<_, _^_}
 use native.Mathlib.Omega.{arith}
-use mathlib.Core.Bool.{Bool, true, false, cond, not, _&&_, _||_, and-eq-true-iff}
+use mathlib.Core.Bool.{Bool, true, false, cond, _&&_, and-eq-true-iff}
 use mathlib.Core.List.{List, _++_}
 use mathlib.Core.Option.{Option, none, some}
 use lib.ListN.{length, take, length-take}
 use lib.Dec.{leb, ltb, eqb}
 use borrow.Author.Tests.{leb-true, ltb-true}
 use Rattle.refusal.specs.declared.Refusal.{Refusal}
-use Rattle.refusal.specs.declared.Refusal.the-variants.{BadTable, BadValue, TableFull, ConnectionOver, IllegalParameter}
+use Rattle.refusal.specs.declared.Refusal.the-variants.{BadTable, BadValue, TableFull, ConnectionOver}
 use Rattle.refusal.specs.Lent.{Outcome, gives, refuses}
 use Rattle.endian.specs.Vector.{writable}
 use Rattle.sha256.specs.Hash.{limit, sha256, digest}
@@ -28,14 +28,13 @@ use Rattle.extensions.specs.Extensions.{Ext, extensionBytes, extensionWritten}
 use Rattle.keytable.specs.Table.{lines, joined, tableRefusal, keyOf, found}
 use Rattle.keytable.proofs.Lookups.{key-size}
 use Rattle.table_edits.specs.Edits.{Edit, subject, listed, linesAfter, allowed, misplaced, sized, unless, edited, editedIn}
+use Rattle.server.specs.declared.Heard.{Heard}
 use Rattle.server.specs.declared.Phase.{Phase}
 use Rattle.server.specs.declared.Connection.{Connection}
-use Rattle.server.specs.Connection.{ended}
-use Rattle.server.specs.Flight.{silence}
-use Rattle.server.specs.Step.{Step, refuse, accept}
+use Rattle.server.specs.Step.{Step, refuse}
 use Rattle.server.specs.Change.{changeStep}
 use Rattle.server.specs.Connection.{isOver}
-use Rattle.server.specs.Alert.{alertStep}
+use Rattle.server.specs.Alert.{heard, heardStep, alertStep}
 use Rattle.server.specs.Step.{outcome}
 use Rattle.c_interface.proofs.Answers.{size}
 
@@ -166,8 +165,11 @@ change-brief c Phase.Finished = omega arith
 change-brief c Phase.Complete = omega arith
 change-brief c Phase.Closed = omega arith
 
+heard-brief : (c : Connection) (h : Heard) → Brief (heardStep c h)
+heard-brief c Heard.Illegal = omega arith
+heard-brief c Heard.Ends = omega arith
+heard-brief c Heard.Ignored = omega arith
+
 pub alert-brief : (c : Connection) (level description : ℕ) → Brief (alertStep c level description)
 alert-brief c level description =
-    either-brief (isOver (c .phase)) (refuse ConnectionOver) _ (omega arith)
-    (either-brief (not (eqb level 1 || eqb level 2)) (refuse IllegalParameter) _ (omega arith)
-    (either-brief (eqb level 2 || eqb description 0) (accept silence (ended Phase.Closed)) (accept silence c) (omega arith) (omega arith)))
+    either-brief (isOver (c .phase)) (refuse ConnectionOver) _ (omega arith) (heard-brief c (heard level description))

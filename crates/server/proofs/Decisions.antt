@@ -16,7 +16,8 @@ use Rattle.server.specs.declared.Answer.{Answer}
 use Rattle.server.specs.declared.step.Decision.{Decision}
 use Rattle.server.specs.Flight.{Flight, flightBytes, longest}
 use Rattle.server.specs.Step.{Step, refuse, accept, settled, answered}
-use Rattle.server.specs.Inner.{Decides, Does}
+use Rattle.server.specs.Decision.{Decides}
+use Rattle.server.specs.Inner.{Does}
 
 -- what is decided for one step is decided for the same step
 pub same-step : {d : Decision} {s t : Step} → s ≡ t → Decides d t → Decides d s

@@ -15,7 +15,8 @@ use Rattle.messages.specs.Fixed as Fixed
 use Rattle.server.specs.declared.step.Outgoing.{Outgoing}
 use Rattle.server.specs.Flight.{Flight, joined, flightBytes}
 use Rattle.server.specs.Finished.{finishedFlight}
-use Rattle.server.specs.Inner.{total, cut, flightOf, Sends}
+use Rattle.server.specs.Decision.{total, cut, flightOf}
+use Rattle.server.specs.Inner.{Sends}
 
 -- three lengths
 pub total-three : (ns : List ℕ) → length ns ≡ 3 → total ns ≡ getD ns 0 0 + getD ns 1 0 + getD ns 2 0

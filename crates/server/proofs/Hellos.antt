@@ -25,7 +25,8 @@ use Rattle.server.specs.declared.hello.Choice.{Choice}
 use Rattle.server.specs.Step.{refuse}
 use Rattle.server.specs.Hello.{offers, chosen, offersNull, hintMessage, flight, helloChosen, helloFields}
 use Rattle.server.specs.Flight.{Flight, joined, flightBytes}
-use Rattle.server.specs.Inner.{asChoice, hintMessageLength, restOf, total, cut, Sends}
+use Rattle.server.specs.Decision.{total, cut}
+use Rattle.server.specs.Inner.{asChoice, hintMessageLength, restOf, Sends}
 use Rattle.server.proofs.Flights.{cut-first, joined-append}
 
 -- ---- the lists of a ClientHello

@@ -9,57 +9,24 @@ use lib.Dec.{eqb}
 use Rattle.sha256.specs.State.{absorb}
 use Rattle.keys.specs.Secrets.{finishedOf}
 use Rattle.keys.specs.declared.Side.the-variants.{Client, Server}
-use Rattle.layout.specs.declared.Verdict.{Verdict}
 use Rattle.layout.specs.Layout.{bytes}
 use Rattle.messages.specs.Fixed.{serverHelloDone}
 use Rattle.server.specs.declared.Phase.{Phase}
 use Rattle.server.specs.declared.Connection.{Connection}
 use Rattle.server.specs.declared.Answer.{Answer}
 use Rattle.server.specs.declared.step.Outgoing.{Outgoing}
-use Rattle.server.specs.declared.step.Decision.{Decision}
 use Rattle.server.specs.declared.calls.Awaited.{Awaited}
 use Rattle.server.specs.declared.hello.Choice.{Choice}
 use Rattle.server.specs.Flight.{Flight, joined, longest, counted}
-use Rattle.server.specs.Step.{Step, refuse, accept, settled, answered}
+use Rattle.server.specs.Decision.{total, flightOf}
+use Rattle.server.specs.Step.{Step, settled, answered}
 use Rattle.server.specs.Hello.{hintMessage}
 use Rattle.server.specs.Finished.{isValue, completed}
-
--- ---- messages at the front of an array, and their lengths
-
-abbrev pub total : List ℕ → ℕ
-total [] = 0
-total (n ∷ ns) = n + total ns
-
--- the messages of these lengths, one behind the other, where 0 stands for none
-abbrev pub cut : List ℕ → List ℕ → List (List ℕ)
-cut [] bytes = []
-cut (n ∷ ns) bytes = cond (eqb n 0) (cut ns bytes) (take n bytes ∷ cut ns (drop n bytes))
-
--- the flight that they are
-abbrev pub flightOf : Outgoing → Flight
-flightOf o =
-    record {
-      plain = cut (take (o .plain) (o .lengths)) (o .bytes);
-      protected = cut (drop (o .plain) (o .lengths)) (drop (total (take (o .plain) (o .lengths))) (o .bytes));
-    }
 
 -- messages that stand within their array
 pub record Sends (o : Outgoing) (flight : Flight) : Type 0 where
   pub means : flightOf o ≡ flight
   pub fits : total (o .lengths) ≤ longest
-
--- ---- a step's decision
-
-abbrev pub decidedBy : Verdict → Decision → Step
-decidedBy Verdict.Accepted d = accept (flightOf (d .outgoing)) (d .next)
-decidedBy (Verdict.Refused r) d = refuse r
-
-abbrev pub decided : Decision → Step
-decided d = decidedBy (d .verdict) d
-
-pub record Decides (d : Decision) (step : Step) : Type 0 where
-  pub means : decided d ≡ step
-  pub fits : total (d .outgoing .lengths) ≤ longest
 
 -- what a call gives back for a step, and what it leaves in the lent output
 pub record Does (c : Connection) (out : List ℕ) (step : Step) (given : Answer) (left : List ℕ) : Type 0 where

@@ -1,6 +1,7 @@
 pub mod Alert
 pub mod Change
 pub mod Connection
+pub mod Decision
 pub mod Finished
 pub mod Flight
 pub mod Hello

@@ -1,13 +1,14 @@
 -- A handshake message: which one is awaited, the order of its tests, and what the call gives back (document 01, "Numbers that come back").
-use Prim.Native.Nat.{ℕ}
+use Prim.Native.Nat.{ℕ, _+_}
 use mathlib.Core.Bool.{true, false, cond}
 use mathlib.Core.List.{List}
 use mathlib.Core.Option.{Option, none, some}
-use lib.ListN.{length, replicate}
-use lib.Dec.{ltb}
+use lib.ListN.{length, getD, drop, replicate}
+use lib.Dec.{leb, ltb, eqb}
+use Rattle.endian.specs.Vector.{stated}
 use Rattle.refusal.specs.declared.Refusal.the-variants.{ConnectionOver, UnexpectedMessage, DecodeError}
 use Rattle.layout.specs.declared.Verdict.{Verdict}
-use Rattle.layout.specs.Types.{clientHelloType, clientKeyExchangeType, finishedType}
+use Rattle.layout.specs.Types.{clientHelloType, clientKeyExchangeType, finishedType, messageLimit}
 use Rattle.layout.specs.Header.{header}
 use Rattle.hellos.specs.ClientHello.{clientBody, clientFields}
 use Rattle.layout.specs.Place.{lastAt, filledBy, contents}
@@ -34,6 +35,15 @@ awaited Phase.Closed = none
 abbrev pub headerTest : Option ℕ → List ℕ → Verdict
 headerTest (some kind) m = header kind m
 headerTest none m = Verdict.Refused (cond (ltb (length m) 4) DecodeError UnexpectedMessage)
+
+-- What is judged of a message as soon as the four bytes of its header are in, although the rest may not be (document 02, P5): the type is the awaited one, 10
+-- otherwise, and the whole message is within the limit, 50 otherwise.
+abbrev pub earlyTest : Option ℕ → List ℕ → Verdict
+earlyTest (some kind) m =
+    cond (eqb (getD m 0 0) kind)
+    (cond (leb (4 + stated 3 (drop 1 m)) messageLimit) Verdict.Accepted (Verdict.Refused DecodeError))
+    (Verdict.Refused UnexpectedMessage)
+earlyTest none m = Verdict.Refused UnexpectedMessage
 
 -- The step of each phase, of a message that passed those tests; for a ClientKeyExchange the table's own refusal stands before the tests on the body.
 -- No message passes in the other phases.

@@ -9,12 +9,14 @@ ghost use Rattle.server.specs.Flight.{longest, counted};
 ghost use Rattle.server.specs.Step.{answered};
 ghost use Rattle.server.specs.KeyExchange.{viewOf};
 ghost use Rattle.server.specs.Message as Message;
-ghost use Rattle.server.specs.Message.{headerTest, bodyStep, messageStep, messageCall, messageReply, handedOver, withMaster};
+ghost use Rattle.server.specs.Message.{headerTest, earlyTest, bodyStep, messageStep, messageCall, messageReply, handedOver, withMaster};
 ghost use Rattle.server.specs.Change.{afterChange, changeCall};
-ghost use Rattle.server.specs.Alert.{alertCall};
-ghost use Rattle.server.specs.Inner.{Decides, asAwaited, decided};
+ghost use Rattle.server.specs.Alert.{heard, alertCall};
+ghost use Rattle.server.specs.Decision.{Decides, decided};
+ghost use Rattle.server.specs.Inner.{asAwaited};
 use crate::Answer;
 use crate::Connection;
+use crate::Heard;
 use crate::Phase;
 use crate::Reply;
 use crate::ended;
@@ -95,8 +97,8 @@ fn body(c: Connection, table: &[u8], m: &[u8]) -> Decision
     }
 }
 
-// What a message comes to, whatever the room.
-fn decide(c: Connection, table: &[u8], m: &[u8]) -> Decision
+// What a message comes to, whatever the room, for a caller that has its own way of writing the answer.
+pub fn decide(c: Connection, table: &[u8], m: &[u8]) -> Decision
     ensures { λ d. ⌜ Decides d (messageStep (viewOf (now (table .entry))) c (now (m .entry)) (c .phase)) ⌝ }
 {
     let phase = c.phase;
@@ -170,6 +172,24 @@ pub fn message(c: Connection, table: &[u8], m: &[u8], out: &mut [u8]) -> Reply
     reply(phase, d, a)
 }
 
+// What is judged of a message as soon as the four bytes of its header are in, although the rest may not be.
+pub fn judge_header(phase: Phase, header: [u8; 4]) -> Verdict
+    ensures { λ r. ⌜ r ≡ earlyTest (Message.awaited phase) header ⌝ }
+{
+    match awaited_in(phase) {
+        Awaited::Message(kind) => {
+            if header[0] != kind {
+                return Verdict::Refused(Refusal::UnexpectedMessage);
+            }
+            if types::MESSAGE_LIMIT - 4 < endian::number24(header[1], header[2], header[3]) {
+                return Verdict::Refused(Refusal::DecodeError);
+            }
+            Verdict::Accepted
+        }
+        Awaited::Nothing => Verdict::Refused(Refusal::UnexpectedMessage),
+    }
+}
+
 // ---- a change of cipher
 
 // The connection when it has come.
@@ -218,6 +238,22 @@ const FATAL: u8 = 2;
 
 const CLOSE_NOTIFY: u8 = 0;
 
+// What an alert of this level and description comes to.
+pub fn hear(level: u8, description: u8) -> Heard
+    ensures { λ r. ⌜ r ≡ heard level description ⌝ }
+{
+    if level == FATAL {
+        return Heard::Ends;
+    }
+    if level != WARNING {
+        return Heard::Illegal;
+    }
+    if description == CLOSE_NOTIFY {
+        return Heard::Ends;
+    }
+    Heard::Ignored
+}
+
 // A received alert.
 pub fn alert(c: Connection, level: u8, description: u8) -> Answer
     ensures { λ a. ⌜ a ≡ answered (alertCall c level description) ⌝ }
@@ -226,25 +262,18 @@ pub fn alert(c: Connection, level: u8, description: u8) -> Answer
     if is_over(phase) {
         return step::refuse(c, Refusal::ConnectionOver);
     }
-    if level == FATAL {
-        let next = ended(Phase::Closed);
-        return Answer {
+    match hear(level, description) {
+        Heard::Illegal => step::refuse(c, Refusal::IllegalParameter),
+        Heard::Ends => {
+            let next = ended(Phase::Closed);
+            Answer {
+                said: Written::Wrote(0),
+                next,
+            }
+        }
+        Heard::Ignored => Answer {
             said: Written::Wrote(0),
-            next,
-        };
-    }
-    if level != WARNING {
-        return step::refuse(c, Refusal::IllegalParameter);
-    }
-    if description == CLOSE_NOTIFY {
-        let next = ended(Phase::Closed);
-        return Answer {
-            said: Written::Wrote(0),
-            next,
-        };
-    }
-    Answer {
-        said: Written::Wrote(0),
-        next: c,
+            next: c,
+        },
     }
 }

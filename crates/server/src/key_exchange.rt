@@ -10,7 +10,7 @@ ghost use Rattle.server.specs.declared.Phase.{Phase};
 ghost use Rattle.server.specs.KeyExchange as Exchange;
 ghost use Rattle.server.specs.KeyExchange.{afterKeys, keyFound, keyIdentity, viewOf};
 ghost use Rattle.server.specs.Message.{bodyStep};
-ghost use Rattle.server.specs.Inner.{Decides};
+ghost use Rattle.server.specs.Decision.{Decides};
 use crate::Connection;
 use crate::Negotiated;
 use crate::Phase;

@@ -12,10 +12,16 @@ mod step;
 
 pub use calls::alert;
 pub use calls::change_of_cipher;
+pub use calls::decide;
+pub use calls::hear;
+pub use calls::judge_header;
 pub use calls::message;
 use refusal::Written;
 use sha256::Sha256;
 pub use starting::start;
+pub use starting::start_with;
+pub use step::Decision;
+pub use step::Outgoing;
 ghost use mathlib.Core.Path.{_≡_};
 ghost use lib.ListN.{length};
 ghost use Rattle.server.specs.Connection as Conn;
@@ -41,6 +47,13 @@ pub enum Phase {
     Finished,
     Complete,
     Closed,
+}
+
+// What a received alert comes to: a level that is none, the connection's end, or nothing.
+pub enum Heard {
+    Illegal,
+    Ends,
+    Ignored,
 }
 
 // What start was given. No call changes it.

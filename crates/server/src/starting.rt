@@ -3,7 +3,7 @@ ghost use mathlib.Core.Path.{_≡_};
 ghost use Prim.Native.Nat.{_≤_};
 ghost use lib.ListN.{length};
 ghost use Rattle.server.specs.Connection as Conn;
-ghost use Rattle.server.specs.Connection.{suites, setupOf, begun, badSetting, startAnswer};
+ghost use Rattle.server.specs.Connection.{setupOf, begun, badSetting, startAnswer};
 use crate::Answer;
 use crate::Connection;
 use crate::Named;
@@ -43,7 +43,7 @@ fn hint_field(hint: &[u8]) -> [u8; 128]
 }
 
 // What an accepted start was given.
-fn setup(random: &[u8], hint: &[u8], stand_in: &[u8], named: Named) -> Setup
+fn setup(random: &[u8], hint: &[u8], stand_in: &[u8], named: Named, suites: [u16; 3]) -> Setup
     requires { ⌜ length (now random) ≡ 32 ⌝ }
     requires { ⌜ length (now hint) ≤ 128 ⌝ }
     requires { ⌜ length (now «stand_in») ≡ 32 ⌝ }
@@ -55,7 +55,7 @@ fn setup(random: &[u8], hint: &[u8], stand_in: &[u8], named: Named) -> Setup
     let own = bytes32(random);
     Setup {
         rule,
-        suites: SUITES,
+        suites,
         hint_length: hint.len() as u8,
         hint: field,
         stand_in: key,
@@ -88,8 +88,14 @@ fn bad_setting() -> Answer
     }
 }
 
-// A connection that awaits a ClientHello, or R3.
-pub fn start(random: &[u8], hint: &[u8], stand_in: &[u8], named: Named) -> Answer
+// A connection that chooses from these suites and awaits a ClientHello, or R3.
+pub fn start_with(
+    random: &[u8],
+    hint: &[u8],
+    stand_in: &[u8],
+    named: Named,
+    suites: [u16; 3],
+) -> Answer
     ensures { λ r. ⌜ r ≡ startAnswer (record { random = now (random .entry); hint = now (hint .entry); standIn = now («stand_in» .entry); named = named; suites = suites }) ⌝ }
 {
     if random.len() != 32 {
@@ -104,9 +110,16 @@ pub fn start(random: &[u8], hint: &[u8], stand_in: &[u8], named: Named) -> Answe
     if stand_in.len() != 32 {
         return bad_setting();
     }
-    let next = started(setup(random, hint, stand_in, named));
+    let next = started(setup(random, hint, stand_in, named, suites));
     Answer {
         said: Written::Wrote(0),
         next,
     }
+}
+
+// The same with document 01's three suites.
+pub fn start(random: &[u8], hint: &[u8], stand_in: &[u8], named: Named) -> Answer
+    ensures { λ r. ⌜ r ≡ startAnswer (record { random = now (random .entry); hint = now (hint .entry); standIn = now («stand_in» .entry); named = named; suites = Conn.suites }) ⌝ }
+{
+    start_with(random, hint, stand_in, named, SUITES)
 }

@@ -6,8 +6,8 @@ ghost use Prim.Native.Nat.{_≤_};
 ghost use Rattle.server.specs.Flight.{silence};
 ghost use Rattle.server.specs.Step as Step;
 ghost use Rattle.server.specs.Step.{accept, answered, settled};
-ghost use Rattle.server.specs.Inner as Inner;
-ghost use Rattle.server.specs.Inner.{Decides, Does, Sends, decided, flightOf};
+ghost use Rattle.server.specs.Decision.{Decides, decided, flightOf, total};
+ghost use Rattle.server.specs.Inner.{Does, Sends};
 use crate::Answer;
 use crate::Connection;
 use crate::Phase;
@@ -69,8 +69,8 @@ pub(crate) fn silent(next: Connection) -> Decision
 
 // All messages together.
 pub(crate) fn size(lengths: [usize; 3]) -> usize
-    requires { ⌜ Inner.total lengths ≤ 180 ⌝ }
-    ensures { λ n. ⌜ n ≡ Inner.total lengths ⌝ }
+    requires { ⌜ total lengths ≤ 180 ⌝ }
+    ensures { λ n. ⌜ n ≡ total lengths ⌝ }
 {
     lengths[0] + lengths[1] + lengths[2]
 }
@@ -95,7 +95,7 @@ pub(crate) fn refuse(c: Connection, r: Refusal) -> Answer
 // The messages go to the lent output and the next connection is handed back, or R1 and the connection
 // as it was.
 fn send(c: Connection, outgoing: Outgoing, next: Connection, out: &mut [u8]) -> Answer
-    requires { ⌜ Inner.total (outgoing .lengths) ≤ 180 ⌝ }
+    requires { ⌜ total (outgoing .lengths) ≤ 180 ⌝ }
     ensures { λ a. ⌜ Does c (now (out .entry)) (accept (flightOf outgoing) next) a (now (out .exit)) ⌝ }
 {
     let bytes = outgoing.bytes;
@@ -110,7 +110,7 @@ fn send(c: Connection, outgoing: Outgoing, next: Connection, out: &mut [u8]) -> 
 
 // The answer that a decision comes to.
 pub(crate) fn settle(c: Connection, d: Decision, out: &mut [u8]) -> Answer
-    requires { ⌜ Inner.total (d .outgoing .lengths) ≤ 180 ⌝ }
+    requires { ⌜ total (d .outgoing .lengths) ≤ 180 ⌝ }
     ensures { λ a. ⌜ Does c (now (out .entry)) (decided d) a (now (out .exit)) ⌝ }
 {
     let verdict = d.verdict;

@@ -5,11 +5,9 @@ use mathlib.Core.Path.{_≡_, refl, sym, ap, ap₂, _∙_}
 use mathlib.Core.Logic.{_⊎_, inl, inr}
 use Prim.Native.Nat.{ℕ}
 use native.Mathlib.Omega.{arith}
-use mathlib.Core.Bool.{Bool, true, false, cond, not, _||_, true≢false}
+use mathlib.Core.Bool.{Bool, true, false, true≢false}
 use mathlib.Core.List.{List, [], _∷_, _++_, append-assoc, append-nil}
 use mathlib.Core.Option.{Option, none, some, Option·none-ne-some}
-use lib.Dec.{eqb}
-use Rattle.refusal.specs.declared.Refusal.the-variants.{IllegalParameter}
 use Rattle.messages.specs.KeyExchange.{readVector}
 use Rattle.lists.specs.Lists.{same, Each}
 use Rattle.keytable.specs.Table.{keyOf}
@@ -18,6 +16,7 @@ use Rattle.keytable.proofs.Laws.{removed-gone, removed-else}
 use Rattle.lists.proofs.Every.{every-append, every-map}
 use Rattle.server.specs.declared.Rule.{Rule}
 use Rattle.server.specs.declared.Named.{Named}
+use Rattle.server.specs.declared.Heard.{Heard}
 use Rattle.server.specs.declared.Phase.{Phase}
 use Rattle.server.specs.declared.Connection.{Connection}
 use Rattle.server.specs.Connection.{Settings, ruleOf, acceptable, started, startAnswer, ended}
@@ -26,7 +25,7 @@ use Rattle.server.specs.Step.{Step, refuse, accept, Settled, outcome, settled}
 use Rattle.server.specs.Connection.{isOver}
 use Rattle.server.specs.Flight.{silence}
 use Rattle.server.specs.Message.{messageStep}
-use Rattle.server.specs.Alert.{alertStep, alertCall}
+use Rattle.server.specs.Alert.{heard, heardStep, alertStep, alertCall}
 use Rattle.theorems.specs.Series.{Call, message, changeOfCipher, alert, call, Seen, seen, answers}
 use Rattle.theorems.specs.Terms.{LegalKeyExchange, IgnoredWarning, Aside, BadTableCall, HelloCame, KeyExchangeCame, ChangeCame, named}
 use Rattle.theorems.specs.Terms.{ShortFinished}
@@ -50,13 +49,12 @@ alert-alike : (c c' : Connection) → isOver (c .phase) ≡ false → isOver (c'
     → seen (alertCall c level description) ≡ seen (alertCall c' level description)
 alert-alike c c' going going' level description =
     seen-outcome c c' [] {step = alertStep c level description} {step' = alertStep c' level description} refl refl
-    (rw (going, going') (go (not (eqb level 1 || eqb level 2)) (eqb level 2 || eqb description 0)))
+    (rw (going, going') (go (heard level description)))
   where
-    go : (a b : Bool) → outcome (cond a (refuse IllegalParameter) (cond b (accept silence (ended Phase.Closed)) (accept silence c)))
-        ≡ outcome (cond a (refuse IllegalParameter) (cond b (accept silence (ended Phase.Closed)) (accept silence c')))
-    go true b = refl
-    go false true = refl
-    go false false = refl
+    go : (h : Heard) → outcome (heardStep c h) ≡ outcome (heardStep c' h)
+    go Heard.Illegal = refl
+    go Heard.Ends = refl
+    go Heard.Ignored = refl
 
 -- where staying and coming do not depend on the table, both servers do the same
 both-fates : (v v' : View) (c c' : Connection) (Stays Comes : Call → Type 0) (x : Call) → Fate v c Stays Comes x → Fate v' c' Stays Comes x

@@ -4,7 +4,7 @@ use mathlib.Core.Path.{sym, ap, _∙_}
 use Rattle.layout.specs.declared.Verdict.{Verdict}
 use Rattle.server.specs.declared.Phase.{Phase}
 use Rattle.server.specs.Message.{handedOver, withMaster}
-use Rattle.server.specs.Inner.{decidedBy}
+use Rattle.server.specs.Decision.{decidedBy}
 use borrow.Author.Needs.{needs}
 use Rattle.server.proofs.calls.with_master.Statement.{statement}
 use Rattle.server.proofs.calls.with_master.Tie as tie

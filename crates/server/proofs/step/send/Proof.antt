@@ -7,7 +7,7 @@ use lib.ListN.{length}
 use lib.Seq.{length-take-le}
 use Rattle.refusal.specs.Lent.{gives, Answers}
 use Rattle.server.specs.Flight.{flightBytes, longest}
-use Rattle.server.specs.Inner.{flightOf}
+use Rattle.server.specs.Decision.{flightOf}
 use Rattle.server.proofs.Decisions.{sent, not-sent}
 use Rattle.server.proofs.Flights.{flight-bytes}
 use borrow.Author.Needs.{needs}

@@ -2,7 +2,7 @@
 -- Assumes nothing.
 use mathlib.Core.Path.{ap}
 use Rattle.layout.specs.declared.Verdict.{Verdict}
-use Rattle.server.specs.Inner.{decidedBy}
+use Rattle.server.specs.Decision.{decidedBy}
 use Rattle.server.proofs.Decisions.{same-does, refused-does}
 use borrow.Author.Needs.{needs}
 use Rattle.server.proofs.step.settle.Statement.{statement}

@@ -1,7 +1,7 @@
 use Rattle.server.specs.Connection.{started}
 use borrow.Author.Needs.{needs}
-use Rattle.server.proofs.starting.start.Statement.{statement}
-use Rattle.server.proofs.starting.start.Tie as tie
+use Rattle.server.proofs.starting.start_with.Statement.{statement}
+use Rattle.server.proofs.starting.start_with.Tie as tie
 use mathlib.Core.Bool.{and-false}
 use lib.ListN.{length}
 use borrow.Author.Tests.{eq-eqb, ne-eqb, le-leb, lt-leb, not-true, not-false}
@@ -43,8 +43,8 @@ returns-5 c =
       c .before .setup .ensures,
     )
 
-pub start-spec : {M : Type 1} → statement M
-start-spec =
+pub start-with-spec : {M : Type 1} → statement M
+start-with-spec =
     tie.close
     (tie.spec
     (λ c κs. search needs)
