@@ -1,0 +1,4 @@
+pub mod Macs
+pub mod Opening
+pub mod Reading
+pub mod Sealing
