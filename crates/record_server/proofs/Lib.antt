@@ -1,0 +1,12 @@
+pub mod Alerts
+pub mod Settling
+pub mod Flights
+pub mod Judging
+pub mod Steps
+pub mod Places
+pub mod Courses
+pub mod Putting
+pub mod Decisions
+pub mod Holding
+pub mod Outcomes
+pub mod Waiting

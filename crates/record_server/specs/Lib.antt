@@ -1,0 +1,8 @@
+pub mod Connection
+pub mod Answering
+pub mod Joining
+pub mod Taking
+pub mod Sending
+pub mod InnerFlight
+pub mod InnerHandshake
+pub mod InnerTaking
