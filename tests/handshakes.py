@@ -108,8 +108,8 @@ def read_block(block):
 
 
 class Server:
-    def __init__(self):
-        self.awaits = "closed"
+    def __init__(self, suites=EVERY):
+        self.awaits, self.suites = "closed", suites
 
     def start(self, random, hint, stand_in, rule):
         try:
@@ -176,7 +176,7 @@ class Server:
             raise Refuse("alert 70")
         if 0 not in methods:
             raise Refuse("alert 47")
-        common = [s for s in SUITES if s in offered]
+        common = [s for s in self.suites if s in offered]
         if not common:
             raise Refuse("alert 40")
         flight = message(2, b"\x03\x03" + self.random + b"\0" + common[0].to_bytes(2, "big") + b"\0")
