@@ -149,7 +149,7 @@ module _ (s : Settings) (v : View) {hello : List ℕ} (legal : LegalHello (s .su
         of-read none read = inr (finished-read m ∙ rw read)
         of-read (some value) read = of-value value read (judged-other found m value)
 
-    finished-right : acceptable s ≡ true → LegalKeyExchange exchange → (m : List ℕ) → Right s legal exchange found m
+    pub finished-right : acceptable s ≡ true → LegalKeyExchange exchange → (m : List ℕ) → Right s legal exchange found m
         → (own : List ℕ) × (length own ≡ 12) × (finishedStep m ≡ accept (finishedFlight own) (ended Phase.Complete))
     finished-right ok legal-exchange m r =
         let fits : length m ≤ messageLimit =

@@ -314,12 +314,12 @@ module _ (s : Settings) (ok : acceptable s ≡ true) (hide : ruleOf (s .named) �
 
 -- ---- from the start on
 
-hides : (named : Named) → Hiding named → ruleOf named ≡ Rule.Hide
+pub hides : (named : Named) → Hiding named → ruleOf named ≡ Rule.Hide
 hides named (inl e) = rw e
 hides named (inr e) = rw e
 
 -- whether hide is named or nothing is, the connection is the same
-alike-start : (s s' : Settings) → Alike s s' → Hiding (s .named) → Hiding (s' .named) → startAnswer s ≡ startAnswer s'
+pub alike-start : (s s' : Settings) → Alike s s' → Hiding (s .named) → Hiding (s' .named) → startAnswer s ≡ startAnswer s'
 unfolding started
 alike-start s s' alike hide hide' =
     rw (hides (s .named) hide, hides (s' .named) hide', alike .random, alike .hint, alike .standIn, alike .suites)

@@ -63,16 +63,16 @@ module _ (s : Settings) (v : View) where
   abbrev helloStep : List ℕ → Step
   helloStep m = messageStep v (started s) m Phase.Hello
 
-  hello-read : (m : List ℕ) → helloStep m ≡ orRefuse (unread 1 m) (λ f. helloFields (started s) m (some f)) (readClientHello m)
+  pub hello-read : (m : List ℕ) → helloStep m ≡ orRefuse (unread 1 m) (λ f. helloFields (started s) m (some f)) (readClientHello m)
   hello-read m = step-read (λ h. clientFields m (clientHeader m h)) (λ r. refl) (helloFields (started s) m) refl (header 1 m)
 
-  hello-legal : {m : List ℕ} (legal : LegalHello (s .suites) m) → helloStep m ≡ accept (answerTo s legal) (helloed s legal)
+  pub hello-legal : {m : List ℕ} (legal : LegalHello (s .suites) m) → helloStep m ≡ accept (answerTo s legal) (helloed s legal)
   unfolding started
   hello-legal {m} legal =
       hello-read m ∙ rw (legal .read) (null-there (started s) m (legal .fields) (legal .version) (legal .null))
       ∙ ap (helloChosen (started s) m (legal .fields)) (legal .common) ∙ rw (flight-is s (legal .suite))
 
-  hello-other : (m : List ℕ) → LegalHello (s .suites) m ⊎ Alerts (helloStep m)
+  pub hello-other : (m : List ℕ) → LegalHello (s .suites) m ⊎ Alerts (helloStep m)
   unfolding started
   hello-other m = of-read (readClientHello m) refl
     where

@@ -1,0 +1,5 @@
+pub mod Series
+pub mod Terms
+pub mod Cutting
+pub mod Demand3
+pub mod Claims
