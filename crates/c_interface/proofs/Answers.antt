@@ -27,6 +27,11 @@ pub refusal-codes : {r : Refusal} {out : List ℕ} {result : ℤ} → mag result
     → Codes (refuses r) out (toZ w32 (ofZ w32 result)) out
 refusal-codes {result = result} fits e = record { told = handed-on result fits ∙ e; left = refl }
 
+-- what a function handed on
+pub codes-codes : {wanted : Outcome} {out out' : List ℕ} {result : ℤ} → Codes wanted out result out' → mag result < 2 ^ 31
+    → Codes wanted out (toZ w32 (ofZ w32 result)) out'
+codes-codes {result = result} c fits = record { told = handed-on result fits ∙ c .told; left = c .left }
+
 -- ---- a count that 31 bits hold
 
 -- the bytes that there are to be written

@@ -24,36 +24,38 @@ use Rattle.server.specs.Connection.{Settings, ended, acceptable, badSetting, st
 use Rattle.server.specs.Flight.{longest, counted}
 use Rattle.server.specs.Step.{Step, Settled, outcome, nextAfter, settled, answered}
 use Rattle.server.specs.Message.{withMaster}
-use Rattle.saved.specs.Saved.{saved, restored}
+use Rattle.saved.specs.Saved.{restored}
 use Rattle.server.proofs.Refusals.{alerts-close}
 use Rattle.c_interface.specs.Codes.{coded}
 use Rattle.c_interface.specs.Connections.{Keeps, Starts, masterAfter}
-use Rattle.c_interface.specs.Inner.{count, readAfter, Kept}
+use Rattle.c_interface.specs.Inner.{count, readAfter, KeptAs, Kept}
 use Rattle.c_interface.proofs.Signed.{handed-on}
 use Rattle.c_interface.proofs.Answers.{answer-count-small}
 use Rattle.c_interface.proofs.Sizes.{Brief}
 
 -- ---- the connection's bytes
 
-module _ {said : Written} {next : Connection} {bytes bytes' : List ℕ} where
-  pub kept-wrote : {n : ℕ} → said ≡ Wrote n → bytes' ≡ saved next → restored bytes' ≡ next → Kept said next bytes bytes'
+-- whatever kind of connection it is, and however it is saved
+module _ {A : Type 0} {save : A → List ℕ} {restore : List ℕ → A} {said : Written} {next : A} {bytes bytes' : List ℕ} where
+  pub kept-wrote : {n : ℕ} → said ≡ Wrote n → bytes' ≡ save next → restore bytes' ≡ next → KeptAs save restore said next bytes bytes'
   kept-wrote e left read = record { left = rw e left; read = rw e read }
 
-  pub kept-alert : {r : Refusal} → said ≡ Refused r → toClient r ≡ true → bytes' ≡ saved next → restored bytes' ≡ next → Kept said next bytes bytes'
+  pub kept-alert : {r : Refusal} → said ≡ Refused r → toClient r ≡ true → bytes' ≡ save next → restore bytes' ≡ next
+      → KeptAs save restore said next bytes bytes'
   kept-alert e t left read = record { left = rw (e, t) left; read = rw (e, t) read }
 
   -- an R number
-  pub kept-same : {r : Refusal} → said ≡ Refused r → toClient r ≡ false → bytes' ≡ bytes → Kept said next bytes bytes'
-  kept-same e t same = record { left = rw (e, t) same; read = rw (e, t) (ap restored same) }
+  pub kept-same : {r : Refusal} → said ≡ Refused r → toClient r ≡ false → bytes' ≡ bytes → KeptAs save restore said next bytes bytes'
+  kept-same e t same = record { left = rw (e, t) same; read = rw (e, t) (ap restore same) }
 
 -- an alert's connection is written, and an R number's is the one that the bytes stand for
+pub closed-read : {A : Type 0} (t : Bool) (closed c : A) {next : A} → next ≡ cond t closed c → cond t next c ≡ next
+closed-read true closed c e = refl
+closed-read false closed c e = sym e
+
 next-read : (c : Connection) (step : Step) (o : Outcome) → readAfter (answer o) (nextAfter c step o) c ≡ nextAfter c step o
 next-read c step (gives b) = refl
-next-read c step (refuses r) = subst (λ (n : Connection). cond (toClient r) n c ≡ n) (sym (alerts-close r c)) (twice (toClient r))
-  where
-    twice : (t : Bool) → cond t (cond t (ended Phase.Closed) c) c ≡ cond t (ended Phase.Closed) c
-    twice true = refl
-    twice false = refl
+next-read c step (refuses r) = closed-read (toClient r) (ended Phase.Closed) c (alerts-close r c)
 
 -- ---- a call
 

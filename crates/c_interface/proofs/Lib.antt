@@ -3,5 +3,7 @@ pub mod Apart
 pub mod Keeping
 pub mod Places
 pub mod Readings
+pub mod RecordKeeping
+pub mod RecordSizes
 pub mod Signed
 pub mod Sizes

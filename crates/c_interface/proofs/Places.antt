@@ -35,7 +35,7 @@ use Rattle.hellos.proofs.ServerHellos as ServerHellos
 use Rattle.hellos.proofs.ClientHellos as ClientHellos
 use Rattle.c_interface.specs.Inner.{Fits, PartFits, BlockFits}
 
-two-bytes : (bs : List ℕ) → Bytes bs → number (take 2 bs) < 65536
+pub two-bytes : (bs : List ℕ) → Bytes bs → number (take 2 bs) < 65536
 two-bytes [] b = omega arith
 two-bytes (x ∷ []) b = omega (arith, b 0)
 two-bytes (x ∷ y ∷ bs) b = omega (arith, b 0, b 1)

@@ -42,12 +42,12 @@ abbrev pub Small : Outcome → Type 0
 Small o = size o < 2 ^ 31
 
 -- bytes that are given only where a test holds
-bytes-if-small : (t : Bool) (bytes : List ℕ) (r : Refusal) → (t ≡ true → length bytes < 2 ^ 31) → Small (cond t (gives bytes) (refuses r))
+pub bytes-if-small : (t : Bool) (bytes : List ℕ) (r : Refusal) → (t ≡ true → length bytes < 2 ^ 31) → Small (cond t (gives bytes) (refuses r))
 bytes-if-small true bytes r h = h refl
 bytes-if-small false bytes r h = omega arith
 
 -- an outcome that is wanted only where a test holds
-outcome-if-small : (t : Bool) (o : Outcome) (r : Refusal) → Small o → Small (cond t o (refuses r))
+pub outcome-if-small : (t : Bool) (o : Outcome) (r : Refusal) → Small o → Small (cond t o (refuses r))
 outcome-if-small true o r h = h
 outcome-if-small false o r h = omega arith
 

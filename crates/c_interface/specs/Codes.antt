@@ -1,5 +1,5 @@
 -- What comes back to C: one number for each answer, and what is left in the memory that was lent.
--- n bytes written is n (and so 0 where something is accepted), R1 to R8 are -1 to -8, and the alert a is -1000 - a.
+-- n bytes written is n (and so 0 where something is accepted), R1 to R9 are -1 to -9, and the alert a is -1000 - a.
 use mathlib.Core.Path.{_≡_}
 use Prim.Native.Nat.{ℕ, _+_}
 use mathlib.Core.Bool.{cond}

@@ -21,9 +21,12 @@ use Rattle.saved.specs.Saved.{saved, restored}
 use Rattle.c_interface.specs.Codes.{coded}
 
 -- the connection's bytes afterwards: an R number leaves them as they were, an alert makes them those of the connection that it leads to
+abbrev pub keptBytes : Written → (next bytes : List ℕ) → List ℕ
+keptBytes (Wrote n) next bytes = next
+keptBytes (Refused r) next bytes = cond (toClient r) next bytes
+
 abbrev pub keptAfter : Written → Connection → List ℕ → List ℕ
-keptAfter (Wrote n) next bytes = saved next
-keptAfter (Refused r) next bytes = cond (toClient r) (saved next) bytes
+keptAfter said next bytes = keptBytes said (saved next) bytes
 
 -- A call that was lent the connection's bytes returned `result` and left `bytes'`. What it left is what the next call reads: `reads`.
 pub record Keeps (wanted : Settled) (bytes : List ℕ) (result : ℤ) (bytes' : List ℕ) : Type 0 where

@@ -9,8 +9,11 @@ use Rattle.refusal.specs.Table.{toClient}
 use Rattle.layout.specs.declared.Part.{Part}
 use Rattle.hellos.specs.declared.Block.{Block}
 use Rattle.server.specs.declared.Connection.{Connection}
-use Rattle.saved.specs.Saved.{restored}
-use Rattle.c_interface.specs.Connections.{keptAfter}
+use Rattle.saved.specs.Saved.{saved, restored}
+use Rattle.record_server.specs.declared.RecordConnection.{RecordConnection}
+use Rattle.record_server.specs.declared.Data.{Data}
+use Rattle.saved_records.specs.Saved as Records
+use Rattle.c_interface.specs.Connections.{keptBytes}
 
 -- how many bytes were written
 abbrev pub count : Written → ℕ
@@ -30,14 +33,26 @@ abbrev pub BlockFits : Block → Type 0
 BlockFits Block.Absent = Unit
 BlockFits (Block.At start len) = Fits start len
 
+-- data whose length 32 bits hold
+abbrev pub DataFits : Data → Type 0
+DataFits Data.Nothing = Unit
+DataFits (Data.Bytes n) = n < 2 ^ 32
+
 -- ---- what `keep` leaves
 
 -- the connection that the bytes stand for after a call that said this, where they stood for c
-abbrev pub readAfter : Written → Connection → Connection → Connection
+abbrev pub readAfter : {A : Type 0} → Written → (next c : A) → A
 readAfter (Wrote n) next c = next
 readAfter (Refused r) next c = cond (toClient r) next c
 
--- the bytes after a call that said this and gave this connection, and what they stand for
-pub record Kept (said : Written) (next : Connection) (bytes bytes' : List ℕ) : Type 0 where
-  pub left : bytes' ≡ keptAfter said next bytes
-  pub read : restored bytes' ≡ readAfter said next (restored bytes)
+-- the bytes after a call that said this and gave this connection, by the way in which it is saved, and what they stand for
+pub record KeptAs {A : Type 0} (save : A → List ℕ) (restore : List ℕ → A) (said : Written) (next : A) (bytes bytes' : List ℕ) : Type 0 where
+  pub left : bytes' ≡ keptBytes said (save next) bytes
+  pub read : restore bytes' ≡ readAfter said next (restore bytes)
+
+abbrev pub Kept : Written → Connection → (bytes bytes' : List ℕ) → Type 0
+Kept = KeptAs saved restored
+
+-- the same of a record connection
+abbrev pub KeptRecord : Written → RecordConnection → (bytes bytes' : List ℕ) → Type 0
+KeptRecord = KeptAs Records.saved Records.restored

@@ -3,3 +3,4 @@ pub mod Connections
 pub mod Fields
 pub mod Inner
 pub mod Numbered
+pub mod Records

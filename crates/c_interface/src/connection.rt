@@ -38,7 +38,7 @@ fn keep(said: Written, next: Connection, connection: &mut [u8; 388]) -> i32
 }
 
 // The rule of a number below 3.
-fn named(rule: u8) -> Named
+pub(crate) fn named(rule: u8) -> Named
     ensures { λ r. ⌜ r ≡ namedOf rule ⌝ }
 {
     match rule {

@@ -7,6 +7,8 @@
 mod code;
 pub mod connection;
 pub mod reading;
+pub mod record_connection;
+pub mod record_layout;
 pub mod secrets;
 pub mod table;
 pub mod writing;

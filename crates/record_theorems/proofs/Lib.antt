@@ -18,4 +18,5 @@ pub mod Sealing
 pub mod Under
 pub mod Progress
 pub mod Completion
+pub mod Over
 pub mod Claims

@@ -1,0 +1,43 @@
+-- `c_interface::record_connection::tn_record_start` meets its contract: a number that names no rule is R3, and of any other it is what
+-- `record_server::start` answered, kept.
+-- Assumes nothing.
+use borrow.Author.Needs.{needs}
+use native.Mathlib.Omega.{arith}
+use mathlib.Core.Path.{refl, _∙_}
+use borrow.Author.Tests.{le-leb, lt-leb}
+use Rattle.refusal.specs.declared.Refusal.the-variants.{BadSetting}
+use Rattle.refusal.specs.declared.Written.the-variants.{Refused}
+use Rattle.server.specs.Connection.{Settings}
+use Rattle.record_server.specs.Connection.{offered, noAlert, closedWith}
+use Rattle.c_interface.proofs.Keeping.{kept-same}
+use Rattle.c_interface.proofs.RecordKeeping.{record-start-count, record-starts}
+use Rattle.c_interface.proofs.record_connection.tn_record_start.Statement.{statement}
+use Rattle.c_interface.proofs.record_connection.tn_record_start.Tie as tie
+
+returns : tie.Need-returns
+returns c =
+    let a = c .before .before .before .before .before .args in
+    rw (lt-leb (a .rule) 2 (omega (arith, c .before .if1 .taken)))
+    (record-starts {a = record { said = Refused BadSetting; next = closedWith noAlert }} refl
+    (c .of-refusal .ok) (c .of-refusal .ensures) (kept-same refl refl refl))
+
+keep-requires : tie.Need-keep-requires
+keep-requires c κs =
+    let n = c .before .before .before in
+    let a = n .before .before .before .before .before .args in
+    let settings : Settings =
+    record { random = a .random .now; hint = a .hint .now; standIn = a .stand-in .now; named = n .named .result; suites = offered } in
+    record-start-count settings (c .before .before .start .ensures)
+
+returns-2 : tie.Need-returns-2
+returns-2 c =
+    let n = c .before .before .before .before in
+    let a = n .before .before .before .before .before .args in
+    let answer = c .before .before .before .start .ensures in
+    record-starts (answer ∙ rw (n .named .ensures, le-leb (a .rule) 2 (n .before .if1 .left)))
+    (c .keep .ok) (c .keep .ensures .0) (c .keep .ensures .1)
+
+pub tn-record-start-spec : {M : Type 1} → statement M
+tn-record-start-spec =
+    tie.close
+    (tie.spec (λ c κs. search needs) returns (λ c κs. search needs) (λ c κs. search needs) keep-requires returns-2)

@@ -1,0 +1,76 @@
+-- `c_interface::record_connection::tn_take_record` meets its contract: what `record_server::take` gave, kept, the master secret where one is handed
+-- over, and the four numbers where the record is accepted.
+-- Assumes nothing.
+use borrow.Author.Needs.{needs}
+use mathlib.Core.Path.{_≡_, ap, _∙_}
+use mathlib.Core.Logic.{⊎-elim}
+use Rattle.server.specs.KeyExchange.{View, viewOf}
+use Rattle.record_server.specs.declared.RecordConnection.{RecordConnection}
+use Rattle.record_server.specs.Taking.{Settled, takeCall, taken}
+use Rattle.saved_records.specs.Saved.{restored}
+use Rattle.c_interface.proofs.RecordSizes.{data-fits}
+use Rattle.c_interface.proofs.RecordKeeping.{taken-parts, master-taken, master-stays, told-accepted, told-refused, took-keeps}
+use Rattle.c_interface.proofs.record_connection.tn_take_record.Statement.{statement}
+use Rattle.c_interface.proofs.record_connection.tn_take_record.Tie as tie
+
+-- the entry, seen from what was taken
+abbrev entry : tie.After-take → tie.Start
+entry c = c .before .before .before .before .before .before .before .before .before
+
+module _ (c : tie.After-take) where
+  abbrev view : View
+  view = viewOf (entry c .args .table .now)
+
+  abbrev takenOn : RecordConnection → Settled
+  takenOn x = takeCall view x (entry c .args .received .now) (entry c .args .memory .now) (entry c .args .out .now)
+
+  -- what it is to come to, on the connection that the bytes stand for
+  abbrev wanted : Settled
+  wanted = takenOn (restored (entry c .args .connection .now))
+
+  same : c .before .before .before .restore .result ≡ restored (entry c .args .connection .now)
+  same = c .before .before .before .restore .ensures
+
+  given : c .take .result ≡ taken wanted
+  given = c .take .ensures .0 .gives ∙ ap (λ (x : RecordConnection). taken (takenOn x)) same
+
+told-of-requires : tie.Need-told-of-requires
+told-of-requires c κs =
+    let m = c .before .before .before .before .before .before .before .before in
+    let a = entry m .args in
+    rw (taken-parts (wanted m) (wanted m .master) (given m) .2)
+    (data-fits (view m) (restored (a .connection .now)) (a .received .now) (a .memory .now) (a .out .now))
+
+returns : tie.Need-returns
+returns c =
+    let m = c .before .before .before .before .before .before .before .before .before in
+    let a = entry m .args in
+    let w = wanted m in
+    let master = a .master .now in
+    let secret = ⊎-elim (λ x. x .2 ∙ master-taken w (w .master) master (given m) (x .0 .taken))
+    (λ x. x .1 ∙ master-stays w (w .master) master (given m) (x .0 .left)) (c .before .before .before .if1 .came) in
+    let told = ⊎-elim (λ x. told-accepted w (a .told .now) (given m) (x .1 .given .1) (x .3 ∙ x .2 .ensures))
+    (λ x. told-refused w (a .told .now) (given m) (x .1 .given .1) (x .2)) (c .before .before .match .came) in (
+      took-keeps (view m) (a .connection .now) (a .received .now) (a .memory .now) (a .out .now) (given m) (c .keep .ok) (c .keep .ensures .0)
+          (c .keep .ensures .1),
+      record {
+        out-left = m .take .ensures .0 .out-left ∙ ap (λ (x : RecordConnection). takenOn m x .out) (same m);
+        memory-left = m .take .ensures .0 .memory-left ∙ ap (λ (x : RecordConnection). takenOn m x .memory) (same m);
+        handed = secret;
+        fields = told;
+      },
+    )
+
+pub tn-take-record-spec : {M : Type 1} → statement M
+tn-take-record-spec =
+    tie.close
+    (tie.spec
+    (λ c κs. search needs)
+    (λ c κs. search needs)
+    (λ c. search needs)
+    told-of-requires
+    (λ c. search needs)
+    (λ c κs. search needs)
+    (λ c. search needs)
+    (λ c. search needs)
+    returns)
