@@ -4,7 +4,9 @@
  * The library is proved: for any bytes in any order each call has one answer, fixed by definitions that follow the RFCs. What the proofs assume of the
  * caller is on this page and nowhere else.
  *
- *   - The host opens sockets, cuts and joins records and protects them. It hands over one whole handshake message a call, header included.
+ *   - The host opens sockets. There are two kinds of connection, and it chooses one: on a connection of tn_start it cuts and joins records and protects them
+ *     itself, and hands over one whole handshake message a call, header included; on one of tn_record_start the library does that too, for the one suite
+ *     without a cipher, and the host hands over one whole record a call. "Record connections" below says which is for whom.
  *   - The host lends all memory. The library allocates nothing, keeps nothing between two calls, has no global state and calls nothing of the host's.
  *     Calls from several threads at once are fine where no two of them are lent the same writable memory.
  *   - The host lends all randomness: 32 fresh bytes for each connection, from a source that never repeats. Two connections with the same 32 bytes can be
@@ -16,7 +18,7 @@
  * written as an array, as `uint32_t fields[9]`, is a pointer to so many elements. The caller sees to it that
  *
  *   - each pointer points to as many bytes or elements as its length or its type says, and is not null, also where the length is 0;
- *   - memory that is lent to be written (`out`, `memory`, `fields`, `connection`, `master`) overlaps no other argument of the same call;
+ *   - memory that is lent to be written (`out`, `memory`, `fields`, `connection`, `master`, `told`) overlaps no other argument of the same call;
  *   - nobody else writes to any of it before the call returns.
  *
  * Nothing else is asked: there is no length, no byte and no order of calls that may not be given.
@@ -26,10 +28,11 @@
  * One `int32_t`, of which three kinds never meet:
  *
  *   0 and above   accepted. Of a call that is lent an `out`: so many bytes were written at its front, and the rest of it is as it was.
- *   -1 .. -8      refused to the host: TN_R1 .. TN_R8. Nothing that was lent is changed.
+ *   -1 .. -9      refused to the host: TN_R1 .. TN_R9. Nothing that was lent is changed.
  *   -1000 - a     refused to the client: the host sends the fatal alert a. Nothing that was lent is changed, except that the connection is closed.
  *
- * So a refusal never writes to `out`, `memory`, `fields` or `master`. The tests `tn_is_count`, `tn_is_host_refusal` and `tn_is_alert` below tell the kinds apart.
+ * So a refusal never writes to `out`, `memory`, `fields`, `master` or `told`. The tests `tn_is_count`, `tn_is_host_refusal` and `tn_is_alert` below tell the
+ * kinds apart.
  */
 #ifndef TURRETNAIL_H
 #define TURRETNAIL_H
@@ -65,6 +68,14 @@ extern "C" {
 #define TN_IDENTITY_LIMIT 128   /* a listed identity has 1 to 128 bytes */
 #define TN_TABLE_LIMIT 65536    /* a key table has at most so many bytes */
 #define TN_TABLE_LINES 256      /* and so many lines */
+#define TN_RECORD_HEADER_SIZE 5 /* a record's header: type, version and the fragment's length */
+#define TN_RECORD_CONTENT_LIMIT 16384 /* a record has at most so many bytes of content */
+#define TN_RECORD_MAC_SIZE 32   /* and so many bytes behind it where it is protected */
+#define TN_RECORD_LIMIT 16421   /* the longest record that may be accepted: 5 + 16,384 + 32 */
+#define TN_RECORD_CONNECTION_SIZE 576 /* a record connection, see tn_record_start */
+#define TN_RECORD_MEMORY 16383  /* so much memory is always enough for what came of an unfinished message */
+#define TN_RECORD_ANSWER 195    /* the longest answer of tn_take_record */
+#define TN_CLOSING_ALERT_SIZE 39 /* the longest record of tn_closing_alert and of tn_send_close */
 
 /* ==== Results ================================================================================================================================ */
 
@@ -72,29 +83,40 @@ extern "C" {
 #define TN_R1 (-1) /* the lent output is shorter than the answer */
 #define TN_R2 (-2) /* the key table is not well formed */
 #define TN_R3 (-3) /* a bad setting at tn_start; no connection was made */
-#define TN_R4 (-4) /* the connection is complete or closed */
+#define TN_R4 (-4) /* the connection is complete or closed; of a record connection: it is closed */
 #define TN_R5 (-5) /* a value to be written that its layout forbids, or a length outside its limit */
 #define TN_R6 (-6) /* the identity is listed already (tn_table_add) */
 #define TN_R7 (-7) /* the identity is not listed (tn_table_replace, tn_table_retire) */
 #define TN_R8 (-8) /* the edited table would have a 257th line, or more than 65,536 bytes */
+#define TN_R9 (-9) /* a record to be sent or taken under sequence number 2^64 - 1, the last (record connections) */
 
 /*
  * The alerts that the library gives (RFC 5246 section 7.2, RFC 4279 section 6). The library sends nothing: where a call on a connection gives an alert, the
- * host sends an alert record with the bytes 2 (fatal) and this number, under the write protection of the moment, and closes the transport. A layout reader
- * or the table used alone gives the same numbers and touches no connection.
+ * host sends an alert record with the bytes 2 (fatal) and this number, under the write protection of the moment, and closes the transport. For a record
+ * connection tn_closing_alert makes that record. A layout reader or the table used alone gives the same numbers and touches no connection.
+ *
+ * What is said of tn_message here holds for the handshake messages in the records of tn_take_record too.
  *
  *   alert                          given by
- *   10 unexpected_message          tn_message: another message than the one awaited. tn_change_of_cipher: none awaited.
+ *   10 unexpected_message          tn_message: another message than the one awaited. tn_change_of_cipher: none awaited. tn_take_record: what has no place
+ *                                  where it stands. Every reader of a record: an unknown content type.
+ *   20 bad_record_mac              tn_take_record: a wrong MAC, but in the first protected record. tn_open_record.
+ *   22 record_overflow             tn_take_record, tn_read_record, tn_open_record: a fragment that is too long.
  *   40 handshake_failure           tn_message: the ClientHello lists none of our suites.
- *   47 illegal_parameter           tn_message: the ClientHello lists no null compression. tn_alert: a level other than 1 and 2.
+ *   47 illegal_parameter           tn_message: the ClientHello lists no null compression. tn_alert, tn_take_record: an alert's level other than 1 and 2.
  *   50 decode_error                tn_message: a wrong layout, or a message over 16,384 bytes. Every tn_read_ function and tn_next_extension.
- *   51 decrypt_error               tn_message: a wrong Finished, or any Finished after an identity that is not listed.
+ *                                  tn_take_record, tn_open_record: bytes that are not one whole record. tn_take_record: an empty handshake fragment, an
+ *                                  alert that is not of two bytes, a change of cipher that is not the one byte 01.
+ *   51 decrypt_error               tn_message: a wrong Finished, or any Finished after an identity that is not listed. tn_take_record: a wrong MAC in the first
+ *                                  protected record, or any such record after an identity that is not listed.
  *   70 protocol_version            tn_message: a ClientHello below TLS 1.2.
  *   115 unknown_psk_identity       tn_message under TN_RULE_TELL: the identity is not listed. tn_table_lookup.
  *
- * Alerts on records (bad_record_mac, record_overflow) and close_notify are the host's own.
+ * On a connection of tn_start the alerts on records (bad_record_mac, record_overflow) and close_notify are the host's own.
  */
 #define TN_ALERT_UNEXPECTED_MESSAGE 10
+#define TN_ALERT_BAD_RECORD_MAC 20
+#define TN_ALERT_RECORD_OVERFLOW 22
 #define TN_ALERT_HANDSHAKE_FAILURE 40
 #define TN_ALERT_ILLEGAL_PARAMETER 47
 #define TN_ALERT_DECODE_ERROR 50
@@ -111,7 +133,7 @@ static inline bool tn_is_count(int32_t result)
     return result >= 0;
 }
 
-/* Whether it was refused to the host, with one of TN_R1 to TN_R8. */
+/* Whether it was refused to the host, with one of TN_R1 to TN_R9. */
 static inline bool tn_is_host_refusal(int32_t result)
 {
     return result < 0 && result > -1000;
@@ -137,18 +159,24 @@ static inline uint8_t tn_alert_number(int32_t result)
 #define TN_SUITE_PSK_AES_128_CBC_SHA 0x008C    /* 72 bytes: 20, 20, 16, 16 */
 #define TN_SUITE_PSK_NULL_SHA256 0x00B0        /* 64 bytes: 32, 32 */
 
-/* What tn_start does about an identity that is not listed. */
+/* What tn_start and tn_record_start do about an identity that is not listed. */
 #define TN_RULE_NONE 0 /* none named: hide */
 #define TN_RULE_TELL 1 /* alert 115 at once */
-#define TN_RULE_HIDE 2 /* go on with the stand-in key, alert 51 at the Finished */
+#define TN_RULE_HIDE 2 /* go on with the stand-in key, alert 51 at the Finished, or at the first protected record */
 
-/* What tn_phase answers. */
+/* What tn_phase and tn_record_phase answer. */
 #define TN_PHASE_CLOSED 0
 #define TN_PHASE_CLIENT_HELLO 1        /* awaits it */
 #define TN_PHASE_CLIENT_KEY_EXCHANGE 2 /* awaits it */
 #define TN_PHASE_CHANGE_OF_CIPHER 3    /* awaits it */
 #define TN_PHASE_FINISHED 4            /* awaits it */
 #define TN_PHASE_COMPLETE 5
+
+/* The content types of records (RFC 5246 section 6.2.1). */
+#define TN_TYPE_CHANGE_OF_CIPHER 20
+#define TN_TYPE_ALERT 21
+#define TN_TYPE_HANDSHAKE 22
+#define TN_TYPE_APPLICATION_DATA 23
 
 /* tn_prf's labels, which stand in the library as text. */
 #define TN_LABEL_MASTER_SECRET 0
@@ -167,7 +195,8 @@ static inline uint8_t tn_alert_number(int32_t result)
 /* ==== The server ============================================================================================================================= */
 
 /*
- * A connection is TN_CONNECTION_SIZE bytes of the host's, which the calls read and write whole. Their meaning is the library's own; no alignment is needed.
+ * For a host with a record layer of its own. A connection is TN_CONNECTION_SIZE bytes of the host's, which the calls read and write whole. Their meaning is
+ * the library's own; no alignment is needed.
  *
  *   - Cleared bytes are a closed connection, and so are bytes whose first three name no phase, rule or flag: they are answered with TN_R4. Other bytes that
  *     no call has written stand for some connection, and get its answers.
@@ -261,6 +290,155 @@ int32_t tn_phase(const uint8_t connection[TN_CONNECTION_SIZE]);
 
 /* The suite that the ClientHello led to, as tn_key_block takes it: from the accepted hello on; 0 before it, and when the connection is complete or closed. */
 int32_t tn_suite(const uint8_t connection[TN_CONNECTION_SIZE]);
+
+/* ==== Record connections ===================================================================================================================== */
+
+/*
+ * For a host without a record layer. A record connection takes the bytes off the socket, one whole record a call, and gives the bytes for it: several
+ * messages in a record, one message over several, the change of cipher, alerts and the protection of records (RFC 5246 section 6) are the library's.
+ *
+ * WHICH KIND. A record connection offers TN_SUITE_PSK_NULL_SHA256, 0x00B0, alone: INTEGRITY WITHOUT SECRECY. Nobody can change, reorder or repeat what passes,
+ * and everybody on the way can read it. Where it must not be read take tn_start, a record layer with a cipher, and the other two suites; where it may be,
+ * this kind leaves the host the least to do wrong. The two kinds do not mix: tn_message, tn_change_of_cipher, tn_alert, tn_phase and tn_suite are for
+ * the bytes of tn_start, the calls of this section for those of tn_record_start.
+ *
+ * WHAT THE HOST LENDS. Of each connection
+ *
+ *   - TN_RECORD_CONNECTION_SIZE bytes, the connection: read and written whole, without a meaning for the host, movable, of any alignment. Cleared bytes are a
+ *     closed connection, and so are those of which the library knows that no call wrote them; other bytes that no call has written stand for some
+ *     connection, and get its answers. Nothing of a connection is compared by bytes: ask tn_record_phase.
+ *   - `memory`, for what came of a message that is not finished: THE SAME BYTES AT EACH tn_take_record, which nobody else writes to in between. Memory with
+ *     other bytes counts as if the client had sent those. TN_RECORD_MEMORY bytes are always enough; with less, TN_R1 comes where they are too few. Only
+ *     when a connection is new, complete or closed may the memory be another's.
+ *
+ * The way of a session:
+ *
+ *   tn_record_start                       phase 1
+ *   for each record of the client         read TN_RECORD_HEADER_SIZE bytes, then as many as the last two of them say (the first is the high one);
+ *                                         hand all of it to tn_take_record
+ *     a count                             send so many bytes of `out`; where told[1] is 1 the client's data are told[3] bytes of the record, from told[2] on;
+ *                                         then ask tn_record_phase: 0, the client has closed, and the host closes the transport;
+ *                                         5, the handshake is complete: the client knows the key of the identity that it named
+ *     an alert                            tn_closing_alert, send its bytes, close the transport
+ *     TN_R1, TN_R2, TN_R9                 as said at tn_take_record
+ *   data for the client                   tn_send_data in phase 5, send its bytes
+ *   the end                               tn_send_close, send its bytes, close the transport
+ *
+ * Send what a call gave before the bytes of the next one: the sequence numbers count them in this order. A record that is lost or sent twice ends the
+ * session at the client.
+ *
+ * WHICH GATE. No call tells the identity. It stands in the ClientKeyExchange, which nothing hides: a host that wants the name keeps the handshake bytes of
+ * the client's records (tn_read_record) from the end of the ClientHello (tn_message_end) until told[0] is 1, and reads them with
+ * tn_read_client_key_exchange. It is what the client says, of any bytes, and nobody's until phase 5.
+ *
+ * A RECORD THAT IS TOO LONG. No record over TN_RECORD_LIMIT bytes is accepted, so a buffer of that size will do: of a record whose header says more, hand over
+ * what has room, or the header alone, and get alert 50, not whole. Alert 22 comes where all of it is handed over, up to 65,540 bytes. Both close.
+ *
+ * SECRETS. The connection's bytes hold keys until it is closed, in phase 5 too; closed, they hold no secret and no trace of the client, but the record of the
+ * alert that closed it. A host that clears keys clears the TN_RECORD_CONNECTION_SIZE bytes when it drops a connection, `master` where told[0] was 1, and
+ * its stack after each call, tn_take_record's deeper than the others' (see "Clearing the stack"). `memory` holds no more than what the client sent.
+ */
+
+/*
+ * Starts a record connection. The arguments are those of tn_start.
+ *
+ *   0          `connection` awaits a ClientHello
+ *   TN_R3      another length, a hint that is not UTF-8, or another rule; `connection` as it was
+ */
+int32_t tn_record_start(uint8_t connection[TN_RECORD_CONNECTION_SIZE], const uint8_t *random, size_t random_len, const uint8_t *hint, size_t hint_len,
+                        const uint8_t *stand_in, size_t stand_in_len, uint8_t rule);
+
+/*
+ * Takes one whole record of the client, header included.
+ *
+ *   table      the key table, read where a ClientKeyExchange is finished
+ *   received   the record
+ *   memory     the connection's memory, see above
+ *   out        room for the answer: TN_RECORD_ANSWER bytes are always enough
+ *
+ *   result                 when                                    out                  memory             master             told             connection
+ *   56, or 67 + hint_len   a ClientHello was finished              ServerHello,         the part of a      master secret,     {0, 0, 0, 0}, or  phase 2,
+ *                                                                  ServerKeyExchange    next message at    where a            {1, 0, 0, 0}      or 3
+ *                                                                  where there is a     the front, else    ClientKeyExchange  with a master
+ *                                                                  hint, and            as it was          was finished too   secret
+ *                                                                  ServerHelloDone
+ *   59                     the client's Finished was right         change of cipher,    as it was          as it was          {0, 0, 0, 0}     phase 5
+ *                                                                  and the server's
+ *                                                                  Finished, protected
+ *   0                      a ClientKeyExchange was finished        as it was            as above           master secret      {1, 0, 0, 0}     phase 3
+ *   0                      a part of a message                     as it was            all that came      as it was          {0, 0, 0, 0}     same phase
+ *                                                                                       of it at the front
+ *   0                      the awaited change of cipher            as it was            as it was          as it was          {0, 0, 0, 0}     phase 4
+ *   0                      a warning other than close_notify       as it was            as it was          as it was          {0, 0, 0, 0}     same phase
+ *   0                      close_notify, or a fatal alert          as it was            as it was          as it was          {0, 0, 0, 0}     closed, nothing
+ *                                                                                                                                              is to be sent
+ *   0                      application data, n bytes or none       as it was            as it was          as it was          {0, 1, 5, n}     phase 5
+ *   TN_R1                  all is right, and out is shorter than   as it was            as it was          as it was          as it was        as it was
+ *                          the answers of the whole record, or
+ *                          memory than what is to be held
+ *   TN_R2                  a ClientKeyExchange was finished, and   as it was            as it was          as it was          as it was        as it was
+ *                          the table is not well formed
+ *   TN_R4                  the connection is closed                as it was            as it was          as it was          as it was        as it was
+ *   TN_R9                  2^64 - 1 records were taken             as it was            as it was          as it was          as it was        as it was
+ *   an alert               10, 20, 22, 40, 47, 50, 51, 70, 115     as it was            as it was          as it was          as it was        closed, with the
+ *                                                                                                                                              alert's record
+ *
+ * What is held stands at the front of the memory; the rest of the memory is as it was. Each message of the answer has a record of its own.
+ *
+ * After TN_R1 or TN_R2 the record counts as not come, with all its messages: the call may be made again with more room, more memory (the same bytes at its
+ * front) or a better table. After TN_R9 nothing can be taken any more: tn_send_close, and a new connection.
+ *
+ * Order of the tests: TN_R4; TN_R9; bytes that are not one whole record 50; an unknown content type 10; a fragment over 16,384 bytes, under protection 32
+ * more, 22; a wrong MAC, also under 32 bytes of fragment, 20, but 51 in the first protected record, and there 51 with any MAC where the identity is not
+ * listed; application data before phase 5, handshake bytes in phase 5, a change of cipher there or amid an unfinished message 10; an empty handshake
+ * fragment, an alert that is not of two bytes, a change of cipher that is not the one byte 01 50; a change of cipher in another phase than 3 10; an alert's
+ * level 47; each message in turn; TN_R1. Of a message the type (10) and the limit of TN_MESSAGE_LIMIT bytes (50) are judged as soon as its four bytes of
+ * header are in, the rest as at tn_message when all of it is. The record's version is not judged, and the MAC covers the one that came.
+ *
+ * Where hide applies the master secret after an unlisted identity comes from the stand-in key; the connection never gets to phase 5.
+ */
+int32_t tn_take_record(uint8_t connection[TN_RECORD_CONNECTION_SIZE], const uint8_t *table, size_t table_len, const uint8_t *received, size_t received_len,
+                       uint8_t *memory, size_t memory_len, uint8_t *out, size_t out_len, uint8_t master[TN_MASTER_SIZE], uint32_t told[4]);
+
+/*
+ * Application data for the client, as one record: at most TN_RECORD_CONTENT_LIMIT bytes, or none.
+ *
+ *   result                 when                                            out                connection
+ *   37 + content_len       sent                                            the record         one more record sent
+ *   TN_R4                  the connection is closed                        as it was          as it was
+ *   TN_R9                  2^64 - 1 records were sent                      as it was          as it was
+ *   TN_R5                  before phase 5, or too many bytes               as it was          as it was
+ *   TN_R1                  out is shorter than the record                  as it was          as it was
+ *
+ * The tests stand in this order.
+ */
+int32_t tn_send_data(uint8_t connection[TN_RECORD_CONNECTION_SIZE], const uint8_t *content, size_t content_len, uint8_t *out, size_t out_len);
+
+/*
+ * A close_notify for the client, as one record, in any phase; the connection is closed with it. TN_CLOSING_ALERT_SIZE bytes are always enough.
+ *
+ *   result                 when                                            out                connection
+ *   7, in phase 5 39       sent                                            the record         closed
+ *   TN_R4                  the connection is closed                        as it was          as it was
+ *   TN_R9                  2^64 - 1 records were sent                      as it was          as it was
+ *   TN_R1                  out is shorter than the record                  as it was          as it was
+ *
+ * The tests stand in this order.
+ */
+int32_t tn_send_close(uint8_t connection[TN_RECORD_CONNECTION_SIZE], uint8_t *out, size_t out_len);
+
+/*
+ * The record of the alert that closed the connection, to be sent after tn_take_record gave an alert. It changes nothing, and may be asked for again.
+ *
+ *   result                 when                                            out
+ *   7, in phase 5 39       an alert closed the connection                  the record
+ *   0                      anything else: there is none to be sent         as it was
+ *   TN_R1                  out is shorter than the record                  as it was
+ */
+int32_t tn_closing_alert(const uint8_t connection[TN_RECORD_CONNECTION_SIZE], uint8_t *out, size_t out_len);
+
+/* What the connection awaits, or how it ended: one of the TN_PHASE_ numbers. TN_PHASE_CLOSED also for cleared bytes. */
+int32_t tn_record_phase(const uint8_t connection[TN_RECORD_CONNECTION_SIZE]);
 
 /* ==== Secrets ================================================================================================================================ */
 
@@ -375,6 +553,46 @@ int32_t tn_read_new_session_ticket(const uint8_t *message, size_t message_len, u
  */
 int32_t tn_next_extension(const uint8_t *block, size_t block_len, size_t at, uint32_t fields[3]);
 
+/* ==== Records: layout and protection ========================================================================================================= */
+
+/*
+ * What the record connections are made of, for a host that wants it alone. None of it knows a connection or counts records: the caller gives the number.
+ * A record (RFC 5246 section 6.2.1) is a type, a version of 2 bytes, a length of 2 bytes and a fragment of so many. The fragment is the content, and
+ * under TN_SUITE_PSK_NULL_SHA256 (section 6.2.3.1) behind it HMAC-SHA-256, with the direction's MAC key, of the record's number in 8 bytes, type, version,
+ * the content's own length in 2 bytes, and the content.
+ */
+
+/*
+ * The header of a whole record whose protection may add so many bytes to TN_RECORD_CONTENT_LIMIT: 0 without, TN_RECORD_MAC_SIZE with 0x00B0, more with another.
+ * The version is not judged.
+ *
+ *   0          fields[0] the type, [1] the version, [2] the fragment's length; the fragment stands at TN_RECORD_HEADER_SIZE
+ *   an alert   50 not one whole record, 10 a type that is none of TN_TYPE_.., 22 a longer fragment, in this order; `fields` as it was
+ */
+int32_t tn_read_record(const uint8_t *received, size_t received_len, size_t added, uint32_t fields[3]);
+
+/*
+ * A record with this content at the front of `out`, with the version 0x0303: its length, 5 more than the content's, and with a MAC 37 more. Each tests TN_R5
+ * first, a type that is none of TN_TYPE_.. or over TN_RECORD_CONTENT_LIMIT bytes, and then TN_R1, `out` is shorter. Refused, `out` stays as it was.
+ *
+ *   tn_write_record   without protection
+ *   tn_seal_record    with a MAC under this key and number
+ */
+int32_t tn_write_record(uint8_t kind, const uint8_t *content, size_t content_len, uint8_t *out, size_t out_len);
+int32_t tn_seal_record(const uint8_t key[TN_RECORD_MAC_SIZE], uint64_t sequence, uint8_t kind, const uint8_t *content, size_t content_len, uint8_t *out,
+                       size_t out_len);
+
+/*
+ * Whether a record came unchanged under this key and number.
+ *
+ *   a count    so many bytes from TN_RECORD_HEADER_SIZE on are content; the type is the record's first byte
+ *   an alert   50, 10 and 22 as from tn_read_record with TN_RECORD_MAC_SIZE, then 20 a wrong MAC, or fewer than 32 bytes of fragment
+ */
+int32_t tn_open_record(const uint8_t key[TN_RECORD_MAC_SIZE], uint64_t sequence, const uint8_t *received, size_t received_len);
+
+/* Where a handshake message with this header ends, counted from the header's first byte: 4 and the length that it states. 4 to 2^24 + 3. */
+int32_t tn_message_end(const uint8_t header[4]);
+
 /* ==== The key table ========================================================================================================================== */
 
 /*
@@ -433,9 +651,12 @@ int32_t tn_valid_utf8(const uint8_t *bytes, size_t bytes_len);
  * A host that wants no key to outlive its use clears that part of the stack by tn_clear_stack(TN_STACK_LIMIT) after such a call, in the function that made
  * the call or in one above it, with more depth for the frames between; and clears its own copies. gateway/wipe.c and gateway/connection.c show it.
  *
- * TN_STACK_LIMIT is measured, not proved: the deepest call, tn_message with a ClientKeyExchange, reaches less than 9,000 bytes below its caller (`make bench`).
+ * Both limits are measured, not proved (`make bench`, bench/frames). TN_STACK_LIMIT is for all calls but one: the deepest of them, tn_message with a
+ * ClientKeyExchange, reaches less than 10,000 bytes below its caller. TN_RECORD_STACK_LIMIT is for tn_take_record, which has room on the stack to join a
+ * message that came in several records, and reaches less than 31,000.
  */
 #define TN_STACK_LIMIT 16384
+#define TN_RECORD_STACK_LIMIT 49152
 
 /* Registers may hold a part of a key too, and a later call may put them on the stack, as the dynamic linker does at the first call of a function. */
 #ifdef __has_attribute

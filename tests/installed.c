@@ -1,6 +1,6 @@
 /*
  * A first program over the installed library, valid as C and as C++: document 01's worked bytes (V1 to V12) through the C interface, edits of its key
- * table, and the way that the three kinds of results are told apart. Run by tests/installed.
+ * table, a session on a record connection, and the way that the three kinds of results are told apart. Run by tests/installed.
  */
 #include <stdio.h>
 #include <stdlib.h>
@@ -126,6 +126,82 @@ static bool suite_is_found(const uint8_t *answer, size_t n)
            && fields[2] == TN_SUITE_PSK_NULL_SHA256;
 }
 
+/* A record connection, and what its client keeps: the handshake's messages, the two MAC keys, and how many records it has sealed. */
+struct session {
+    uint8_t connection[TN_RECORD_CONNECTION_SIZE], memory[TN_RECORD_MEMORY], out[TN_RECORD_ANSWER], master[TN_MASTER_SIZE];
+    uint32_t told[4];
+    uint8_t transcript[200], keys[64];
+    size_t transcript_len;
+    uint64_t sealed;
+};
+
+static void add(struct session *s, const uint8_t *message, size_t n)
+{
+    memcpy(s->transcript + s->transcript_len, message, n);
+    s->transcript_len += n;
+}
+
+static int32_t take(struct session *s, const uint8_t *record, int32_t n)
+{
+    return tn_take_record(s->connection, bytes("gate7:abcd\n"), 11, record, (size_t)n, s->memory, sizeof s->memory, s->out, sizeof s->out, s->master, s->told);
+}
+
+static int32_t take_plain(struct session *s, uint8_t kind, const uint8_t *content, size_t n)
+{
+    uint8_t record[64];
+    return take(s, record, tn_write_record(kind, content, n, record, sizeof record));
+}
+
+static int32_t take_sealed(struct session *s, uint8_t kind, const uint8_t *content, size_t n)
+{
+    uint8_t record[64];
+    return take(s, record, tn_seal_record(s->keys, s->sealed++, kind, content, n, record, sizeof record));
+}
+
+/* Hello, key exchange in two records, change of cipher and Finished. */
+static void record_login(struct session *s)
+{
+    uint8_t random[TN_RANDOM_SIZE] = {1}, message[48], hash[TN_HASH_SIZE], value[TN_VERIFY_DATA_SIZE];
+    uint32_t fields[3];
+    expect("a record connection", tn_record_start(s->connection, random, sizeof random, random, 0, random, sizeof random, TN_RULE_HIDE) == 0
+                                      && tn_record_phase(s->connection) == TN_PHASE_CLIENT_HELLO);
+    tn_write_client_hello(0x0303, random, sizeof random, random, 0, bytes("\x00\xB0"), 2, bytes("\x00"), 1, false, random, 0, message, sizeof message);
+    add(s, message, 45);
+    expect("a hello in a record", take_plain(s, TN_TYPE_HANDSHAKE, message, 45) == 56);
+    expect("the first record of the answer", tn_read_record(s->out, 47, 0, fields) == 0 && fields[0] == TN_TYPE_HANDSHAKE && fields[1] == 0x0303
+                                                 && fields[2] == 42 && tn_message_end(s->out + 5) == 42);
+    add(s, s->out + 5, 42);
+    add(s, s->out + 52, 4);
+    tn_write_client_key_exchange(bytes("gate7"), 5, message, sizeof message);
+    add(s, message, 11);
+    expect("a part of a message", take_plain(s, TN_TYPE_HANDSHAKE, message, 6) == 0 && s->told[0] == 0 && memcmp(s->memory, message, 6) == 0);
+    expect("the rest of it", take_plain(s, TN_TYPE_HANDSHAKE, message + 6, 5) == 0 && s->told[0] == 1);
+    tn_key_block(s->master, sizeof s->master, random, sizeof random, random, sizeof random, TN_SUITE_PSK_NULL_SHA256, s->keys, sizeof s->keys);
+    expect("data too soon", tn_send_data(s->connection, bytes("cow"), 3, s->out, sizeof s->out) == TN_R5);
+    expect("a change of cipher", take_plain(s, TN_TYPE_CHANGE_OF_CIPHER, bytes("\x01"), 1) == 0);
+    tn_sha256(s->transcript, s->transcript_len, hash, sizeof hash);
+    tn_finished(TN_SIDE_CLIENT, s->master, sizeof s->master, hash, sizeof hash, value, sizeof value);
+    tn_write_finished(value, sizeof value, message, sizeof message);
+    expect("a Finished", take_sealed(s, TN_TYPE_HANDSHAKE, message, TN_FINISHED_SIZE) == 59 && tn_record_phase(s->connection) == TN_PHASE_COMPLETE);
+    expect("the server's Finished", tn_open_record(s->keys + 32, 0, s->out + 6, 53) == TN_FINISHED_SIZE);
+}
+
+/* Data both ways, and a record that comes twice. */
+static void records(void)
+{
+    static struct session s;
+    record_login(&s);
+    expect("data from the client", take_sealed(&s, TN_TYPE_APPLICATION_DATA, bytes("cow 212"), 7) == 0 && s.told[1] == 1 && s.told[2] == 5 && s.told[3] == 7);
+    expect("data for the client", tn_send_data(s.connection, bytes("cow"), 3, s.out, sizeof s.out) == 40 && tn_open_record(s.keys + 32, 1, s.out, 40) == 3);
+    s.sealed--;
+    int32_t result = take_sealed(&s, TN_TYPE_APPLICATION_DATA, bytes("cow 212"), 7);
+    expect("the same again", result == TN_ALERT_RESULT(TN_ALERT_BAD_RECORD_MAC) && tn_record_phase(s.connection) == TN_PHASE_CLOSED);
+    expect("the alert for it", tn_closing_alert(s.connection, s.out, sizeof s.out) == TN_CLOSING_ALERT_SIZE && tn_open_record(s.keys + 32, 2, s.out, 39) == 2
+                                   && s.out[6] == TN_ALERT_BAD_RECORD_MAC);
+    expect("nothing more", tn_send_close(s.connection, s.out, sizeof s.out) == TN_R4 && tn_is_host_refusal(TN_R9) && !tn_is_alert(TN_R9));
+    tn_clear_stack(TN_RECORD_STACK_LIMIT);
+}
+
 int main(void)
 {
     uint8_t answer[TN_FLIGHT_SIZE];
@@ -138,6 +214,7 @@ int main(void)
     expect("V12, 0x0302", hello(0x0302, answer) == TN_ALERT_RESULT(TN_ALERT_PROTOCOL_VERSION));
     expect("V12, 0x0304", hello(0x0304, answer) == 46 && answer[4] == 3 && answer[5] == 3);
     expect("the suite", suite_is_found(answer, 46));
+    records();
     expect("the version", strlen(TN_VERSION) >= 3);
     if (failures == 0)
         printf("tests/installed.c: all as expected\n");

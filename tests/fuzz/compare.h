@@ -6,7 +6,8 @@
 
 /* ---- drawn bytes (drawn.c); each slot holds one piece, until it is drawn again */
 
-enum { DAMAGED = 8, MESSAGE = 9 }; /* the slots of `damaged` and of whole messages; 0 to 4 hold a hello's fields, 7 a line's text */
+/* the slots of `damaged`, of whole messages and of records; 0 to 4 hold a hello's fields, 7 a line's text */
+enum { DAMAGED = 8, MESSAGE = 9, CONTENT = 10, RECORD = 11 };
 
 struct bytes drawn(size_t slot, size_t n);
 struct bytes clean_text(size_t slot, size_t n);               /* of UTF-8 */
@@ -20,7 +21,16 @@ struct bytes drawn_identity(size_t slot, struct bytes table); /* mostly one that
 size_t key_in_line(size_t size);                              /* how long a key may be in a line of 8 to 258 bytes, its 0A among them */
 struct bytes damaged(struct bytes b);                         /* a copy, changed in a few places; its length may be another */
 struct bytes copied(size_t slot, struct bytes b);
+void damage_connection(uint8_t *c, const uint8_t *other, size_t n); /* in one of several ways, of which one takes bytes of the other */
 size_t drawn_room(int32_t said);                              /* mostly enough, often one short */
+
+/* What a connection is started with. */
+struct settings {
+    struct bytes random, hint, stand_in;
+    uint8_t rule;
+};
+
+struct settings drawn_settings(void); /* now and then such as are refused */
 
 /* A well-formed table of so many lines and bytes, fewer if lines can't be that long. Line `odd` has the identity ODD and a key of odd_key bytes. */
 #define ODD "odd"
@@ -32,6 +42,7 @@ void compare_readers(struct bytes message);
 void compare_extensions(struct bytes block);
 void compare_table(struct bytes table, struct bytes identity);
 void compare_utf8(struct bytes text);
+void compare_record(const uint8_t key[32], uint64_t number, struct bytes record); /* read with and without protection, and opened */
 
 /* ---- a table in memory, and its edits */
 
@@ -63,6 +74,31 @@ void pair_alert(struct pair *p, uint8_t level, uint8_t description);
 /* Bytes of any kind as a connection: one call of each kind, of which no more is known than the header says. */
 void probe(const uint8_t connection[TN_CONNECTION_SIZE], struct bytes table, struct bytes message, size_t room);
 
+/* ---- what a call tells of a connection, and leaves in one, of either kind: a record connection begins with one of the server's */
+
+int32_t told(const char *name, int32_t (*call)(const uint8_t *), struct bytes connection); /* by a call that only reads it */
+void settle_connection(struct lent *c, int32_t result, bool stays); /* before `finish`: it has its own bytes after an R number, and where it stays */
+void expect_over(const uint8_t connection[TN_CONNECTION_SIZE], int32_t phase); /* closed or complete, it has no trace of its client */
+
+/* ---- a record connection and its model */
+
+struct record_pair {
+    uint8_t connection[TN_RECORD_CONNECTION_SIZE];
+    struct record_model model;
+};
+
+void record_start(struct record_pair *p, struct settings s);
+void record_take(struct record_pair *p, struct bytes table, struct bytes record, size_t memory, size_t room); /* memory for what is held at least */
+void record_send(struct record_pair *p, struct bytes content, size_t room);
+void record_close(struct record_pair *p, size_t room);
+void record_renumber(struct record_pair *p, bool sending, uint64_t number); /* as if so many records had been sent or taken */
+
+/* Bytes of any kind as a record connection, and any memory: as `probe`. */
+void record_probe(const uint8_t connection[TN_RECORD_CONNECTION_SIZE], struct bytes table, struct bytes record, struct bytes memory, size_t room);
+
+/* The same with another byte for a `protected`, and with another count of held bytes. */
+void record_probe_unwritten(const uint8_t connection[TN_RECORD_CONNECTION_SIZE], struct bytes table, struct bytes record, struct bytes memory, size_t room);
+
 /* ---- one round of drawn calls each */
 
 void secrets_round(void);
@@ -70,6 +106,7 @@ void layouts_round(void);
 void table_round(void);
 void edits_round(void);
 void server_round(void);
+void records_round(void);
 
 /* ---- sweeps, the same in every run */
 
@@ -79,5 +116,10 @@ void every_odd_table(void);
 void every_edit(void);
 void every_alert(void);
 void every_bit(void);
+void every_content(void);
+void every_cut(void);
+void every_record_bit(void);
+void every_record_room(void);
+void every_number(void);
 
 #endif

@@ -6,7 +6,7 @@
 
 #define SLOT 70000u
 
-static uint8_t slots[MESSAGE + 1][SLOT];
+static uint8_t slots[RECORD + 1][SLOT];
 
 struct bytes drawn(size_t slot, size_t n)
 {
@@ -56,6 +56,20 @@ struct bytes damaged(struct bytes b)
         slots[DAMAGED][3] = (uint8_t)body;
     }
     return (struct bytes){slots[DAMAGED], n};
+}
+
+void damage_connection(uint8_t *c, const uint8_t *other, size_t n)
+{
+    size_t from = below(n), part = between(1, n - from);
+    switch (below(5)) {
+    case 0: draw_bytes(c + from, part); break;
+    case 1: memcpy(c + from, other + from, part); break;
+    case 2: memset(c + from, once_in(2) ? 0xff : 0, part); break;
+    case 3: draw_bytes(c, n); break;
+    default:
+        for (size_t i = between(1, 8); i > 0; i--)
+            c[below(n)] ^= (uint8_t)(1u << below(8));
+    }
 }
 
 /* ---- text */
@@ -195,6 +209,16 @@ struct bytes drawn_login(void)
     h.present = once_in(3);
     h.block = drawn_block(4, once_in(6) ? 16280 : 300);
     return composed(&h, true);
+}
+
+struct settings drawn_settings(void)
+{
+    struct settings s;
+    s.hint = once_in(3) ? drawn(1, 0) : once_in(10) ? drawn_text(1, draw_length(128, 300)) : drawn_text(1, below(129));
+    s.random = drawn(0, once_in(20) ? draw_length(32, 66000) : 32);
+    s.stand_in = drawn(2, once_in(20) ? draw_length(32, 66000) : 32);
+    s.rule = (uint8_t)(once_in(20) ? draw() : below(3));
+    return s;
 }
 
 /* ---- tables */

@@ -1,6 +1,6 @@
 # The library against independent models, and under a fuzzer; included by the top Makefile.
 #
-# make differential          every export on drawn inputs, under a minute; FUZZ_ROUNDS=1 FUZZ_SEED=7 tries one round again
+# make differential          every export on drawn inputs, about a minute; FUZZ_ROUNDS=1 FUZZ_SEED=7 tries one round again
 # make planted               the test of that test: each fault of tests/fuzz/planted.py has to be found
 # make fuzz                  libFuzzer for FUZZ_SECONDS (600) on series of calls; what it finds is kept in build/fuzz/found
 # make fuzz-replay           the fuzzer's seeds and all that it kept, once, without libFuzzer; build/fuzz/replay is also a program for AFL++
@@ -11,12 +11,13 @@ FUZZ_ROUNDS ?=
 FUZZ_SEED ?=
 FUZZ_CLANG ?= clang
 FUZZ_FLAGS := -std=c11 -D_GNU_SOURCE -Wall -Wextra -Wconversion -Wshadow -Werror -g -O1 -fno-sanitize-recover=all -Iinclude
-FUZZ_MODELS := $(addprefix tests/fuzz/,lent.c drawn.c model_secrets.c model_layouts.c model_table.c model_server.c layouts.c table.c server.c)
+FUZZ_MODELS := $(addprefix tests/fuzz/,lent.c drawn.c model_secrets.c model_layouts.c model_table.c model_server.c model_records.c layouts.c table.c server.c \
+	records.c)
 FUZZ_HEADERS := $(wildcard tests/fuzz/*.h) include/turretnail.h
 
 .PHONY: differential planted fuzz fuzz-replay
 
-build/differential: tests/fuzz/main.c tests/fuzz/secrets.c $(FUZZ_MODELS) $(FUZZ_HEADERS) $(LIBRARY)
+build/differential: tests/fuzz/main.c tests/fuzz/secrets.c tests/fuzz/record_series.c $(FUZZ_MODELS) $(FUZZ_HEADERS) $(LIBRARY)
 	@gateway/needs build
 	@mkdir -p build
 	@$(CC) $(FUZZ_FLAGS) -fsanitize=address,undefined $(filter %.c,$^) $(LIBRARY) -lcrypto -o $@
@@ -40,7 +41,7 @@ build/fuzz/replay: tests/fuzz/target.c $(FUZZ_MODELS) $(FUZZ_HEADERS) $(LIBRARY)
 	@mkdir -p build/fuzz
 	@$(CC) $(FUZZ_FLAGS) -fsanitize=address,undefined $(filter %.c,$^) $(LIBRARY) -lcrypto -o $@
 
-build/fuzz/seeds: tests/fuzz/seeds.py tests/handshakes.py $(wildcard tests/recorded/*.hex)
+build/fuzz/seeds: tests/fuzz/seeds.py tests/handshakes.py tests/record_sessions.py $(wildcard tests/recorded/*)
 	@rm -rf $@
 	@mkdir -p $@
 	@python3 tests/fuzz/seeds.py $@

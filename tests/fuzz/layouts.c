@@ -68,6 +68,22 @@ void compare_extensions(struct bytes block)
     compare_next(block, SIZE_MAX - below(5));
 }
 
+void compare_record(const uint8_t key[32], uint64_t number, struct bytes record)
+{
+    const size_t added[] = {0, TN_RECORD_MAC_SIZE, SIZE_MAX, below(3000)};
+    for (size_t i = 0; i < 4; i++) {
+        uint32_t f[3];
+        int32_t said = model_read_record(record, added[i], f);
+        begin("tn_read_record");
+        struct lent *r = lend(record), *fields = lend_room(sizeof f);
+        settle_fields(tn_read_record(r->bytes, r->n, added[i], (uint32_t *)(void *)fields->bytes), said, fields, f);
+    }
+    begin("tn_open_record");
+    struct lent *k = lend((struct bytes){key, TN_RECORD_MAC_SIZE}), *r = lend(record);
+    expect_number(tn_open_record(k->bytes, number, r->bytes, r->n), model_open_record(key, number, record));
+    finish();
+}
+
 /* ---- writers */
 
 static void compare_write_client_hello(const struct hello *h)
@@ -139,6 +155,31 @@ static void compare_write_tickets(void)
     settle(tn_write_ticket_extension(t->bytes, t->n, out->bytes, out->n), out, &wanted);
 }
 
+static void compare_write_records(const uint8_t key[32], uint64_t number)
+{
+    struct bytes content = drawn(0, once_in(8) ? draw_length(CONTENT_LIMIT, 66000) : below(100));
+    uint8_t type = (uint8_t)(once_in(4) ? draw() : between(19, 24));
+    model_write_record(type, content, &wanted);
+    begin("tn_write_record");
+    struct lent *c = lend(content), *out = lend_room(drawn_room(wanted.said));
+    settle(tn_write_record(type, c->bytes, c->n, out->bytes, out->n), out, &wanted);
+    model_seal_record(key, number, type, content, &wanted);
+    begin("tn_seal_record");
+    struct lent *k = lend((struct bytes){key, TN_RECORD_MAC_SIZE});
+    c = lend(content);
+    out = lend_room(drawn_room(wanted.said));
+    settle(tn_seal_record(k->bytes, number, type, c->bytes, c->n, out->bytes, out->n), out, &wanted);
+}
+
+static void compare_message_end(void)
+{
+    struct bytes header = drawn(0, 4);
+    begin("tn_message_end");
+    struct lent *h = lend(header);
+    expect_number(tn_message_end(h->bytes), model_message_end(header.at));
+    finish();
+}
+
 /* ---- a round */
 
 /* A short message of one of the other kinds. */
@@ -161,6 +202,25 @@ static void compare_damaged(struct bytes message)
     compare_readers(damaged(message));
 }
 
+/* A record, mostly protected, opened as it was sealed; damaged; under the next number, or cut; and with one bit changed. */
+static void compare_records(void)
+{
+    struct direction d;
+    d.protected = !once_in(6);
+    d.number = once_in(4) ? LAST_NUMBER - below(3) : draw() >> below(64);
+    draw_bytes(d.key, sizeof d.key);
+    struct bytes content = drawn(0, once_in(8) ? draw_length(CONTENT_LIMIT, 65000) : below(70));
+    compose_record(&d, (uint8_t)(once_in(8) ? draw() : between(19, 24)), once_in(3) ? (uint32_t)below(65536) : 0x0303, content, &wanted);
+    struct bytes record = copied(RECORD, (struct bytes){wanted.bytes, (size_t)wanted.said});
+    compare_record(d.key, d.number, record);
+    compare_record(d.key, d.number, damaged(record));
+    compare_record(d.key, d.number + (once_in(2) ? 1 : 0), (struct bytes){record.at, once_in(2) ? record.n : below(record.n + 1)});
+    wanted.bytes[below(record.n)] ^= (uint8_t)(1u << below(8));
+    compare_record(d.key, d.number, copied(RECORD, (struct bytes){wanted.bytes, record.n}));
+    compare_write_records(d.key, d.number);
+    compare_message_end();
+}
+
 void layouts_round(void)
 {
     struct hello h;
@@ -173,4 +233,5 @@ void layouts_round(void)
     compare_write_key_exchanges();
     compare_write_fixed();
     compare_write_tickets();
+    compare_records();
 }

@@ -58,6 +58,18 @@ static const struct {
     {"tn_table_replace", {2, TN_R1, TN_R2, TN_R5, TN_R7, TN_R8, 99}},
     {"tn_table_retire", {0, 2, TN_R2, TN_R5, TN_R7, 99}},
     {"tn_valid_utf8", {0, 1, 99}},
+    {"tn_record_start", {0, TN_R3, 99}},
+    {"tn_take_record", {0, 2, TN_R1, TN_R2, TN_R4, TN_R9, ALERT(10), ALERT(20), ALERT(22), ALERT(40), ALERT(47), 99}},
+    {"tn_take_record", {ALERT(50), ALERT(51), ALERT(70), ALERT(115), 99}},
+    {"tn_send_data", {2, TN_R1, TN_R4, TN_R5, TN_R9, 99}},
+    {"tn_send_close", {2, TN_R1, TN_R4, TN_R9, 99}},
+    {"tn_closing_alert", {0, 2, TN_R1, 99}},
+    {"tn_record_phase", {0, 1, 2, 99}},
+    {"tn_read_record", {0, ALERT(10), ALERT(22), ALERT(50), 99}},
+    {"tn_write_record", {2, TN_R1, TN_R5, 99}},
+    {"tn_seal_record", {2, TN_R1, TN_R5, 99}},
+    {"tn_open_record", {0, 2, ALERT(10), ALERT(20), ALERT(22), ALERT(50), 99}},
+    {"tn_message_end", {2, 99}},
 };
 
 static void expect_every_result(bool tell)
@@ -94,6 +106,11 @@ int main(int count, char **arguments)
     every_edit();
     every_alert();
     every_bit();
+    every_content();
+    every_cut();
+    every_record_bit();
+    every_record_room();
+    every_number();
     for (unsigned long i = 0; i < rounds; i++) {
         run_seed = seed + i;
         draw_from(run_seed);
@@ -102,6 +119,7 @@ int main(int count, char **arguments)
         table_round();
         edits_round();
         server_round();
+        records_round();
     }
     if (rounds >= FEW)
         expect_every_result(count > 3);

@@ -1,6 +1,6 @@
 /*
- * The library's functions a second time, written from document 01, the request for the table's edits and the RFCs alone, over libcrypto. Nothing here
- * was taken from the library; each gives what the export of its name has to come to, the test of the room (R1) left out where it says "answer".
+ * The library's functions a second time, written from document 01, the requests for the table's edits and for records and the RFCs alone, over libcrypto.
+ * Nothing here was taken from the library; each gives what the export of its name has to come to, the test of the room (R1) left out where it says "answer".
  */
 #ifndef MODEL_H
 #define MODEL_H
@@ -74,6 +74,7 @@ struct server {
     uint8_t random[32], hint[128], stand_in[32];
     size_t hint_n;
     bool hides;
+    bool null_only; /* of our suites 0x00B0 alone is offered */
     uint8_t client[32], master[48];
     uint32_t suite;
     bool listed;
@@ -86,6 +87,52 @@ void model_message(struct server *s, struct bytes table, struct bytes message, s
 int32_t model_change(struct server *s);
 int32_t model_alert(struct server *s, uint8_t level, uint8_t description);
 int32_t model_suite(const struct server *s);
+int model_awaited(const struct server *s); /* the type of the message that is awaited, none where a change of cipher is */
 void model_verify_data(const struct server *s, uint8_t side, struct answer *a); /* of a Finished after this transcript */
+
+/* ---- records (model_records.c) */
+
+enum { CHANGE = 20, ALERT = 21, HANDSHAKE = 22, DATA = 23 }; /* content types */
+
+#define CONTENT_LIMIT 16384
+#define LAST_NUMBER UINT64_MAX
+
+/* One direction of a connection: whether its records are protected, how many there were, and the MAC's key. */
+struct direction {
+    bool protected;
+    uint64_t number;
+    uint8_t key[32];
+};
+
+/* The record of this type, version and content in that direction, whatever type and length are. */
+void compose_record(const struct direction *d, uint8_t type, uint32_t version, struct bytes content, struct answer *a);
+
+void model_write_record(uint8_t type, struct bytes content, struct answer *a);
+void model_seal_record(const uint8_t key[32], uint64_t number, uint8_t type, struct bytes content, struct answer *a);
+int32_t model_read_record(struct bytes record, size_t added, uint32_t fields[3]);
+int32_t model_open_record(const uint8_t key[32], uint64_t number, struct bytes record);
+int32_t model_message_end(const uint8_t header[4]);
+
+/* A record connection. What came of an unfinished message is here, not in lent memory. */
+struct record_model {
+    struct server server;
+    struct direction reading, writing;
+    uint8_t held[CONTENT_LIMIT];
+    size_t held_n;
+    uint8_t alert[39]; /* the record of the alert that closed it */
+    size_t alert_n;
+};
+
+/* What a record comes to: the records to be sent, and the numbers that are told where it was accepted. */
+struct taken {
+    struct answer answer;
+    uint32_t told[4];
+};
+
+int32_t model_record_start(struct record_model *m, struct bytes random, struct bytes hint, struct bytes stand_in, uint8_t rule);
+void model_take(struct record_model *m, struct bytes table, struct bytes record, size_t memory, size_t room, struct taken *t); /* R1 included, as below */
+void model_send(struct record_model *m, struct bytes content, size_t room, struct answer *a);
+void model_close(struct record_model *m, size_t room, struct answer *a);
+void model_closing_alert(const struct record_model *m, struct answer *a); /* R1 left out */
 
 #endif

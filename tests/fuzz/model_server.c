@@ -43,10 +43,10 @@ static uint32_t two(const uint8_t *at)
 }
 
 /* The first of ours that the client lists, 0 where there is none. */
-static uint32_t chosen(const uint8_t *suites, size_t n)
+static uint32_t chosen(const struct server *s, const uint8_t *suites, size_t n)
 {
     static const uint32_t ours[] = {0x00AE, 0x008C, 0x00B0};
-    for (size_t k = 0; k < 3; k++)
+    for (size_t k = s->null_only ? 2 : 0; k < 3; k++)
         for (size_t i = 0; i + 1 < n; i += 2)
             if (two(suites + i) == ours[k])
                 return ours[k];
@@ -77,7 +77,7 @@ static void hello_step(struct server *s, struct bytes m, size_t room, struct ans
         a->said = closing(s, 50);
         return;
     }
-    uint32_t suite = chosen(m.at + f[2], f[3]);
+    uint32_t suite = chosen(s, m.at + f[2], f[3]);
     if (f[0] < 0x0303)
         a->said = closing(s, 70);
     else if (!memchr(m.at + f[4], 0, f[5]))
@@ -155,8 +155,7 @@ static void finished_step(struct server *s, struct bytes m, size_t room, struct 
     s->phase = TN_PHASE_COMPLETE;
 }
 
-/* The type of the message that is awaited, none where a change of cipher is. */
-static int awaited(const struct server *s)
+int model_awaited(const struct server *s)
 {
     return s->phase == TN_PHASE_CLIENT_HELLO ? 1 : s->phase == TN_PHASE_CLIENT_KEY_EXCHANGE ? 16 : s->phase == TN_PHASE_FINISHED ? 20 : -1;
 }
@@ -167,7 +166,7 @@ void model_message(struct server *s, struct bytes table, struct bytes m, size_t 
         a->said = TN_R4;
     else if (m.n < 4)
         a->said = closing(s, 50);
-    else if (m.at[0] != awaited(s))
+    else if (m.at[0] != model_awaited(s))
         a->said = closing(s, 10);
     else if ((two(m.at + 1) << 8 | m.at[3]) != m.n - 4 || m.n > 16384)
         a->said = closing(s, 50);

@@ -24,6 +24,10 @@ MESSAGE_MADE = "m->bytes, m->n, out->bytes, out->n, master->bytes);\n    settle_
 # the place in table.c where an edit has just been made
 EDIT_MADE = "    settle(result, l, &wanted);\n"
 
+# the places in records.c where tn_take_record has just been called, on a connection and on bytes that no call has written
+RECORD_MADE = "out, master, numbers);\n    settle_connection(c, result, false);\n    if (taken"
+RECORD_PROBED = "    expect_result_of_record(result, room);\n    memset"
+
 # how the readers of the two hellos end, and where the block's place stands among the fields
 CLIENT_HELLO, SERVER_HELLO = ("eat_extensions(&e, fields + 6)", 7), ("!e.bad && session_id.n <= 32 && eat_extensions(&e, fields + 4)", 5)
 
@@ -47,6 +51,11 @@ def ticket_refused(name, hello, data):
 """
 
 
+def record_made(name, line):
+    """A fault of what the library might do with memory that is lent to tn_take_record."""
+    return name, "records.c", RECORD_MADE, RECORD_MADE.replace("    if (taken", f"    {line}\n    if (taken")
+
+
 PLANTED = [
     # secrets
     ("randoms swapped in the master secret", "model_secrets.c", "LABEL_MASTER_SECRET, client, server", "LABEL_MASTER_SECRET, server, client"),
@@ -61,7 +70,9 @@ PLANTED = [
     ("labels exchanged", "model_secrets.c", '{"master secret", "key expansion",', '{"key expansion", "master secret",'),
     ("sides exchanged", "model_secrets.c", "side == 0 ? TN_LABEL_CLIENT", "side == 1 ? TN_LABEL_CLIENT"),
     # layouts
-    ("version and suite of a ServerHello exchanged", "model_layouts.c", "fields[2] = eat_number(&e, 2);", "fields[2] = fields[0], fields[0] = eat_number(&e, 2);"),
+    ("version and suite of a ServerHello exchanged", "model_layouts.c",
+     "fields[2] = eat_number(&e, 2);",
+     "fields[2] = fields[0], fields[0] = eat_number(&e, 2);"),
     ("the ticket extension's number", "model_layouts.c", "model_write_extension(35, ticket, a);", "model_write_extension(36, ticket, a);"),
     ("a ticket extension with the ticket's own length in it", "model_layouts.c",
      "    model_write_extension(35, ticket, a);\n",
@@ -156,7 +167,7 @@ PLANTED = [
     ("R2 after the layout", "model_server.c",
      "if (!model_table_test(table)) {",
      "if (model_read_key_exchange(16, m, f) && !model_table_test(table)) {"),
-    ("50 before 10", "model_server.c", "m.at[0] != awaited(s)", "m.n < 6 ? false : m.at[0] != awaited(s)"),
+    ("50 before 10", "model_server.c", "m.at[0] != model_awaited(s)", "m.n < 6 ? false : m.at[0] != model_awaited(s)"),
     ("rules exchanged", "model_server.c", "rule != TN_RULE_TELL", "rule != TN_RULE_HIDE"),
     ("no rule tells", "model_server.c", "rule != TN_RULE_TELL", "rule == TN_RULE_HIDE"),
     ("a hint of 129 bytes", "model_server.c", "hint.n > 128 ||", "hint.n > 129 ||"),
@@ -164,6 +175,88 @@ PLANTED = [
     ("a fourth rule", "model_server.c", "rule > 2", "rule > 3"),
     ("a warning that closes", "model_server.c", "if (level == 2 || description == 0)", "if (true)"),
     ("a change of cipher at any time", "model_server.c", "s->phase != TN_PHASE_CHANGE_OF_CIPHER", "false"),
+    # records
+    ("the MAC over the record's length field", "model_records.c",
+     "type, version, content.n);\n    memcpy(text",
+     "type, version, content.n + 32);\n    memcpy(text"),
+    ("0x0303 in the MAC of a record that came with another version", "model_records.c",
+     "(uint8_t)fields[0], fields[1], content",
+     "(uint8_t)fields[0], 0x0303, content"),
+    ("no number in the MAC", "model_records.c", "(uint8_t)(number >> (56 - 8 * i))", "(uint8_t)(number * 0)"),
+    ("a number's low half alone", "model_records.c", "(uint8_t)(number >> (56 - 8 * i))", "(uint8_t)((number & 0xffffffff) >> (56 - 8 * i))"),
+    ("31 bytes of a MAC compared", "model_records.c", "memcmp(mac, content.at + content.n, 32)", "memcmp(mac, content.at + content.n, 31)"),
+    ("a number that a taken record does not advance", "model_records.c", "    count(&m->reading);\n", ""),
+    ("a number that an answer does not advance", "model_records.c", "    count(&m->writing);\n    memcpy", "    memcpy"),
+    ("a number that sent data does not advance", "model_records.c", "    if (a->said > 0)\n        count(&m->writing);\n", ""),
+    ("a number that is not 0 behind a change of cipher", "model_records.c", "under(block.bytes + 32 * which, 0)", "under(block.bytes + 32 * which, d->number)"),
+    ("the two keys exchanged", "model_records.c", "block.bytes + 32 * which", "block.bytes + 32 * (1 - which)"),
+    ("the stand-in key's MAC accepted", "model_records.c", "(wrong || (n >= 0 && !m->server.listed))", "wrong"),
+    ("20 for the first protected record", "model_records.c", "(wrong || (n >= 0 && !m->server.listed))", "(n >= 0 && !m->server.listed)"),
+    ("51 for a later record", "model_records.c", "m->reading.protected && m->reading.number == 0", "m->reading.protected"),
+    ("51 before the record's layout", "model_records.c", "(n >= 0 && !m->server.listed)", "!m->server.listed"),
+    ("R1 before a later message's alert", "model_records.c", "if (refusal == 0 && ((size_t)t", "if ((refusal == 0 || t->answer.said > 0) && ((size_t)t"),
+    ("R2 that keeps the hello of its record", "model_records.c",
+     "    if (refusal == 0)\n        *m = next",
+     "    if (refusal == 0 || refusal == TN_R2)\n        *m = next"),
+    ("R1 that keeps what came", "model_records.c", "    if (refusal == 0)\n        *m = next", "    if (refusal == 0 || refusal == TN_R1)\n        *m = next"),
+    ("R1 for the output alone", "model_records.c", " || next.held_n > memory", ""),
+    ("memory for all that came", "model_records.c", "next.held_n > memory", "m->held_n + record.n - 5 > memory"),
+    ("a header that is judged when the message is whole", "model_records.c",
+     "if (refusal != 0 || (size_t)end > bytes.n)\n        return refusal;",
+     "if ((size_t)end > bytes.n)\n        return 0;\n    if (refusal != 0)\n        return refusal;"),
+    ("the limit before the type", "model_records.c",
+     "if (header[0] != model_awaited(&m->server))",
+     "if (header[0] != model_awaited(&m->server) && model_message_end(header) <= 16384)"),
+    ("a type that is judged by itself", "model_records.c",
+     "    if (bytes.n < 4)\n        return 0;\n",
+     "    if (bytes.n < 4)\n        return bytes.n > 0 && bytes.at[0] != model_awaited(&m->server) ? TN_ALERT_RESULT(10) : 0;\n"),
+    ("a message of 16,385 bytes in records", "model_records.c", "model_message_end(header) > 16384", "model_message_end(header) > 16385"),
+    ("a message of 16,383 bytes at most in records", "model_records.c", "model_message_end(header) > 16384", "model_message_end(header) > 16383"),
+    ("three bytes behind the Finished", "model_records.c", "if (complete(m) && bytes.n > 0)", "if (complete(m) && bytes.n > 3)"),
+    ("a record of 16,385 bytes written", "model_records.c", "content.n <= CONTENT_LIMIT", "content.n <= CONTENT_LIMIT + 1"),
+    ("a record of 16,385 bytes read", "model_records.c", "CONTENT_LIMIT > added", "CONTENT_LIMIT - 1 > added"),
+    ("22 before 10", "model_records.c", "if (!is_type(record.at[0]))", "if (!is_type(record.at[0]) && record.n - 5 <= CONTENT_LIMIT + added)"),
+    ("10 before 50", "model_records.c",
+     "if (record.n < 5 || two(record.at + 3) != record.n - 5)",
+     "if (record.n < 5 || (is_type(record.at[0]) && two(record.at + 3) != record.n - 5))"),
+    ("a fifth content type", "model_records.c", "type <= DATA;", "type <= DATA + 1;"),
+    ("50 for a fragment that is shorter than a MAC", "model_records.c",
+     "if (fields[2] < 32)\n        return TN_ALERT_RESULT(20)",
+     "if (fields[2] < 32)\n        return TN_ALERT_RESULT(50)"),
+    ("data that are told one byte too long", "model_records.c", "(uint32_t)content.n;\n        return 0;", "(uint32_t)content.n + 1;\n        return 0;"),
+    ("data of no bytes as none", "model_records.c", "        t->told[1] = 1;\n", "        t->told[1] = content.n > 0;\n"),
+    ("application data before completion", "model_records.c", ": type == DATA || (change", ": (change"),
+    ("a change of cipher after completion that is told by its byte", "model_records.c", "? change || (handshake", "? (change && content.n == 1) || (handshake"),
+    ("10 for an empty handshake fragment after completion", "model_records.c", "(handshake && content.n > 0) :", "handshake :"),
+    ("an empty handshake fragment", "model_records.c", "(handshake && content.n == 0) || ", ""),
+    ("a change of cipher amid a message", "model_records.c", " || (change && m->held_n > 0)", ""),
+    ("50 before 10 for a change of cipher amid a message", "model_records.c", "(change && m->held_n > 0)", "(change && m->held_n > 0 && content.n == 1)"),
+    ("an alert of three bytes", "model_records.c", "content.n != 2)", "content.n < 2)"),
+    ("a change of cipher that is the byte 02", "model_records.c", "(content.n != 1 || content.at[0] != 1)", "content.n != 1"),
+    ("a close_notify that does not close", "model_records.c", "    if (level == 2 || description == 0)\n        shut", "    if (level == 2)\n        shut"),
+    ("a level of 3 as a warning", "model_records.c", "if (level != 1 && level != 2)", "if (level == 0 || level > 3)"),
+    ("a flight in one record", "model_records.c", "size_t n = (size_t)model_message_end(flight.at);", "size_t n = flight.n;"),
+    ("no change of cipher before the Finished", "model_records.c", "        answer_with(m, CHANGE, (struct bytes){&one, 1}, a);\n", ""),
+    ("a change of cipher under the new key", "model_records.c",
+     "        answer_with(m, CHANGE, (struct bytes){&one, 1}, a);\n        change_direction(m, &m->writing, 1);\n",
+     "        change_direction(m, &m->writing, 1);\n        answer_with(m, CHANGE, (struct bytes){&one, 1}, a);\n"),
+    ("no alert to be sent", "model_records.c", "if (!tn_is_alert(said) || writing", "if (said != 1 || writing"),
+    ("a closing alert under the next number", "model_records.c", "    const uint8_t alert[2]", "    writing.number++;\n    const uint8_t alert[2]"),
+    ("a closing alert without protection", "model_records.c", "    const uint8_t alert[2]", "    writing.protected = false;\n    const uint8_t alert[2]"),
+    ("a closing alert that is a warning", "model_records.c", "alert[2] = {2, ", "alert[2] = {1, "),
+    ("a closing alert under the last number", "model_records.c", " || writing.number == LAST_NUMBER)", ")"),
+    ("R9 left out", "model_records.c", "d->number == LAST_NUMBER ? TN_R9 : 0", "0"),
+    ("R9 under the last number but one", "model_records.c", "d->number == LAST_NUMBER ? TN_R9", "d->number >= LAST_NUMBER - 1 ? TN_R9"),
+    ("R5 before R9", "model_records.c",
+     "    a->said = spent(m, &m->writing);\n",
+     "    a->said = complete(m) || type == ALERT || m->server.phase == TN_PHASE_CLOSED ? spent(m, &m->writing) : 0;\n"),
+    ("R1 before R5", "model_records.c",
+     "    if (a->said > 0 && (size_t)a->said > room)\n",
+     "    if ((a->said > 0 && (size_t)a->said > room) || (a->said == TN_R5 && room < content.n + 37))\n"),
+    ("data sent before completion", "model_records.c", "send_record(m, DATA, content, complete(m), room, a)", "send_record(m, DATA, content, true, room, a)"),
+    ("a connection that a close_notify leaves open", "model_records.c", "    if (a->said > 0)\n        shut(m, 0);\n", ""),
+    ("a fatal close_notify", "model_records.c", "close_notify[2] = {1, 0}", "close_notify[2] = {2, 0}"),
+    ("other suites in records", "model_server.c", "s->null_only ? 2 : 0", "0"),
     # what the library might do with lent memory
     ("a byte beside lent memory", "lent.c",
      "void finish(void)\n{\n",
@@ -213,6 +306,24 @@ PLANTED = [
      "    result = result == TN_ALERT_RESULT(51) ? TN_ALERT_RESULT(20) : result;\n" + PROBE_MADE),
     ("another master for the same call", "server.c", PROBE_MADE, "    if (result == 0)\n        master->bytes[0] = (uint8_t)calls_made();\n" + PROBE_MADE),
     ("R4 for a damaged connection that is not over", "server.c", PROBE_MADE, "    result = result == TN_R2 ? TN_R4 : result;\n" + PROBE_MADE),
+    record_made("memory written by a refusal", "if (result < 0 && m->n > 0)\n        m->bytes[m->n / 2] ^= 1;"),
+    record_made("memory written behind what is held", "if (result >= 0 && p->model.held_n < m->n)\n        m->bytes[m->n - 1] ^= 1;"),
+    record_made("numbers told by a refusal", "if (result < 0)\n        numbers->bytes[4] ^= 1;"),
+    record_made("no numbers told of a part of a message", "if (result == 0 && p->model.held_n > 0)\n        numbers->bytes[4] ^= 1;"),
+    record_made("a master secret beside none that is told", "if (result == 0 && taken.told[0] == 0)\n        master->bytes[0] ^= 1;"),
+    record_made("a record connection changed by R1", "if (result == TN_R1)\n        c->bytes[500] ^= 1;"),
+    record_made("a record connection changed by R9", "if (result == TN_R9)\n        c->bytes[396] ^= 1;"),
+    record_made("a key in a closed record connection", "if (tn_is_alert(result))\n        c->bytes[400] = 7;"),
+    record_made("a byte of the record", "if (result == 59)\n        r->bytes[0] ^= 1;"),
+    ("memory written by R4 of bytes that no call has written", "records.c",
+     RECORD_PROBED,
+     "    if (result == TN_R4 && m->n > 0)\n        m->bytes[0] ^= 1;\n" + RECORD_PROBED),
+    ("another result for bytes that no call has written", "records.c", RECORD_PROBED, "    result = result == TN_R9 ? TN_R3 : result;\n" + RECORD_PROBED),
+    ("a byte more of memory", "records.c", "m->bytes, m->n, out->bytes", "m->bytes, m->n + 1, out->bytes"),
+    ("a byte more of the record", "records.c", "r->bytes, r->n, m->bytes", "r->bytes, r->n + (r->n > 5), m->bytes"),
+    ("a record opened past its end", "layouts.c",
+     "tn_open_record(k->bytes, number, r->bytes, r->n)",
+     "tn_open_record(k->bytes, number, r->bytes, r->n + (r->n > 4))"),
     ("a result that is never met", "layouts.c", "default: compose_message(14,", "default: compose_message(99,"),
 ]
 

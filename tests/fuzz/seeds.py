@@ -2,7 +2,8 @@
 """The fuzzer's first inputs, in the form that target.c gives: seeds.py DIRECTORY.
 
 Whole handshakes for each suite, hint and rule, refusals of each kind, one message of each layout, key
-tables and their edits, and the recorded messages of other programs.
+tables and their edits, the sessions of record_sessions.py and others in records, and the recorded
+messages of other programs.
 """
 import pathlib
 import sys
@@ -11,6 +12,7 @@ sys.dont_write_bytecode = True
 TESTS = pathlib.Path(__file__).resolve().parent.parent
 sys.path.insert(0, str(TESTS))
 from handshakes import EVERY, TABLE, drawn, exchange, extension, hello, message, vector
+from record_sessions import ALERT, CHANGE as CHANGE_OF_CIPHER, DATA, HANDSHAKE, NULL, script
 
 ENOUGH = 180
 ADD, REPLACE, RETIRE = range(3)
@@ -127,6 +129,67 @@ def longest():
         yield send(message(4, bytes(4) + vector(2, bytes(n - 4))))
 
 
+def translated(call):
+    """A call of record_sessions.py in the form of target.c; the alert that closed a connection is asked for after every call there."""
+    kind, rest = call[0], call[1:]
+    if kind == 1:
+        return b"\x09" + rest
+    if kind == 2:
+        return table(rest[3:])
+    if kind == 3:
+        return bytes([10, rest[0]]) + vector(2, rest[4:])
+    if kind == 4:
+        room, content = int.from_bytes(rest[:3], "big"), rest[6:]
+        return bytes([13, max(0, min(255, room - len(content)))]) + vector(2, content)
+    return bytes([14, rest[0]]) if kind == 5 else b""
+
+
+def sessions():
+    """The sessions of record_sessions.py, each from its start to the next one's."""
+    parts, last = [], b""
+    for call in script().calls:
+        if call[0] == 2:
+            last = translated(call)
+        if call[0] == 1:
+            parts.append(last)
+        if parts:
+            parts[-1] += translated(call)
+    return parts
+
+
+def content(kind, bytes_, room=195, memory=255):
+    return bytes([11, room, memory, kind]) + vector(2, bytes_)
+
+
+def record_login(end=b"", identity=b"gate7", rule=0, hint=b"barn"):
+    """A session whose records are sealed by the target, as far as the Finished."""
+    m = hello(drawn("client"), (NULL,))
+    return (table() + b"\x09" + start(rule, hint)[1:] + content(HANDSHAKE, m) + content(HANDSHAKE, exchange(identity)) + content(CHANGE_OF_CIPHER, b"\1") + end)
+
+
+def records():
+    ended = bytes([12, 195, 0, 0, 0])
+    for rule in (0, 1, 2):
+        for identity in (b"gate7", b"nobody"):
+            yield record_login(ended + content(DATA, b"cow") + bytes([13, 37]) + vector(2, b"cow") + content(ALERT, b"\1\0"), identity, rule)
+            yield record_login(content(ALERT, b"\1\x5a") + ended, identity, rule)
+    for cut in range(1, 16):
+        yield record_login(bytes([12, 195, 0, 0, cut]) + content(DATA, b""), hint=b"")
+    yield record_login(bytes([12, 58, 0, 0, 0]) + bytes([12, 195, 3, 1, 0]))
+    yield record_login(ended + content(HANDSHAKE, b"\x14") + bytes([14, 39]))
+    for back in range(3):
+        for side in range(2):
+            yield record_login(ended + bytes([16, side, back]) + 3 * (content(DATA, b"cow") + bytes([13, 40]) + vector(2, b"cow")) + bytes([14, 39]))
+            yield record_login(ended + bytes([16, side, back]) + content(99, b"") + bytes([14, 39]))
+    for place, over in ((388, b"\2"), (429, b"\2"), (534, b"\xff\xff"), (536, b"\xff"), (389, b"\xff" * 8), (0, b"\5"), (470, bytes(64)), (0, bytes(200))):
+        for end in (b"", ended):
+            yield record_login(end + content(DATA, b"cow") + bytes([15]) + place.to_bytes(2, "big") + vector(1, over))
+            yield record_login(end + bytes([15]) + place.to_bytes(2, "big") + vector(1, over))
+    both = hello(drawn("client"), (NULL,)) + exchange(b"gate7")
+    for memory in (0, 1):
+        yield table() + b"\x09" + start()[1:] + 2 * content(HANDSHAKE, both[:-3], memory=memory) + content(HANDSHAKE, both[-3:])
+
+
 def recorded():
     for file in sorted((TESTS / "recorded").glob("*.hex")):
         sent = [send(bytes.fromhex(line)) for line in file.read_text().split()]
@@ -136,6 +199,6 @@ def recorded():
 
 if __name__ == "__main__":
     directory = pathlib.Path(sys.argv[1])
-    for make in (logins, hellos, messages, tables, edits, starts, longest, recorded):
+    for make in (logins, hellos, messages, tables, edits, starts, longest, sessions, records, recorded):
         for i, contents in enumerate(make()):
             (directory / f"{make.__name__}-{i:02}").write_bytes(contents)

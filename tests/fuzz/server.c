@@ -7,11 +7,10 @@ static struct answer wanted;
 
 /* ---- what a call leaves in a connection */
 
-/* What a call tells of a connection that it only reads. */
-static int32_t told(const char *name, int32_t (*call)(const uint8_t *), const uint8_t connection[TN_CONNECTION_SIZE])
+int32_t told(const char *name, int32_t (*call)(const uint8_t *), struct bytes connection)
 {
     begin(name);
-    struct lent *c = lend((struct bytes){connection, TN_CONNECTION_SIZE});
+    struct lent *c = lend(connection);
     int32_t said = call(c->bytes);
     finish();
     return said;
@@ -19,11 +18,11 @@ static int32_t told(const char *name, int32_t (*call)(const uint8_t *), const ui
 
 static int32_t phase_of(const uint8_t connection[TN_CONNECTION_SIZE])
 {
-    return told("tn_phase", tn_phase, connection);
+    return told("tn_phase", tn_phase, (struct bytes){connection, TN_CONNECTION_SIZE});
 }
 
 /* Connections that a call has closed or completed have the same bytes, whoever the client was: those of the first one that was seen. */
-static void expect_over(const uint8_t connection[TN_CONNECTION_SIZE], int32_t phase)
+void expect_over(const uint8_t connection[TN_CONNECTION_SIZE], int32_t phase)
 {
     static uint8_t first[6][TN_CONNECTION_SIZE];
     static bool seen[6];
@@ -36,7 +35,7 @@ static void expect_over(const uint8_t connection[TN_CONNECTION_SIZE], int32_t ph
 }
 
 /* A connection that a call changed may have any bytes; one that was refused to the host, or that a warning left, has its own. */
-static void settle_connection(struct lent *c, int32_t result, bool stays)
+void settle_connection(struct lent *c, int32_t result, bool stays)
 {
     if (!tn_is_host_refusal(result) && !stays)
         becomes(c, c->bytes, c->n);
@@ -47,7 +46,7 @@ static void keep(struct pair *p, const struct lent *c, int32_t result)
 {
     memcpy(p->connection, c->bytes, TN_CONNECTION_SIZE);
     expect_number(phase_of(p->connection), p->model.phase);
-    expect_number(told("tn_suite", tn_suite, p->connection), model_suite(&p->model));
+    expect_number(told("tn_suite", tn_suite, (struct bytes){p->connection, TN_CONNECTION_SIZE}), model_suite(&p->model));
     if (!tn_is_host_refusal(result) && (p->model.phase == TN_PHASE_CLOSED || p->model.phase == TN_PHASE_COMPLETE))
         expect_over(p->connection, p->model.phase);
 }
@@ -230,9 +229,8 @@ static struct bytes drawn_message(const struct pair *p, struct bytes table)
 
 static void drawn_start(struct pair *p)
 {
-    struct bytes hint = once_in(3) ? drawn(1, 0) : once_in(10) ? drawn_text(1, draw_length(128, 300)) : drawn_text(1, below(129));
-    struct bytes random = drawn(0, once_in(20) ? draw_length(32, 66000) : 32), stand_in = drawn(2, once_in(20) ? draw_length(32, 66000) : 32);
-    pair_start(p, random, hint, stand_in, (uint8_t)(once_in(20) ? draw() : below(3)));
+    struct settings s = drawn_settings();
+    pair_start(p, s.random, s.hint, s.stand_in, s.rule);
 }
 
 static size_t drawn_message_room(const struct pair *p)
@@ -241,21 +239,12 @@ static size_t drawn_message_room(const struct pair *p)
     return once_in(6) ? below(TN_FLIGHT_SIZE + 2) : once_in(6) ? drawn_room((int32_t)flight) : once_in(6) ? drawn_room(16) : between(TN_FLIGHT_SIZE, 260);
 }
 
-/* A connection's bytes, damaged in one of several ways. */
+/* A connection's bytes, damaged. */
 static void probe_damaged(const struct pair *p, const struct pair *other, struct bytes table, struct bytes message)
 {
     uint8_t c[TN_CONNECTION_SIZE];
     memcpy(c, p->connection, sizeof c);
-    size_t from = below(sizeof c), n = between(1, sizeof c - from);
-    switch (below(5)) {
-    case 0: draw_bytes(c + from, n); break;
-    case 1: memcpy(c + from, other->connection + from, n); break;
-    case 2: memset(c + from, once_in(2) ? 0xff : 0, n); break;
-    case 3: draw_bytes(c, sizeof c); break;
-    default:
-        for (size_t i = between(1, 8); i > 0; i--)
-            c[below(sizeof c)] ^= (uint8_t)(1u << below(8));
-    }
+    damage_connection(c, other->connection, sizeof c);
     probe(c, table, message, drawn_message_room(p));
 }
 

@@ -1,6 +1,7 @@
 /*
- * The fuzz target. The input is a series of calls on one connection, each a byte that names it and its arguments; the model goes along, and every message and
- * table goes to the readers too. The library is built without the fuzzer's instrumentation: it is the models' branches, which are the papers', that lead it.
+ * The fuzz target. The input is a series of calls on two connections, one of either kind, each a byte that names it and its arguments; the models go along,
+ * and every message, record and table goes to the readers too. The library is built without the fuzzer's instrumentation: it is the models' branches, which
+ * are the papers', that lead it.
  *
  *   0 VECTOR2                                  the key table from here on
  *   1 RULE VECTOR1 VECTOR1 VECTOR1             start with random, hint and stand-in key
@@ -12,6 +13,14 @@
  *   7 VECTOR2                                  an extension block
  *   8 KIND ROOM MORE VECTOR1 VECTOR1           an edit by identity and key, add, replace or retire: in memory of ROOM bytes beyond the table, whose
  *                                              length is given as MORE than it is (a signed byte); where accepted, the key table from here on
+ *   9 RULE VECTOR1 VECTOR1 VECTOR1             start of the record connection, as 1; the calls from here on are on it
+ *   10 ROOM VECTOR2                            a record
+ *   11 ROOM MEMORY TYPE VECTOR2                a record with this content, as a client would protect it; memory of 64 times MEMORY bytes beyond what is held
+ *   12 ROOM PLACE BITS CUT                     the right Finished, those bits of it changed, in two records, of which the first has CUT bytes of it
+ *   13 ROOM VECTOR2                            data to send, in ROOM bytes more than it has
+ *   14 ROOM                                    a close_notify
+ *   15 PLACE PLACE VECTOR1                     the last record again, on a copy of the connection with these bytes at a place
+ *   16 SIDE BACK                               a direction's number, so many before the last: SIDE 0 what is taken, 1 what is sent
  *
  * VECTORn: a length of n bytes and so many bytes, or what there is left of the input. Built without libFuzzer it runs on files or on standard input.
  */
@@ -29,6 +38,8 @@ struct series {
     struct bytes rest, table, message;
     struct pair pair;
     struct memory memory; /* of the table, once it was edited */
+    struct record_pair records;
+    struct bytes record;
 };
 
 /* ---- the input */
@@ -62,6 +73,15 @@ static void do_start(struct series *s)
     pair_start(&s->pair, random, hint, stand_in, rule);
 }
 
+static void do_record_start(struct series *s)
+{
+    struct settings with = {.rule = next_byte(s)};
+    with.random = next_vector(s, 1);
+    with.hint = next_vector(s, 1);
+    with.stand_in = next_vector(s, 1);
+    record_start(&s->records, with);
+}
+
 static void do_message(struct series *s)
 {
     size_t room = next_byte(s);
@@ -75,25 +95,112 @@ static void do_message(struct series *s)
     }
 }
 
-static void do_finished(struct series *s)
+/* The right Finished of a server's connection, bits of it changed as the input says. */
+static struct bytes next_finished(struct series *s, const struct server *model)
 {
     static struct answer value, message;
-    size_t room = next_byte(s), place = next_byte(s) % 12;
-    uint8_t bits = next_byte(s);
-    model_verify_data(&s->pair.model, TN_SIDE_CLIENT, &value);
-    value.bytes[place] ^= bits;
+    size_t place = next_byte(s) % 12;
+    model_verify_data(model, TN_SIDE_CLIENT, &value);
+    value.bytes[place] ^= next_byte(s);
     compose_message(20, (struct bytes){value.bytes, 12}, &message);
-    pair_message(&s->pair, s->table, (struct bytes){message.bytes, (size_t)message.said}, room);
+    return (struct bytes){message.bytes, (size_t)message.said};
+}
+
+static void do_finished(struct series *s)
+{
+    size_t room = next_byte(s);
+    pair_message(&s->pair, s->table, next_finished(s, &s->pair.model), room);
+}
+
+/* A copy of n bytes, with those of the input at a place. */
+static void next_damage(struct series *s, uint8_t *copy, const uint8_t *bytes, size_t n)
+{
+    size_t place = ((size_t)next_byte(s) << 8 | next_byte(s)) % n;
+    struct bytes over = next_vector(s, 1);
+    memcpy(copy, bytes, n);
+    memcpy(copy + place, over.at, over.n < n - place ? over.n : n - place);
 }
 
 static void do_probe(struct series *s)
 {
     uint8_t connection[TN_CONNECTION_SIZE];
-    size_t place = ((size_t)next_byte(s) << 8 | next_byte(s)) % TN_CONNECTION_SIZE;
-    struct bytes over = next_vector(s, 1);
-    memcpy(connection, s->pair.connection, sizeof connection);
-    memcpy(connection + place, over.at, over.n < sizeof connection - place ? over.n : sizeof connection - place);
+    next_damage(s, connection, s->pair.connection, sizeof connection);
     probe(connection, s->table, s->message, TN_FLIGHT_SIZE);
+}
+
+static void take_record(struct series *s, struct bytes record, size_t memory, size_t room)
+{
+    const struct direction *d = &s->records.model.reading;
+    s->record = record;
+    compare_record(d->key, d->number, record);
+    record_take(&s->records, s->table, record, memory, room);
+}
+
+/* A record that a client would send; it stays for do_record_probe. */
+static void take_content(struct series *s, uint8_t type, struct bytes content, size_t memory, size_t room)
+{
+    static struct answer record;
+    if (content.n > 65535 - 32)
+        return;
+    compose_record(&s->records.model.reading, type, 0x0303, content, &record);
+    take_record(s, (struct bytes){record.bytes, (size_t)record.said}, memory, room);
+}
+
+static void do_record(struct series *s)
+{
+    size_t room = next_byte(s);
+    take_record(s, next_vector(s, 2), TN_RECORD_MEMORY, room);
+}
+
+static void do_content(struct series *s)
+{
+    size_t room = next_byte(s), memory = s->records.model.held_n + 64u * next_byte(s);
+    uint8_t type = next_byte(s);
+    take_content(s, type, next_vector(s, 2), memory, room);
+}
+
+static void do_record_finished(struct series *s)
+{
+    size_t room = next_byte(s);
+    struct bytes message = next_finished(s, &s->records.model.server);
+    size_t cut = next_byte(s) % message.n;
+    if (cut > 0)
+        take_content(s, HANDSHAKE, (struct bytes){message.at, cut}, TN_RECORD_MEMORY, room);
+    take_content(s, HANDSHAKE, (struct bytes){message.at + cut, message.n - cut}, TN_RECORD_MEMORY, room);
+}
+
+static void do_record_probe(struct series *s)
+{
+    static uint8_t memory[1000];
+    uint8_t connection[TN_RECORD_CONNECTION_SIZE];
+    const struct record_model *m = &s->records.model;
+    struct bytes held = {memory, sizeof memory};
+    next_damage(s, connection, s->records.connection, sizeof connection);
+    memcpy(memory, m->held, m->held_n < sizeof memory ? m->held_n : sizeof memory);
+    record_probe(connection, s->table, s->record, held, TN_RECORD_ANSWER);
+    record_probe_unwritten(connection, s->table, s->record, held, TN_RECORD_ANSWER);
+}
+
+static void do_record_call(struct series *s, uint8_t which)
+{
+    size_t room = which == 13 || which == 14 ? next_byte(s) : 0;
+    switch (which) {
+    case 9: do_record_start(s); break;
+    case 10: do_record(s); break;
+    case 11: do_content(s); break;
+    case 12: do_record_finished(s); break;
+    case 13: {
+        struct bytes content = next_vector(s, 2);
+        record_send(&s->records, content, content.n + room);
+        break;
+    }
+    case 14: record_close(&s->records, room); break;
+    case 15: do_record_probe(s); break;
+    default: {
+        bool sending = next_byte(s) % 2;
+        record_renumber(&s->records, sending, LAST_NUMBER - next_byte(s));
+    }
+    }
 }
 
 static void do_edit(struct series *s)
@@ -110,7 +217,8 @@ static void do_edit(struct series *s)
 
 static void do_call(struct series *s)
 {
-    switch (next_byte(s) % 9) {
+    uint8_t which = next_byte(s) % 17;
+    switch (which) {
     case 0: s->table = next_vector(s, 2); compare_table(s->table, s->message); break;
     case 1: do_start(s); break;
     case 2: do_message(s); break;
@@ -123,7 +231,8 @@ static void do_call(struct series *s)
     case 5: do_finished(s); break;
     case 6: do_probe(s); break;
     case 7: compare_extensions(next_vector(s, 2)); break;
-    default: do_edit(s);
+    case 8: do_edit(s); break;
+    default: do_record_call(s, which);
     }
 }
 
@@ -139,7 +248,7 @@ int LLVMFuzzerTestOneInput(const uint8_t *data, size_t size)
     run_seed = seed;
     draw_from(seed); /* where lent memory lies, and what it holds */
     memset(&s, 0, sizeof s);
-    s.table = s.message = (struct bytes){&nothing, 0};
+    s.table = s.message = s.record = (struct bytes){&nothing, 0};
     s.rest = size > 0 ? (struct bytes){data, size} : s.table;
     while (s.rest.n > 0)
         do_call(&s);
