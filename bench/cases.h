@@ -9,6 +9,7 @@ void bench_hellos(void);
 void bench_logins(void);
 void bench_edits(void);
 void bench_records(void);
+void bench_sessions(void);
 void bench_stack(void);
 
 /* What a worker (worker.h) of a case does: a time of our hash, or of OpenSSL's, for each question; the bytes of stack of every call. */

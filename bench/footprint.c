@@ -1,16 +1,20 @@
 /*
- * A program that does nothing but hold the library's calls, to see their size in a linked program: none of them, those that a gateway needs (-DCALLS=1), or
- * all (-DCALLS=2).
+ * A program that does nothing but hold the library's calls, to see their size in a linked program: none of them, those that a server over messages needs
+ * (-DCALLS=1), those of a server over records (-DCALLS=2), or all (-DCALLS=3).
  */
 #include "turretnail.h"
 
 #define CALL(f) ((void (*)(void))(f))
 
 void (*const volatile footprint[])(void) = {
-#if CALLS >= 1
+#if CALLS & 1
     CALL(tn_start), CALL(tn_message), CALL(tn_change_of_cipher), CALL(tn_alert), CALL(tn_phase), CALL(tn_suite), CALL(tn_key_block), CALL(tn_table_test),
 #endif
-#if CALLS >= 2
+#if CALLS & 2
+    CALL(tn_record_start), CALL(tn_take_record), CALL(tn_send_data), CALL(tn_send_close), CALL(tn_closing_alert), CALL(tn_record_phase), CALL(tn_table_test),
+#endif
+#if CALLS == 3
+    CALL(tn_read_record), CALL(tn_write_record), CALL(tn_seal_record), CALL(tn_open_record), CALL(tn_message_end),
     CALL(tn_sha256), CALL(tn_hmac), CALL(tn_prf), CALL(tn_premaster), CALL(tn_master), CALL(tn_key_block_length), CALL(tn_finished),
     CALL(tn_write_client_hello), CALL(tn_write_server_hello), CALL(tn_write_server_key_exchange), CALL(tn_write_client_key_exchange),
     CALL(tn_write_server_hello_done), CALL(tn_write_finished), CALL(tn_write_new_session_ticket), CALL(tn_write_extension), CALL(tn_write_ticket_extension),

@@ -53,7 +53,7 @@ static void compare(const char *title, double (*sample)(void *))
 void bench_hellos(void)
 {
     for (size_t i = 0; i < SIZES; i++)
-        login_plain_hello(&logins[i], (sizes[i] - FRONT) / 4 * 4, i == SPREAD ? 16 : 1);
+        login_plain_hello(&logins[i], TN_SUITE_PSK_AES_128_CBC_SHA256, (sizes[i] - FRONT) / 4 * 4, i == SPREAD ? 16 : 1);
     compare("Reading a ClientHello of four-byte extensions, microseconds", sample_reading);
     compare("The server's start and its call for such a ClientHello, microseconds", sample_call);
 }

@@ -10,10 +10,11 @@ enum { FIRST_TYPE = 100, MESSAGES = 4, CLIENT = 3 /* messages before the client'
 
 static const uint8_t stand_in[TN_STAND_IN_SIZE] = {1};
 
-void login_plain_hello(struct login *l, size_t block_len, size_t step)
+void login_plain_hello(struct login *l, uint16_t suite, size_t block_len, size_t step)
 {
     static uint8_t block[TN_MESSAGE_LIMIT];
-    static const uint8_t random[TN_RANDOM_SIZE] = {2}, suites[] = {0x00, 0xAE}, methods[] = {0};
+    static const uint8_t random[TN_RANDOM_SIZE] = {2}, methods[] = {0};
+    const uint8_t suites[] = {(uint8_t)(suite >> 8), (uint8_t)suite};
     for (size_t i = 0; i < block_len / 4; i++) {
         block[4 * i] = (uint8_t)((FIRST_TYPE + i * step) >> 8);
         block[4 * i + 1] = (uint8_t)(FIRST_TYPE + i * step);
@@ -22,6 +23,7 @@ void login_plain_hello(struct login *l, size_t block_len, size_t step)
                                       l->hello, sizeof l->hello);
     must(n > 0, "the hello can't be written");
     l->hello_len = (size_t)n;
+    l->suite = suite;
 }
 
 void login_name(struct login *l, const char *identity)
@@ -44,9 +46,7 @@ int login_close(struct login *l, const char *table, size_t table_len)
 {
     const uint8_t *lines = (const uint8_t *)table, *client_random = l->hello + TN_HELLO_RANDOM_AT;
     return tn_message(l->connection, lines, table_len, l->key_exchange, l->key_exchange_len, l->answer, sizeof l->answer, l->master) == 0
-           && tn_key_block(l->master, sizeof l->master, l->random, sizeof l->random, client_random, TN_RANDOM_SIZE, TN_SUITE_PSK_AES_128_CBC_SHA256, l->keys,
-                           sizeof l->keys)
-                  == TN_KEY_BLOCK_LIMIT
+           && tn_key_block(l->master, sizeof l->master, l->random, sizeof l->random, client_random, TN_RANDOM_SIZE, l->suite, l->keys, sizeof l->keys) > 0
            && tn_change_of_cipher(l->connection) == 0
            && tn_message(l->connection, lines, table_len, l->finished, sizeof l->finished, l->answer, sizeof l->answer, l->master) == TN_FINISHED_SIZE;
 }
@@ -69,7 +69,7 @@ static void finished_of(const struct login *l, uint8_t side, size_t messages, co
          "no Finished");
 }
 
-static void master_of(const struct login *l, const uint8_t *key, size_t key_len, uint8_t master[TN_MASTER_SIZE])
+void login_master(const struct login *l, const uint8_t *key, size_t key_len, uint8_t master[TN_MASTER_SIZE])
 {
     uint8_t premaster[TN_PREMASTER_LIMIT];
     int32_t n = tn_premaster(key, key_len, premaster, sizeof premaster);
@@ -82,14 +82,37 @@ static void master_of(const struct login *l, const uint8_t *key, size_t key_len,
 void login_finish(struct login *l, const uint8_t *key, size_t key_len)
 {
     uint8_t master[TN_MASTER_SIZE];
-    master_of(l, key, key_len, master);
+    login_master(l, key, key_len, master);
     finished_of(l, TN_SIDE_CLIENT, CLIENT, master, l->finished);
 }
 
 int login_agrees(const struct login *l, const uint8_t *key, size_t key_len)
 {
     uint8_t master[TN_MASTER_SIZE], answer[TN_FINISHED_SIZE];
-    master_of(l, key, key_len, master);
+    login_master(l, key, key_len, master);
     finished_of(l, TN_SIDE_SERVER, MESSAGES, master, answer);
     return memcmp(master, l->master, sizeof master) == 0 && memcmp(answer, l->answer, sizeof answer) == 0;
+}
+
+/* Another random for each connection. */
+static void count_up(uint8_t random[TN_RANDOM_SIZE])
+{
+    size_t i = 0;
+    while (i < TN_RANDOM_SIZE && ++random[i] == 0)
+        i++;
+}
+
+double login_sample(struct login *l, const struct serving *s)
+{
+    count_up(l->random);
+    double from = now();
+    int opened = s->open(l);
+    double taken = now() - from;
+    must(opened, "our server refuses the hello");
+    s->finish(l);
+    from = now();
+    int closed = s->close(l);
+    taken += now() - from;
+    must(closed && s->agrees(l), "our handshake fails");
+    return taken;
 }

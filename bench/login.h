@@ -10,6 +10,7 @@
 enum { KEY_EXCHANGE_LIMIT = 6 + TN_IDENTITY_LIMIT };
 
 struct login {
+    uint16_t suite;                         /* that the server chooses */
     uint8_t connection[TN_CONNECTION_SIZE]; /* the server's */
     uint8_t random[TN_RANDOM_SIZE];         /* the server's */
     uint8_t master[TN_MASTER_SIZE];         /* the server's */
@@ -24,8 +25,8 @@ struct login {
     uint8_t answer[TN_FLIGHT_SIZE]; /* to the Finished */
 };
 
-/* Sets a hello with our first suite and an extension block of so many bytes, none for 0, of four-byte extensions whose types are `step` apart. */
-void login_plain_hello(struct login *l, size_t block_len, size_t step);
+/* Sets a hello with this suite and an extension block of so many bytes, none for 0, of four-byte extensions whose types are `step` apart. */
+void login_plain_hello(struct login *l, uint16_t suite, size_t block_len, size_t step);
 
 /* Sets the ClientKeyExchange of an identity. */
 void login_name(struct login *l, const char *identity);
@@ -34,8 +35,22 @@ void login_name(struct login *l, const char *identity);
 int login_open(struct login *l, uint8_t rule);
 int login_close(struct login *l, const char *table, size_t table_len);
 
+/* The client's master secret, under the key. */
+void login_master(const struct login *l, const uint8_t *key, size_t key_len, uint8_t master[TN_MASTER_SIZE]);
+
 /* The client's Finished, under the key; and whether the server's secrets and its answer are those of the client. */
 void login_finish(struct login *l, const uint8_t *key, size_t key_len);
 int login_agrees(const struct login *l, const uint8_t *key, size_t key_len);
+
+/* How one login is served: the server's calls up to its flight, what the client does then, the server's other calls, and whether both sides agree. */
+struct serving {
+    int (*open)(struct login *l);
+    void (*finish)(struct login *l);
+    int (*close)(struct login *l);
+    int (*agrees)(struct login *l);
+};
+
+/* One login with another random: the nanoseconds of the server's calls. */
+double login_sample(struct login *l, const struct serving *s);
 
 #endif

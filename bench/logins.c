@@ -72,7 +72,7 @@ static void prepare(struct attempt *a, const struct table *t, const char *place,
     char identity[LONG_IDENTITY + 1];
     int listed = line < t->lines;
     identity_of(t, line, identity);
-    login_plain_hello(&a->login, 0, 0);
+    login_plain_hello(&a->login, TN_SUITE_PSK_AES_128_CBC_SHA256, 0, 0);
     login_name(&a->login, identity);
     must(login_open(&a->login, rule), "the server refuses the hello");
     a->table = t;

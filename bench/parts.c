@@ -54,19 +54,19 @@ static int32_t call_finished(void)
     return hand_over(login.finished, sizeof login.finished);
 }
 
-struct part parts[PARTS] = {
-    {"start", call_start, TN_PHASE_CLOSED},
-    {"ClientHello", call_hello, TN_PHASE_CLIENT_HELLO},
-    {"ClientKeyExchange", call_key_exchange, TN_PHASE_CLIENT_KEY_EXCHANGE},
-    {"change of cipher", call_change, TN_PHASE_CHANGE_OF_CIPHER},
-    {"Finished", call_finished, TN_PHASE_FINISHED},
-    {"key block", call_key_block, TN_PHASE_COMPLETE},
-};
-
-void part_ready(const struct part *p)
+static void ready(int phase)
 {
-    memcpy(scratch, awaiting[p->phase], sizeof scratch);
+    memcpy(scratch, awaiting[phase], sizeof scratch);
 }
+
+struct part parts[PARTS] = {
+    {"start", call_start, TN_PHASE_CLOSED, ready},
+    {"ClientHello", call_hello, TN_PHASE_CLIENT_HELLO, ready},
+    {"ClientKeyExchange", call_key_exchange, TN_PHASE_CLIENT_KEY_EXCHANGE, ready},
+    {"change of cipher", call_change, TN_PHASE_CHANGE_OF_CIPHER, ready},
+    {"Finished", call_finished, TN_PHASE_FINISHED, ready},
+    {"key block", call_key_block, TN_PHASE_COMPLETE, ready},
+};
 
 void parts_prepare(void)
 {
@@ -81,14 +81,14 @@ void parts_prepare(void)
     }
 }
 
-static double sample_part(void *state)
+double sample_part(void *state)
 {
     const struct part *p = state;
-    part_ready(p);
+    p->ready(p->phase);
     double from = now();
     int32_t result = p->call();
     double taken = now() - from;
-    must(result >= 0, "a call of our handshake is refused");
+    must(result >= 0, "a call is refused");
     return taken;
 }
 

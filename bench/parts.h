@@ -1,4 +1,4 @@
-/* The calls of our own handshake one by one, each on a connection that awaits it. */
+/* Calls of the library one by one, each on a connection that awaits it: those of our own handshake here, those on records in session.h. */
 #ifndef BENCH_PARTS_H
 #define BENCH_PARTS_H
 
@@ -7,7 +7,8 @@
 struct part {
     const char *name;
     int32_t (*call)(void);
-    int phase; /* of the connection that the call is made on */
+    int phase;                /* of the connection that the call is made on */
+    void (*ready)(int phase); /* sets that connection */
 };
 
 enum { PARTS = 6 };
@@ -16,7 +17,7 @@ extern struct part parts[PARTS];
 /* Makes a connection in every phase, with the hello of OpenSSL's client. */
 void parts_prepare(void);
 
-/* Sets the connection on which the part's call works. */
-void part_ready(const struct part *p);
+/* The time of a part's call, which is the state. */
+double sample_part(void *state);
 
 #endif

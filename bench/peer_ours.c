@@ -1,8 +1,5 @@
 /* The library alone: start, three messages, a change of cipher and the key block. */
-#include <string.h>
-
 #include "login.h"
-#include "measure.h"
 #include "peers.h"
 
 static struct login with_extensions, bare;
@@ -11,43 +8,43 @@ void start_ours(void)
 {
     start_openssl();
     with_extensions.hello_len = openssl_hello(with_extensions.hello);
-    login_plain_hello(&bare, 0, 0);
+    with_extensions.suite = TN_SUITE_PSK_AES_128_CBC_SHA256;
+    login_plain_hello(&bare, TN_SUITE_PSK_AES_128_CBC_SHA256, 0, 0);
     login_name(&with_extensions, PEER_IDENTITY);
     login_name(&bare, PEER_IDENTITY);
 }
 
-/* Another random for each connection. */
-static void count_up(uint8_t random[TN_RANDOM_SIZE])
+int ours_open(struct login *l)
 {
-    size_t i = 0;
-    while (i < TN_RANDOM_SIZE && ++random[i] == 0)
-        i++;
+    return login_open(l, TN_RULE_TELL);
 }
 
-static double sample(struct login *l)
+static void finish(struct login *l)
+{
+    login_finish(l, peer_key, sizeof peer_key);
+}
+
+int ours_close(struct login *l)
 {
     static const char table[] = PEER_TABLE;
-    count_up(l->random);
-    double from = now();
-    int opened = login_open(l, TN_RULE_TELL);
-    double taken = now() - from;
-    must(opened, "our server refuses the hello");
-    login_finish(l, peer_key, sizeof peer_key);
-    from = now();
-    int closed = login_close(l, table, sizeof table - 1);
-    taken += now() - from;
-    must(closed && login_agrees(l, peer_key, sizeof peer_key), "our handshake fails");
-    return taken;
+    return login_close(l, table, sizeof table - 1);
 }
+
+int ours_agrees(struct login *l)
+{
+    return login_agrees(l, peer_key, sizeof peer_key);
+}
+
+static const struct serving serving = {ours_open, finish, ours_close, ours_agrees};
 
 double sample_ours(void *state)
 {
     (void)state;
-    return sample(&with_extensions);
+    return login_sample(&with_extensions, &serving);
 }
 
 double sample_ours_bare(void *state)
 {
     (void)state;
-    return sample(&bare);
+    return login_sample(&bare, &serving);
 }

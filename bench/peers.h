@@ -20,6 +20,12 @@ void start_ours(void);
 double sample_ours(void *state);
 double sample_ours_bare(void *state);
 
+/* The steps of such a login (login.h), for another that is made of them. */
+struct login;
+int ours_open(struct login *l);
+int ours_close(struct login *l);
+int ours_agrees(struct login *l);
+
 /* The library in the gateway of gateway/: records by libcrypto, randomness from the system. */
 void start_gateway(void);
 double sample_gateway(void *state);

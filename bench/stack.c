@@ -12,11 +12,13 @@
 #include "login.h"
 #include "measure.h"
 #include "parts.h"
+#include "records.h"
+#include "session.h"
 #include "worker.h"
 
 enum { STACK = 1 << 20, PAINT = 0xA5, OWN = 256 /* bytes below the painter's frame that it needs itself */ };
-enum { AIM = 1024 /* bytes of an edit beyond those of the table's test */ };
-enum { LARGE = PARTS, TEST, EDIT, NOTHING = EDIT + EDITS, MEASURED }; /* the calls behind the parts; edits from EDIT on */
+enum { AIM = 1024 /* bytes of an edit beyond those of the table's test */, RECORD_AIM = 26624 /* of any call on records */ };
+enum { LARGE = PARTS, TEST, EDIT, SESSION = EDIT + EDITS, NOTHING = SESSION + SESSION_PARTS, MEASURED }; /* the calls behind the parts */
 
 static uint8_t *stack;
 static struct login large;
@@ -43,13 +45,19 @@ __attribute__((noinline)) static size_t touched(int32_t (*call)(void))
     return (size_t)(top - p);
 }
 
+static void touched_by(const struct part *calls, size_t n, size_t *sizes)
+{
+    for (size_t i = 0; i < n; i++) {
+        calls[i].ready(calls[i].phase);
+        sizes[i] = touched(calls[i].call);
+    }
+}
+
 static void *run_calls(void *state)
 {
     size_t *sizes = state;
-    for (size_t i = 0; i < PARTS; i++) {
-        part_ready(&parts[i]);
-        sizes[i] = touched(parts[i].call);
-    }
+    touched_by(parts, PARTS, sizes);
+    touched_by(session_parts, SESSION_PARTS, sizes + SESSION);
     sizes[LARGE] = touched(call_large_hello);
     edit_ready(&edits[0]);
     sizes[TEST] = touched(edit_test);
@@ -61,13 +69,37 @@ static void *run_calls(void *state)
     return NULL;
 }
 
+static int is_edit(size_t i)
+{
+    return i >= EDIT && i < SESSION;
+}
+
+static int is_session(size_t i)
+{
+    return i >= SESSION && i < NOTHING;
+}
+
 static const char *name_of(size_t i)
 {
     if (i < PARTS)
         return parts[i].name;
-    if (i >= EDIT && i < NOTHING)
+    if (is_edit(i))
         return edits[i - EDIT].name;
+    if (is_session(i))
+        return session_parts[i - SESSION].name;
     return i == LARGE ? "start and a ClientHello of 16 KiB" : i == TEST ? "the table's test" : "no call";
+}
+
+static int takes_record(size_t i)
+{
+    return i >= SESSION + SESSION_HELLO && i <= SESSION + SESSION_TAKE_REST;
+}
+
+static void print_record_aim(size_t size)
+{
+    printf("   aim %d: %s", RECORD_AIM, size <= RECORD_AIM ? "met" : "missed");
+    if (size > RECORD_AIM)
+        printf(" by %zu", size - RECORD_AIM);
 }
 
 /* `before` is NULL where there is no earlier library. */
@@ -75,12 +107,14 @@ static void print_sizes(const size_t sizes[MEASURED], const size_t before[MEASUR
 {
     printf("\nStack, bytes below the calling frame\n");
     for (size_t i = 0; i < MEASURED; i++) {
-        must(sizes[i] <= TN_STACK_LIMIT, "a call reaches below TN_STACK_LIMIT");
+        must(sizes[i] <= (takes_record(i) ? TN_RECORD_STACK_LIMIT : TN_STACK_LIMIT), "a call reaches below its limit in turretnail.h");
         printf("  %-52s %9zu", name_of(i), sizes[i]);
         if (before != NULL)
             printf("   before %zu   difference %+ld", before[i], (long)sizes[i] - (long)before[i]);
-        if (i >= EDIT && i < NOTHING)
+        if (is_edit(i))
             printf("   beyond the test %ld   aim %d: %s", (long)sizes[i] - (long)sizes[TEST], AIM, sizes[i] < sizes[TEST] + AIM ? "met" : "missed");
+        if (is_session(i))
+            print_record_aim(sizes[i]);
         printf("\n");
     }
 }
@@ -91,7 +125,9 @@ static void measure_calls(size_t sizes[MEASURED])
     pthread_t thread;
     parts_prepare();
     edits_prepare();
-    login_plain_hello(&large, TN_MESSAGE_LIMIT - 48, 1);
+    (void)session_prepare();
+    records_stop();
+    login_plain_hello(&large, TN_SUITE_PSK_AES_128_CBC_SHA256, TN_MESSAGE_LIMIT - 48, 1);
     stack = mmap(NULL, STACK, PROT_READ | PROT_WRITE, MAP_PRIVATE | MAP_ANONYMOUS, -1, 0);
     must(stack != MAP_FAILED && pthread_attr_init(&attributes) == 0 && pthread_attr_setstack(&attributes, stack, STACK) == 0
              && pthread_create(&thread, &attributes, run_calls, sizes) == 0 && pthread_join(thread, NULL) == 0,
