@@ -4,7 +4,7 @@ use mathlib.Core.Path.{_≡_, refl, sym, ap, subst, _∙_}
 use mathlib.Core.Logic.{inl}
 use Prim.Native.Nat.{ℕ, zero, suc, _+_, _≤_, _<_}
 use native.Mathlib.Omega.{arith}
-use mathlib.Core.Bool.{Bool, true, false, cond, not, _&&_, and-false, false≢true}
+use mathlib.Core.Bool.{Bool, true, false, cond, not, _&&_, false≢true}
 use mathlib.Core.List.{List, [], _∷_, _++_, append-nil, append-assoc}
 use mathlib.Core.Option.{Option, none, some, Option·none-ne-some}
 use lib.ListN.{length, take, drop, length-append, length-drop, take-append-drop, List·getD-append}
@@ -27,6 +27,7 @@ use Rattle.records.specs.Joining.{messageEnd, unfinished}
 use Rattle.record_server.specs.Connection.{isComplete}
 use Rattle.record_server.specs.Joining.{Progress, Judged, refuse, goesOn, isEmpty, joinedFlight, later, afterStep, whereWhole, afterEarly, judgeFirst}
 use Rattle.record_server.specs.Joining.{judgeBytes}
+use Rattle.record_server.proofs.Judging.{judge-left}
 use Rattle.record_theorems.specs.Cutting.{withMore, judgeAll, fedThen, fed, CutFree}
 use Rattle.record_theorems.proofs.Headers.{HeaderPassed}
 use Rattle.record_theorems.proofs.Refusing.{Told, message-told, early-told}
@@ -171,7 +172,7 @@ onto-taken before master p rest flight next =
       later-later master (p .master) (handedOver (p .connection .phase) (Server.accept flight next)),
     )
 
--- ---- as many turns as there are bytes are enough
+-- ---- the first message of the bytes
 
 no-more : (p : Progress) → withMore p [] ≡ p
 no-more p = rw (append-nil (p .left))
@@ -180,40 +181,9 @@ module _ (v : View) where
   at-once : (on : Progress → Judged) (p : Progress) {j : Judged} → judgeFirst v on (withMore p []) ≡ j → judgeFirst v on p ≡ j
   at-once on p {j} e = subst (λ (q : Progress). judgeFirst v on q ≡ j) (no-more p) e
 
-  nothing-left : (on : Progress → Judged) (p : Progress) → length (p .left) ≤ 0 → judgeFirst v on p ≡ goesOn p
-  nothing-left on p few = go (p .left) few refl
-    where
-      go : (left : List ℕ) → length left ≤ 0 → p .left ≡ left → judgeFirst v on p ≡ goesOn p
-      go [] h e = rw (e, and-false (isComplete (p .connection .phase)))
-      go (b ∷ bs) h e = absurd (omega arith)
-
-  -- what is judged of fewer bytes is all that a turn asks of what comes behind it
-  first-alike : (on on' : Progress → Judged) (p : Progress) → ((q : Progress) → length (q .left) < length (p .left) → on q ≡ on' q)
-      → judgeFirst v on p ≡ judgeFirst v on' p
-  first-alike on on' p alike = go (turn v p)
-    where
-      go : Turn v p → judgeFirst v on p ≡ judgeFirst v on' p
-      go (refused r told e) = at-once on p (e on []) ∙ sym (at-once on' p (e on' []))
-      go (waiting short e) = e on ∙ sym (e on')
-      go (taking m rest flight next is shorter step e) =
-          let q = taken p rest flight next in
-          at-once on p (e on [] ∙ ap on (no-more q)) ∙ alike q shorter ∙ sym (at-once on' p (e on' [] ∙ ap on' (no-more q)))
-
-  turns-enough : (m n : ℕ) (p : Progress) → length (p .left) ≤ m → length (p .left) ≤ n → judgeBytes m v p ≡ judgeBytes n v p
-  unfolding judgeBytes
-  turns-enough zero zero p h k = refl
-  turns-enough zero (suc n) p h k = sym (nothing-left (judgeBytes n v) p h)
-  turns-enough (suc m) zero p h k = nothing-left (judgeBytes m v) p k
-  turns-enough (suc m) (suc n) p h k =
-      first-alike (judgeBytes m v) (judgeBytes n v) p (λ q less. turns-enough m n q (omega arith) (omega arith))
-
   -- bytes are judged by a turn, and then what it left
   pub all-first : (p : Progress) → judgeAll v p ≡ judgeFirst v (judgeAll v) p
-  unfolding judgeBytes
-  all-first p =
-      turns-enough (length (p .left)) (suc (length (p .left))) p (omega arith) (omega arith)
-      ∙ first-alike (judgeBytes (length (p .left)) v) (judgeAll v) p
-      (λ q less. turns-enough (length (p .left)) (length (q .left)) q (omega arith) (omega arith))
+  all-first p = judge-left v p
 
   -- what becomes of the first message
   pub data First (p : Progress) : Type 0 where
