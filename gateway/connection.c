@@ -50,11 +50,21 @@ static void conclude(struct connection *c, enum outcome how, uint8_t alert)
     c->ended = true;
 }
 
+/* So many bytes were written behind what is to be sent; false where there are none. */
+static bool queued(struct connection *c, int32_t size)
+{
+    c->out_end += size > 0 ? (size_t)size : 0;
+    return size > 0;
+}
+
+/* Where the library writes the records, of the host's own there are application data and close_notify alone, and that stands for every alert. */
 static bool queue(struct connection *c, enum record_type type, const uint8_t *content, size_t n)
 {
-    size_t size = record_seal(&c->writing, type, content, n, c->out + c->out_end, sizeof c->out - c->out_end);
-    c->out_end += size;
-    return size > 0;
+    uint8_t *out = c->out + c->out_end;
+    size_t room = sizeof c->out - c->out_end;
+    if (!c->proved)
+        return queued(c, (int32_t)record_seal(&c->writing, type, content, n, out, room));
+    return queued(c, type == RECORD_APPLICATION_DATA ? tn_send_data(c->login, content, n, out, room) : tn_send_close(c->login, out, room));
 }
 
 /* Ends the connection with a fatal alert. */
@@ -62,7 +72,7 @@ static void refuse(struct connection *c, uint8_t alert)
 {
     const uint8_t content[2] = {LEVEL_FATAL, alert};
     (void)queue(c, RECORD_ALERT, content, sizeof content);
-    conclude(c, OUTCOME_ALERT_SENT, alert);
+    conclude(c, c->proved ? OUTCOME_CLOSED_FOR : OUTCOME_ALERT_SENT, alert);
 }
 
 /* What the library refused: an alert is the client's; an R number is our own fault, since the settings were tested. */
@@ -112,7 +122,7 @@ void connection_lost(struct connection *c)
 
 void connection_clear(struct connection *c)
 {
-    OPENSSL_cleanse(c, sizeof *c);
+    OPENSSL_cleanse(c, offsetof(struct connection, memory));
     records_forget();
     wipe_stack();
 }
@@ -122,8 +132,9 @@ bool connection_start(struct connection *c, const struct settings *settings)
     connection_clear(c);
     if (!entropy_fill(c->server_random, sizeof c->server_random))
         return false;
-    int32_t result = tn_start(c->login, c->server_random, sizeof c->server_random, (const uint8_t *)settings->hint, strlen(settings->hint),
-                              settings->stand_in, sizeof settings->stand_in, settings->rule);
+    c->proved = settings->proved;
+    int32_t result = (c->proved ? tn_record_start : tn_start)(c->login, c->server_random, sizeof c->server_random, (const uint8_t *)settings->hint,
+                                                              strlen(settings->hint), settings->stand_in, sizeof settings->stand_in, settings->rule);
     leave(c);
     return result == 0;
 }
@@ -178,11 +189,11 @@ static bool accepted(struct connection *c, const uint8_t *answer, size_t n, cons
     }
 }
 
-/* Keeps the identity for the gateway's line, also where it is refused. */
+/* Keeps the identity for the gateway's line, also where it is refused. Only the second message may be a ClientKeyExchange. */
 static void note_identity(struct connection *c)
 {
     uint32_t fields[2];
-    if (tn_phase(c->login) != TN_PHASE_CLIENT_KEY_EXCHANGE)
+    if (++c->messages != 2)
         return;
     c->judged = true;
     if (tn_read_client_key_exchange(c->message, c->message_len, fields) != 0)
@@ -196,14 +207,12 @@ static void note_identity(struct connection *c)
 static void hand_over(struct connection *c, const struct settings *settings)
 {
     uint8_t answer[TN_FLIGHT_SIZE], master[TN_MASTER_SIZE];
-    note_identity(c);
     int32_t result = tn_message(c->login, settings->table, settings->table_len, c->message, c->message_len, answer, sizeof answer, master);
     if (!tn_is_count(result))
         refuse_result(c, result);
     else if (!accepted(c, answer, (size_t)result, master))
         refuse(c, ALERT_INTERNAL_ERROR);
     OPENSSL_cleanse(master, sizeof master);
-    c->message_len = 0;
 }
 
 /* The length of the message that is coming: its header first, then as the header says. More than the library takes counts as the header alone, which is
@@ -212,7 +221,7 @@ static size_t message_size(const struct connection *c)
 {
     if (c->message_len < MESSAGE_HEADER)
         return MESSAGE_HEADER;
-    size_t size = MESSAGE_HEADER + ((size_t)c->message[1] << 16 | (size_t)c->message[2] << 8 | c->message[3]);
+    size_t size = (size_t)tn_message_end(c->message);
     return size > sizeof c->message ? MESSAGE_HEADER : size;
 }
 
@@ -232,8 +241,12 @@ static void handshake_bytes(struct connection *c, const struct settings *setting
         c->message_len += taken;
         bytes += taken;
         n -= taken;
-        if (c->message_len >= MESSAGE_HEADER && c->message_len == message_size(c))
+        if (c->message_len < MESSAGE_HEADER || c->message_len < message_size(c))
+            continue;
+        note_identity(c);
+        if (!c->proved)
             hand_over(c, settings);
+        c->message_len = 0;
     }
 }
 
@@ -385,9 +398,65 @@ static void record_came(struct connection *c, const struct settings *settings)
     }
 }
 
+/* ---- records that the library reads */
+
+/* No call of the library tells who logs in, so the messages that may hold the name are joined here too, and used for nothing else. */
+static void overhear(struct connection *c, const struct settings *settings, size_t n)
+{
+    int32_t phase = tn_record_phase(c->login);
+    bool unprotected = phase == TN_PHASE_CLIENT_HELLO || phase == TN_PHASE_CLIENT_KEY_EXCHANGE;
+    if (unprotected && c->in[0] == RECORD_HANDSHAKE && n > RECORD_HEADER)
+        handshake_bytes(c, settings, c->in + RECORD_HEADER, n - RECORD_HEADER);
+}
+
+/* What an accepted record asks of us beside its answer. Only an alert of the client closes the connection so; its number is the content's second byte. */
+static void proved_record_accepted(struct connection *c, const uint32_t told[4])
+{
+    int32_t phase = tn_record_phase(c->login);
+    uint8_t description = c->in[RECORD_HEADER + 1];
+    if (phase == TN_PHASE_CLOSED && description != ALERT_CLOSE_NOTIFY) {
+        conclude(c, OUTCOME_ALERT_RECEIVED, description);
+    } else if (phase == TN_PHASE_CLOSED) {
+        conclude(c, complete(c) ? OUTCOME_NONE : OUTCOME_CLOSED, 0);
+    } else if (phase > TN_PHASE_CLIENT_HELLO) {
+        c->suite = suite_of(TN_SUITE_PSK_NULL_SHA256);
+        if (phase == TN_PHASE_COMPLETE)
+            c->login_outcome = OUTCOME_COMPLETE;
+        c->lines_at = told[2];
+        c->lines_end = told[2] + told[3];
+        answer_lines(c);
+    }
+}
+
+static void proved_record_came(struct connection *c, const struct settings *settings)
+{
+    uint8_t master[TN_MASTER_SIZE];
+    uint32_t told[4];
+    size_t n = c->in_len;
+    c->in_len = 0;
+    overhear(c, settings, n);
+    int32_t result = tn_take_record(c->login, settings->table, settings->table_len, c->in, n, c->memory, sizeof c->memory, c->out + c->out_end,
+                                    sizeof c->out - c->out_end, master, told);
+    OPENSSL_cleanse(master, sizeof master);
+    if (tn_is_alert(result)) {
+        (void)queued(c, tn_closing_alert(c->login, c->out + c->out_end, sizeof c->out - c->out_end));
+        conclude(c, OUTCOME_ALERT_SENT, tn_alert_number(result));
+    } else if (tn_is_host_refusal(result)) {
+        refuse(c, ALERT_INTERNAL_ERROR);
+    } else {
+        (void)queued(c, result);
+        proved_record_accepted(c, told);
+    }
+}
+
+/* ---- bytes */
+
+/* The length of the record that is coming: its header first, then as the header says. More than the library takes counts as the header alone, which it
+ * refuses. */
 static size_t record_size(const struct connection *c)
 {
-    return RECORD_HEADER + (c->in_len < RECORD_HEADER ? 0 : (size_t)c->in[3] << 8 | c->in[4]);
+    size_t size = RECORD_HEADER + (c->in_len < RECORD_HEADER ? 0 : (size_t)c->in[3] << 8 | c->in[4]);
+    return c->proved && size > TN_RECORD_LIMIT ? RECORD_HEADER : size;
 }
 
 size_t connection_wants(const struct connection *c)
@@ -402,11 +471,11 @@ static __attribute__((noinline)) bool take(struct connection *c, const struct se
     c->in_len += n;
     if (c->in_len < RECORD_HEADER)
         return false;
-    if (header)
+    if (header && !c->proved)
         header_came(c);
     if (c->ended || c->in_len < record_size(c))
         return false;
-    record_came(c, settings);
+    (c->proved ? proved_record_came : record_came)(c, settings);
     return true;
 }
 

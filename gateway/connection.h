@@ -1,7 +1,7 @@
 /*
  * One client of the gateway, apart from its socket: bytes that came go in, bytes to be sent come out. Joins records to handshake messages, hands these to the
- * library, changes ciphers, sends and takes alerts, and serves the enrolment lines: each line X is answered with "enrolled X", an empty one with nothing. A
- * line ends in LF, and a CR before that is no part of it.
+ * library, changes ciphers, sends and takes alerts, or hands the records to the library, which then does all that; and serves the enrolment lines: each line
+ * X is answered with "enrolled X", an empty one with nothing. A line ends in LF, and a CR before that is no part of it.
  */
 #ifndef HOST_CONNECTION_H
 #define HOST_CONNECTION_H
@@ -22,6 +22,7 @@ enum {
 struct settings {
     const char *hint; /* empty: none */
     uint8_t rule; /* one of TN_RULE_.. */
+    bool proved;  /* the library reads and writes the records too, for PSK-NULL-SHA256 alone */
     uint8_t stand_in[TN_STAND_IN_SIZE];
     uint8_t table[TN_TABLE_LIMIT];
     size_t table_len;
@@ -35,6 +36,7 @@ enum outcome {
     OUTCOME_NONE, /* not yet */
     OUTCOME_COMPLETE,
     OUTCOME_ALERT_SENT,
+    OUTCOME_CLOSED_FOR, /* close_notify where this alert is meant: the library sends no alert of the host's */
     OUTCOME_ALERT_RECEIVED,
     OUTCOME_CLOSED,
     OUTCOME_TIME_OUT,
@@ -45,7 +47,8 @@ enum outcome {
 };
 
 struct connection {
-    uint8_t login[TN_CONNECTION_SIZE]; /* the library's part */
+    bool proved;                              /* as in the settings that it was started with */
+    uint8_t login[TN_RECORD_CONNECTION_SIZE]; /* the library's part, of which tn_start's kind has TN_CONNECTION_SIZE bytes */
     uint8_t server_random[TN_RANDOM_SIZE];
     uint8_t client_random[TN_RANDOM_SIZE];
     const struct suite *suite; /* NULL until it is chosen */
@@ -67,11 +70,13 @@ struct connection {
     size_t lines_at, lines_end; /* application data in `in` that is not yet answered */
     uint8_t message[TN_MESSAGE_LIMIT];
     size_t message_len;
+    unsigned long messages; /* that came whole */
     uint8_t line[LINE_LIMIT + 1]; /* room for a CR */
     size_t line_len;
     unsigned long lines; /* that ended, empty ones too */
     uint8_t out[OUT_SIZE];
     size_t out_at, out_end;
+    uint8_t memory[TN_RECORD_MEMORY]; /* the library's, where it reads the records; last, since it is not cleared */
 };
 
 /* Makes a connection that awaits a ClientHello; false where the system has no randomness or the library refuses the settings. */
@@ -92,7 +97,8 @@ void connection_close(struct connection *c, enum outcome why);
 /* The client closed its side, or the transport broke. */
 void connection_lost(struct connection *c);
 
-/* Clears every byte, and with them all secrets. */
+/* Clears every byte, and with them all secrets, but those of `memory`: they are no more than what passed in the clear, and clearing 16 KiB more for each
+ * client that comes keeps the others waiting. */
 void connection_clear(struct connection *c);
 
 #endif

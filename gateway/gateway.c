@@ -277,6 +277,7 @@ static bool ready(void)
 {
     settings.hint = options.hint;
     settings.rule = options.rule;
+    settings.proved = options.proved_records;
     if (!make_places())
         return false;
     if (!records_start() || !entropy_fill(settings.stand_in, sizeof settings.stand_in)) {
@@ -298,12 +299,14 @@ static void announce(int listener)
     static const char *const rules[] = {"hide, since none was named", "tell", "hide"};
     const char *meaning = settings_hide(&settings) ? "unknown gates are not told apart from wrong keys; --rule tell while fitting"
                                                    : "unknown gates are told so, and so is anybody who tries names; --rule hide after fitting";
+    const char *records = settings.proved ? " records: proved, PSK-NULL-SHA256 alone (INTEGRITY WITHOUT SECRECY: everybody on the way can read what passes),"
+                                          : "";
     struct sockaddr_storage at = {0};
     socklen_t size = sizeof at;
     char text[INET6_ADDRSTRLEN + 10];
     getsockname(listener, (struct sockaddr *)&at, &size);
     address_text(&at, text, sizeof text);
-    log_line("listening on %s, rule: %s (%s), places: %zu, gates in %s: %zu", text, rules[options.rule], meaning, places, options.table,
+    log_line("listening on %s,%s rule: %s (%s), places: %zu, gates in %s: %zu", text, records, rules[options.rule], meaning, places, options.table,
              table_gates(&settings));
 }
 

@@ -23,6 +23,10 @@ static const char help[] =
     "                           or told so (alert 115), for use while fitting\n"
     "  --hide-delay MS          under hide a login ends so long after its key exchange came, whatever\n"
     "                           the table and the key (default 5); 0: as soon as it can\n"
+    "  --records libcrypto|proved\n"
+    "                           who makes the records: libcrypto, for all three suites (the default),\n"
+    "                           or the proved library, for PSK-NULL-SHA256 alone: INTEGRITY WITHOUT\n"
+    "                           SECRECY, everybody on the way can read what passes\n"
     "  --handshake-timeout SEC  for a whole handshake (default 10)\n"
     "  --idle-timeout SEC       without a line, after the handshake (default 300)\n"
     "  --clients N              at a time (default 512); when all places are taken the oldest\n"
@@ -37,7 +41,7 @@ static const char help[] =
     "\n"
     "SIGINT or SIGTERM stops it.\n";
 
-enum { ADDRESS = 1000, PORT, TABLE, HINT, RULE, HIDE_DELAY, ONCE, HANDSHAKE, IDLE, CLIENTS, PER_ADDRESS, PER_GATE, FAILED_LINES, VERSION, HELP = 'h' };
+enum { ADDRESS = 1000, PORT, TABLE, HINT, RULE, RECORDS, HIDE_DELAY, ONCE, HANDSHAKE, IDLE, CLIENTS, PER_ADDRESS, PER_GATE, FAILED_LINES, VERSION, HELP = 'h' };
 
 static const struct option names[] = {
     {"address", required_argument, NULL, ADDRESS},
@@ -45,6 +49,7 @@ static const struct option names[] = {
     {"table", required_argument, NULL, TABLE},
     {"hint", required_argument, NULL, HINT},
     {"rule", required_argument, NULL, RULE},
+    {"records", required_argument, NULL, RECORDS},
     {"hide-delay", required_argument, NULL, HIDE_DELAY},
     {"once", required_argument, NULL, ONCE},
     {"handshake-timeout", required_argument, NULL, HANDSHAKE},
@@ -86,6 +91,15 @@ static bool rule(const char *text, uint8_t *value)
     return true;
 }
 
+static bool records(const char *text, bool *proved)
+{
+    *proved = strcmp(text, "proved") == 0;
+    if (*proved || strcmp(text, "libcrypto") == 0)
+        return true;
+    fprintf(stderr, "gateway: --records: '%s' is neither libcrypto nor proved%s\n", text, where);
+    return false;
+}
+
 static bool seconds(const char *name, const char *text, unsigned *value)
 {
     unsigned long n;
@@ -113,6 +127,7 @@ static bool take(struct options *o, int which, const char *text)
     case HINT: o->hint = text; return true;
     case PORT: return port(text, &o->port);
     case RULE: return rule(text, &o->rule);
+    case RECORDS: return records(text, &o->proved_records);
     case ONCE: return number("once", text, 1, 1000000000, &o->once);
     case HANDSHAKE: return seconds("handshake-timeout", text, &o->handshake_seconds);
     case IDLE: return seconds("idle-timeout", text, &o->idle_seconds);

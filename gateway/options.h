@@ -2,6 +2,7 @@
 #ifndef HOST_OPTIONS_H
 #define HOST_OPTIONS_H
 
+#include <stdbool.h>
 #include <stdint.h>
 
 struct options {
@@ -10,6 +11,7 @@ struct options {
     const char *table;
     const char *hint;
     uint8_t rule;               /* one of TN_RULE_.. */
+    bool proved_records;        /* the library's, without secrecy; else libcrypto's */
     unsigned long hide_ms;      /* under hide: the tick at which the end of a login is seen; 0: at once */
     unsigned long once;         /* stop after so many connections; 0: never */
     unsigned handshake_seconds; /* for a whole handshake */

@@ -105,6 +105,7 @@ static void add_outcome(struct line *line, const struct connection *c, enum outc
     switch (outcome) {
     case OUTCOME_COMPLETE: add(line, "complete"); break;
     case OUTCOME_ALERT_SENT: add_alert(line, "alert", c->alert); break;
+    case OUTCOME_CLOSED_FOR: add_alert(line, "close_notify in place of alert", c->alert); break;
     case OUTCOME_ALERT_RECEIVED: add_alert(line, "client sent alert", c->alert); break;
     case OUTCOME_TIME_OUT: add(line, "time-out"); break;
     case OUTCOME_STOPPED: add(line, "stopped"); break;

@@ -1,8 +1,8 @@
 /*
  * What keeps keys from outliving their use.
  *
- * A login reaches 9,560 bytes below the function of connection.c that is called, and 11,496 where it is built with sanitizers; twice the library's limit leaves
- * a margin for both.
+ * A login reaches 10,356 bytes below the caller of connection.c, and 30,852 where the library reads the records; 12,712 and 32,920 where it is built with
+ * sanitizers. The library's limit for tn_take_record, the deepest of its calls, leaves a margin for all of them.
  */
 #include "wipe.h"
 
@@ -13,7 +13,7 @@
 
 void wipe_stack(void)
 {
-    tn_clear_stack(2 * TN_STACK_LIMIT);
+    tn_clear_stack(TN_RECORD_STACK_LIMIT);
 }
 
 bool forbid_dumps(void)

@@ -46,7 +46,7 @@ static int by_size(const void *a, const void *b)
 void work_measure(const struct settings *settings)
 {
     static struct connection trial;
-    static const uint8_t random[TN_RANDOM_SIZE], suites[] = {0x00, 0xAE}, methods[] = {0};
+    static const uint8_t random[TN_RANDOM_SIZE], suites[] = {0x00, 0xAE, 0x00, 0xB0}, methods[] = {0};
     uint8_t hello[64], exchange[6 + TN_IDENTITY_LIMIT], name[TN_IDENTITY_LIMIT];
     int64_t taken[TRIES];
     int32_t hello_len = tn_write_client_hello(0x0303, random, sizeof random, random, 0, suites, sizeof suites, methods, sizeof methods, false, random, 0,

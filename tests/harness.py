@@ -9,6 +9,8 @@ import sys
 import threading
 import time
 
+from plain_client import WAY, Way
+
 GATEWAY = sys.argv[1]  # under sanitizers
 FAST_GATEWAY = sys.argv[3] if len(sys.argv) > 3 else GATEWAY  # as it is installed, where time is measured
 TABLE = pathlib.Path(__file__).resolve().parent.parent / "gateway/gates.psk"
@@ -58,7 +60,7 @@ class Program:
 
 class Gateway(Program):
     def __init__(self, *options, program=GATEWAY, **more):
-        super().__init__([program, "--port", 0, *(options if "--table" in options else ("--table", TABLE, *options))], **more)
+        super().__init__([program, "--port", 0, *WAY.options, *(options if "--table" in options else ("--table", TABLE, *options))], **more)
         until(lambda: re.search(r"listening on .*\n", self.text) or self.over(), "the gateway")
         found = re.search(r"listening on \S+:(\d+),", self.text)
         assert found, self.text
@@ -98,6 +100,16 @@ def gateway(*options, **more):
         raise
     rest = g.stop() if not g.over() else g.stop(None)
     assert rest == "", f"lines that no case asked for: {rest}"
+
+
+@contextlib.contextmanager
+def proved_records():
+    """The gateways and clients that are made in it by this thread are of the way in which the library makes the records."""
+    WAY.options, WAY.answers_close = ("--records", "proved"), False
+    try:
+        yield
+    finally:
+        WAY.options, WAY.answers_close = Way.options, Way.answers_close
 
 
 # the cases, (name, function); those that measure time are run alone, after the others

@@ -16,8 +16,8 @@ import socket
 import tempfile
 import time
 
-from harness import LIMIT, Gateway
-from plain_client import ALERT, CHANGE, HANDSHAKE, Client, message, record
+from harness import LIMIT, Gateway, proved_records
+from plain_client import ALERT, CHANGE, HANDSHAKE, WAY, Client, message, record
 
 PAIRS = 256
 HALF = PAIRS / 2
@@ -26,7 +26,7 @@ GOOD = HALF + 4 * SIGMA  # chance has as many in one round of 30,000
 SUSPECT = 2.6 * SIGMA  # chance is as far from the half in one round of 100, and three times running on one side in one series of five millions
 ROUNDS = 3
 GATES = 256
-FLIGHT = 5 + 46  # bytes of the server's answer to a hello
+FLIGHT = 46  # bytes of the server's answer to a hello, two messages, beside the headers of its records
 KEY = os.urandom(16)  # of the first gate
 
 
@@ -57,8 +57,13 @@ def greeted(g, identity):
     """A client that the server has answered."""
     c = Client(g.port, identity=identity, timeout=LIMIT)
     c.send(HANDSHAKE, c.hello())
-    c.exactly(FLIGHT)
+    answered(c)
     return c
+
+
+def answered(c):
+    """The library puts each message in a record of its own, the gateway both in one."""
+    c.exactly(FLIGHT + (10 if WAY.options else 5))
 
 
 # ---- the populations
@@ -91,11 +96,11 @@ def beside(g, identity):
     begun = time.perf_counter_ns()
     c.socket.sendall(data)
     other.socket.sendall(hello)
-    other.exactly(FLIGHT)
-    answered = time.perf_counter_ns()
+    answered(other)
+    taken = time.perf_counter_ns() - begun
     c.socket.close()
     other.socket.close()
-    return (answered - begun,)
+    return (taken,)
 
 
 WAYS = "alert, end and another's answer"
@@ -190,12 +195,20 @@ def ends():
         assert fastest < 40, f"{fastest:.1f} ms without a delay"
 
 
-def main():
+def both(records):
+    """With the delay and without it, for one of the two ways in which records are made."""
     begun = time.monotonic()
     ends()
     apart, hidden = without_delay()[-1], with_delay()[-1]
     shown = ["%g, %g and %g" % tuple(right) for right in (hidden, apart)]
-    print(f"tests/hide_in_time: right guesses of {PAIRS} by {WAYS}: {shown[0]}; without the delay {shown[1]} ({time.monotonic() - begun:.0f} s)")
+    print(f"tests/hide_in_time: {records} records: right guesses of {PAIRS} by {WAYS}: {shown[0]}; without the delay {shown[1]}"
+          f" ({time.monotonic() - begun:.0f} s)")
+
+
+def main():
+    both("libcrypto's")
+    with proved_records():
+        both("proved")
 
 
 main()

@@ -21,7 +21,7 @@ import sys
 import tempfile
 import time
 
-from harness import GATEWAY, LIMIT, Gateway, until
+from harness import GATEWAY, LIMIT, Gateway, proved_records, until
 from plain_client import HANDSHAKE, Client, prf
 
 CARELESS = sys.argv[2]
@@ -187,7 +187,10 @@ def retire(g, table, names):
     until(lambda: f"read again, gates: {len(names)}\n" in g.text, "the new table")
 
 
-def careful(*rule):
+CBC = ("PSK-AES128-CBC-SHA256", "PSK-AES128-CBC-SHA")
+
+
+def careful(*rule, suites=CBC):
     """Amid a login the master secret is kept, in a session the keys of its records, and after it nothing."""
     with tempfile.TemporaryDirectory() as folder:
         table = Table(folder)
@@ -197,7 +200,7 @@ def careful(*rule):
                 assert found_then == (KEYS_IN_USE | {"master secret"}, KEYS_IN_USE, set()), f"amid, in and after a session of {name}: {found_then}"
                 for how in ("wrong MAC", "wrong Finished", "gone"):
                     assert not (names := failed_login(g, name, key, how)), f"after a failed login of {name}, {how}: {names}"
-            for suite in ("PSK-AES128-CBC-SHA256", "PSK-AES128-CBC-SHA"):
+            for suite in suites:
                 assert not (names := left(g, cbc_session(g, suite, "gate128", table.keys["gate128"]))), f"after a session with {suite}: {names}"
             text = {f"{name}'s line": key.hex().encode() for name, key in table.keys.items()}
             raw = {f"{name}'s raw key": key for name, key in table.keys.items()}
@@ -242,6 +245,9 @@ def main():
     careful()
     careful("--rule", "tell")
     seen = careless()
+    with proved_records():
+        careful(suites=())
+        seen |= careless()
     assert closed_to_others(GATEWAY) == (True, True), "its memory can be dumped"
     assert closed_to_others(CARELESS)[0] is False, "a gateway that forbids nothing is closed to others too"
     print(f"tests/keys_in_memory: no key outlives its use; without the clearing there are {', '.join(sorted(seen))} ({time.monotonic() - begun:.0f} s)")

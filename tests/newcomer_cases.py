@@ -27,7 +27,7 @@ def command_line():
                         (["--version"], f"gateway of turretnail {VERSION}\n")]:
         asked = Program([GATEWAY, *words])
         assert asked.end() == 0 and asked.text.startswith(said), asked.text
-    for words, named in [(["--nonsense"], "--nonsense"), (["-x"], "-x"), (["-xh"], "-x"), (["--per", "1"], "--per"), (["--port"], "--port"), (["--port", "x"], "--port"), (["--rule", "loud"], "loud"),
+    for words, named in [(["--nonsense"], "--nonsense"), (["-x"], "-x"), (["-xh"], "-x"), (["--per", "1"], "--per"), (["--port"], "--port"), (["--port", "x"], "--port"), (["--rule", "loud"], "loud"), (["--records", "own"], "own"),
                          (["--clients", "0"], "--clients"), (["--per-gate", "0"], "--per-gate"), (["--per-address", "-1"], "--per-address"),
                          (["--failed-lines", ""], "--failed-lines"), (["--help=me"], "--help=me"), (["more"], "more"), ([], "--table")]:
         bad = Program([GATEWAY, *words])

@@ -4,9 +4,19 @@ import hashlib
 import hmac
 import os
 import socket
+import threading
 
 CHANGE, ALERT, HANDSHAKE, DATA = 20, 21, 22, 23
 SUITE = 0x00B0
+
+
+class Way(threading.local):
+    """Of the two ways in which the gateway makes records, the one that the case in this thread is about."""
+    options = ()
+    answers_close = True  # it answers a close_notify with its own
+
+
+WAY = Way()
 
 
 def mac(key, text):
@@ -149,7 +159,7 @@ class Client:
         assert got == wanted, "other answers than the lines'"
 
     def bye(self):
-        """close_notify both ways."""
+        """close_notify both ways, or the client's and the end of the stream."""
         self.send(ALERT, b"\x01\x00")
-        assert self.alert() == (1, 0)
+        assert self.alert() == (1, 0) if WAY.answers_close else self.socket.recv(1) == b""
         self.socket.close()
