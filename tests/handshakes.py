@@ -218,10 +218,12 @@ class Server:
 
 # ---- the calls, as the program reads them, with what it has to print
 
-class Script:
-    def __init__(self):
+class Calls:
+    """What every series begins with, on this server."""
+
+    def __init__(self, server):
         self.calls, self.lines = [], []
-        self.server = Server()
+        self.server = server
         self.set_table(TABLE, KEYS)
 
     def set_table(self, text, keys, good=True):
@@ -232,6 +234,15 @@ class Script:
         self.calls.append(bytes([1, rule]) + vector(1, random) + vector(1, hint) + vector(1, stand_in))
         self.lines.append("start " + self.server.start(random, hint, stand_in, rule))
 
+    def print(self):
+        """The calls or the lines, as the command line asks."""
+        if sys.argv[1] == "stdin":
+            sys.stdout.buffer.write(b"".join(self.calls))
+        else:
+            print("\n".join(self.lines))
+
+
+class Script(Calls):
     def message(self, m, room=60):
         self.calls.append(bytes([3, room]) + vector(3, m))
         said, answer, master = self.server.message(m, room, self.table, self.good)
@@ -461,7 +472,7 @@ def series(s, count):
 
 
 def script():
-    s = Script()
+    s = Script(Server())
     for part in (handshakes, unlisted, settings, headers, hellos, rooms, tables, alerts, replays):
         part(s)
     series(s, 200)
@@ -469,8 +480,4 @@ def script():
 
 
 if __name__ == "__main__":
-    made = script()
-    if sys.argv[1] == "stdin":
-        sys.stdout.buffer.write(b"".join(made.calls))
-    else:
-        print("\n".join(made.lines))
+    script().print()

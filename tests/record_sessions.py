@@ -8,9 +8,9 @@ anything with the library. Whole sessions come first, however their bytes are cu
 list at each place, then a session that OpenSSL's client had (tests/recorded/openssl-null-records.txt), and series drawn
 from a fixed seed.
 """
-import copy, hashlib, os, sys
+import copy, hashlib, os
 
-from handshakes import HIDE, KEYS, NOTHING, STAND_IN, TABLE, TELL, Refuse, Server
+from handshakes import HIDE, KEYS, NOTHING, STAND_IN, TABLE, TELL, Calls, Refuse, Server
 from handshakes import drawn, exchange, hello, mac, master_secret, message, prf, vector, verify_data
 
 CHANGE, ALERT, HANDSHAKE, DATA = 20, 21, 22, 23
@@ -178,22 +178,9 @@ def shown(out):
     return out.hex() if len(out) < 256 else hashlib.sha256(out).hexdigest()[:16]
 
 
-class Script:
-    def __init__(self):
-        self.calls, self.lines = [], []
-        self.server = RecordServer()
-        self.set_table(TABLE, KEYS)
-
+class Script(Calls):
     def line(self, name, said, answer, room, *more):
         self.lines.append(" ".join([name, said, shown(answer + b"\xee" * (room - len(answer)))] + list(more)))
-
-    def set_table(self, text, keys, good=True):
-        self.calls.append(b"\x02" + vector(3, text))
-        self.table, self.good = keys, good
-
-    def start(self, random, hint=b"", rule=NOTHING, stand_in=STAND_IN):
-        self.calls.append(bytes([1, rule]) + vector(1, random) + vector(1, hint) + vector(1, stand_in))
-        self.lines.append("start " + self.server.start(random, hint, stand_in, rule))
 
     def take(self, record, room=72):
         self.calls.append(bytes([3, room]) + vector(3, record))
@@ -539,7 +526,7 @@ def series(s, count):
 
 
 def script():
-    s = Script()
+    s = Script(RecordServer())
     for part in (sessions, cuttings, early, bad_records, long_records, macs, rooms, tables, recorded):
         part(s)
     series(s, 120)
@@ -547,8 +534,4 @@ def script():
 
 
 if __name__ == "__main__":
-    made = script()
-    if sys.argv[1] == "stdin":
-        sys.stdout.buffer.write(b"".join(made.calls))
-    else:
-        print("\n".join(made.lines))
+    script().print()
