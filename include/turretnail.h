@@ -74,7 +74,7 @@ extern "C" {
 #define TN_RECORD_LIMIT 16421   /* the longest record that may be accepted: 5 + 16,384 + 32 */
 #define TN_RECORD_CONNECTION_SIZE 576 /* a record connection, see tn_record_start */
 #define TN_RECORD_MEMORY 16383  /* so much memory is always enough for what came of an unfinished message */
-#define TN_RECORD_ANSWER 195    /* the longest answer of tn_take_record */
+#define TN_RECORD_ANSWER 195    /* the longest answer of tn_take_record, on a connection that calls have made */
 #define TN_CLOSING_ALERT_SIZE 39 /* the longest record of tn_closing_alert and of tn_send_close */
 
 /* ==== Results ================================================================================================================================ */
@@ -354,7 +354,7 @@ int32_t tn_record_start(uint8_t connection[TN_RECORD_CONNECTION_SIZE], const uin
  *   table      the key table, read where a ClientKeyExchange is finished
  *   received   the record
  *   memory     the connection's memory, see above
- *   out        room for the answer: TN_RECORD_ANSWER bytes are always enough
+ *   out        room for the answer: TN_RECORD_ANSWER bytes are enough on a connection that calls have made; on other bytes an answer has at most 336
  *
  *   result                 when                                    out                  memory             master             told             connection
  *   56, or 67 + hint_len   a ClientHello was finished              ServerHello,         the part of a      master secret,     {0, 0, 0, 0}, or  phase 2,
