@@ -1,5 +1,5 @@
-// Byte strings put together in a buffer of 256 bytes, which holds everything that is built here: the
-// PRF's output, a premaster secret, two randoms. The buffer is lent, so that each is built in one place.
+// Byte strings put together in a buffer: the PRF's output, a premaster secret, two randoms. The buffer is
+// lent, so that each is built in one place.
 ghost use mathlib.Core.Path.{_≡_};
 ghost use mathlib.Core.List.{_++_};
 ghost use Prim.Native.Nat.{_+_, _≤_};

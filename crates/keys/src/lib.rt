@@ -78,7 +78,8 @@ pub fn prf(secret: &[u8], label: Label, seed: &[u8], n: usize, out: &mut [u8]) -
     if 256 < n {
         return Written::Refused(Refusal::BadValue);
     }
-    let bytes = expand(secret, label, seed, n);
+    let mut bytes = [0u8; 256];
+    expand(secret, label, seed, n, &mut bytes);
     refusal::put(&bytes[..n], out)
 }
 
@@ -185,14 +186,14 @@ fn finished_label(side: Side) -> Label
 }
 
 // N, N zero bytes, N and the PSK, at the front of a buffer.
-fn premaster_bytes(psk: &[u8]) -> [u8; 256]
+fn premaster_bytes(psk: &[u8]) -> [u8; 132]
     requires { ⌜ length (now psk) ≤ 64 ⌝ }
     ensures { λ r. ⌜ take (4 + 2 * length (now (psk .entry))) r ≡ Secrets.premasterBytes (now (psk .entry)) ⌝ }
 {
     let n = psk.len();
     let size = endian::bytes16(n);
     let zeros = [0u8; 64];
-    let mut bytes = [0u8; 256];
+    let mut bytes = [0u8; 132];
     append(&mut bytes, 0, &size);
     append(&mut bytes, 2, &zeros[..n]);
     append(&mut bytes, 2 + n, &size);
@@ -218,16 +219,16 @@ fn prf_of_randoms(
         return Written::Refused(Refusal::BadValue);
     }
     let seed = joined(first, second);
-    prf(secret, label, &seed[..64], n, out)
+    prf(secret, label, &seed, n, out)
 }
 
-// Two randoms one after the other, at the front of a buffer.
-fn joined(first: &[u8], second: &[u8]) -> [u8; 256]
+// Two randoms one after the other.
+fn joined(first: &[u8], second: &[u8]) -> [u8; 64]
     requires { ⌜ length (now first) ≡ 32 ⌝ }
     requires { ⌜ length (now second) ≡ 32 ⌝ }
-    ensures { λ r. ⌜ take 64 r ≡ now (first .entry) ++ now (second .entry) ⌝ }
+    ensures { λ r. ⌜ r ≡ now (first .entry) ++ now (second .entry) ⌝ }
 {
-    let mut both = [0u8; 256];
+    let mut both = [0u8; 64];
     append(&mut both, 0, first);
     append(&mut both, 32, second);
     both

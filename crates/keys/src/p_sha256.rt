@@ -52,22 +52,20 @@ fn next_a(secret: &[u8], label: Label, seed: &[u8], i: usize, a: [u8; 32]) -> [u
     value(secret, &a)
 }
 
-// The first n bytes of P_SHA256, at the front of a buffer.
-pub(crate) fn expand(secret: &[u8], label: Label, seed: &[u8], n: usize) -> [u8; 256]
+// The first n bytes of P_SHA256, at the front of a lent buffer.
+pub(crate) fn expand(secret: &[u8], label: Label, seed: &[u8], n: usize, buffer: &mut [u8])
     requires { ⌜ length (now secret) ≤ 65536 ⌝ }
     requires { ⌜ length (now seed) ≤ 65536 ⌝ }
-    requires { ⌜ n ≤ 256 ⌝ }
-    ensures { λ r. ⌜ take n r ≡ expanded (now (secret .entry)) (text label ++ now (seed .entry)) n ⌝ }
+    requires { ⌜ (n ≤ 256) × (length (now buffer) ≡ 256) ⌝ }
+    ensures { λ _. ⌜ take n (now (buffer .exit)) ≡ expanded (now (secret .entry)) (text label ++ now (seed .entry)) n ⌝ }
 {
-    let mut buffer = [0u8; 256];
     let mut a = [0u8; 32];
     let mut i: usize = 0;
     while 32 * i < n {
         let next = next_a(secret, label, seed, i, a);
         let part = labelled(secret, &next, label, seed);
-        append(&mut buffer, 32 * i, &part);
+        append(buffer, 32 * i, &part);
         a = next;
         i += 1;
     }
-    buffer
 }

@@ -23,7 +23,7 @@ returns-2 c = simp (lt-leb _ _ (c .if2 .taken), and-false) (refuses-answers _ _)
 
 slice-aggregate-put : tie.Need-slice-aggregate-put
 slice-aggregate-put c =
-    let size : length (c .before .premaster-bytes .result) ≡ 256 = search (needs, c .before .premaster-bytes .ok) in
+    let size : length (c .before .premaster-bytes .result) ≡ 132 = search (needs, c .before .premaster-bytes .ok) in
     sym (length-take-le _ _ (omega arith))
 
 returns-3 : tie.Need-returns-3

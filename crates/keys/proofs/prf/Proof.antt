@@ -25,15 +25,13 @@ unfolding prf
 returns-3 c = simp (lt-leb _ _ (c .if3 .taken), and-false) (refuses-answers _ _)
 
 slice-aggregate-put : tie.Need-slice-aggregate-put
-slice-aggregate-put c =
-    let size : length (c .before .expand .result) ≡ 256 = search (needs, c .before .expand .ok) in
-    sym (length-take-le _ _ (omega arith))
+slice-aggregate-put c = sym (length-take-le _ _ (search needs))
 
 returns-4 : tie.Need-returns-4
 unfolding prf
 returns-4 c =
-    let at-expand = c .before .before .before .before .before in
-    let tests = at-expand .before in
+    let at-expand = c .before .before .before .before .before .before in
+    let tests = at-expand .before .before in
     simp (le-leb _ _ (tests .before .before .if1 .left), le-leb _ _ (tests .before .if2 .left), le-leb _ _ (tests .if3 .left))
     (rw (at-expand .expand .ensures) at (c .before .before .put .ensures))
 
@@ -44,6 +42,7 @@ prf-spec =
     returns
     returns-2
     returns-3
+    (λ c. search needs)
     (λ c κs. search needs)
     (λ c. search needs)
     slice-aggregate-put

@@ -1,10 +1,6 @@
 -- `keys::prf_of_randoms` meets its contract: the tests in their order, and then the PRF's own answer.
 -- Assumes nothing.
-use mathlib.Core.Path.{_≡_, sym}
-use native.Mathlib.Omega.{arith}
 use mathlib.Core.Bool.{and-false}
-use lib.ListN.{length}
-use lib.Seq.{length-take-le}
 use borrow.Author.Tests.{eq-eqb, ne-eqb}
 use Rattle.refusal.proofs.Laws.{refuses-answers}
 use borrow.Author.Needs.{needs}
@@ -16,11 +12,6 @@ returns c = simp (ne-eqb _ _ (c .if1 .taken)) (refuses-answers _ _)
 
 returns-2 : tie.Need-returns-2
 returns-2 c = simp (ne-eqb _ _ (c .if2 .taken), and-false) (refuses-answers _ _)
-
-slice-aggregate-prf : tie.Need-slice-aggregate-prf
-slice-aggregate-prf c =
-    let size : length (c .before .joined .result) ≡ 256 = search (needs, c .before .joined .ok) in
-    sym (length-take-le 64 (c .before .joined .result) (omega arith))
 
 returns-3 : tie.Need-returns-3
 returns-3 c =
@@ -36,7 +27,6 @@ prf-of-randoms-spec =
     returns-2
     (λ c κs. search needs)
     (λ c. search needs)
-    slice-aggregate-prf
     (λ c κs. search needs)
     (λ c. search needs)
     returns-3)

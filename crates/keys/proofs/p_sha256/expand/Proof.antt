@@ -23,15 +23,17 @@ abbrev μ-loop : tie.MeasureT-loop
 
 loop-holds : tie.Need-loop-holds Inv-loop μ-loop
 unfolding P
-loop-holds c = (search needs, search needs, search needs, search needs, refl, λ h. absurd (omega arith))
+loop-holds c = (search needs, search needs, c .before .before .before .pre .1 .1 .1, search needs, refl, λ h. absurd (omega arith))
 
 loop-again : tie.Need-loop-again Inv-loop μ-loop
 loop-again c =
-    let put = c .before .append in
-    let at-labelled = c .before .before .before .before in
+    let put = c .before .before .append in
+    let at-labelled = c .before .before .before .before .before in
     let at-next = at-labelled .before .before in
     let at-loop = at-next .before .before in
-    let args = at-loop .before .before .before .args in
+    let start = at-loop .before .before .before .before in
+    let args = start .args in
+    let bound = start .pre .1 .1 .0 in
     let seed = text (args .label) ++ args .seed .now in
     let i = at-loop .loop .i in
     let stepped : at-next .next-a .result ≡ A (args .secret .now) seed (i + 1) = at-next .next-a .ensures (at-loop .loop .inv .5) in
@@ -57,9 +59,9 @@ expand-spec =
     (λ c κs. search needs)
     (λ c. search needs)
     (λ c. search needs)
-    (λ c. search needs)
     (λ c κs. search needs)
     (λ c. search needs)
     (λ c. search needs)
     loop-again
+    (λ c. search needs)
     returns)
