@@ -67,6 +67,17 @@ afterHelloWith c m suite flight =
       transcript = absorb (absorb (c .transcript) m) flight;
     }
 
+-- after the key exchange m, with this master secret
+abbrev pub afterKeysWith : Connection → List ℕ → List ℕ → Bool → Connection
+afterKeysWith c m master listed =
+    record {
+      phase = Phase.Change;
+      setup = c .setup;
+      client = record { random = c .client .random; suite = c .client .suite; listed = listed };
+      secrets = record { master = master };
+      transcript = absorb (c .transcript) m;
+    }
+
 -- the client's value is right, and its identity is listed
 abbrev pub rightValue : Connection → List ℕ → Bool
 rightValue c value = c .client .listed && isValue value (finishedOf Client (c .secrets .master) (c .transcript))

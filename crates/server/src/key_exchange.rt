@@ -5,12 +5,15 @@ ghost use lib.ListN.{length};
 ghost use Rattle.layout.specs.declared.Verdict.the-variants.{Accepted};
 ghost use Rattle.layout.specs.Header.{header};
 ghost use Rattle.layout.specs.Place.{lastAt, contents};
+ghost use Rattle.refusal.specs.Lent.{bytesOf};
+ghost use Rattle.keys.specs.Secrets.{masterUnder};
 ghost use Rattle.keytable.specs.Table.{keyOf};
 ghost use Rattle.server.specs.declared.Phase.{Phase};
 ghost use Rattle.server.specs.KeyExchange as Exchange;
-ghost use Rattle.server.specs.KeyExchange.{afterKeys, keyFound, keyIdentity, viewOf};
+ghost use Rattle.server.specs.KeyExchange.{keyFound, keyIdentity, viewOf};
 ghost use Rattle.server.specs.Message.{bodyStep};
 ghost use Rattle.server.specs.Decision.{Decides};
+ghost use Rattle.server.specs.Inner.{afterKeysWith};
 use crate::Connection;
 use crate::Negotiated;
 use crate::Phase;
@@ -23,10 +26,11 @@ use layout::Part;
 use refusal::Refusal;
 use refusal::Written;
 
-// The connection when the key exchange has come.
-fn after_keys(c: Connection, m: &[u8], key: &[u8], listed: bool) -> Connection
+// The master secret under a key. It is made before the connection is put together, so that the two do not stand on
+// the stack at a time.
+fn master_under(c: Connection, key: &[u8]) -> [u8; 48]
     requires { ⌜ (1 ≤ length (now key)) × (length (now key) ≤ 64) ⌝ }
-    ensures { λ r. ⌜ r ≡ afterKeys c (now (m .entry)) (now (key .entry)) listed ⌝ }
+    ensures { λ r. ⌜ r ≡ bytesOf (masterUnder (now (key .entry)) (c .client .random) (c .setup .random)) ⌝ }
 {
     let setup = c.setup;
     let said = c.client;
@@ -34,6 +38,16 @@ fn after_keys(c: Connection, m: &[u8], key: &[u8], listed: bool) -> Connection
     let random = said.random;
     let mut master = [0u8; 48];
     keys::master_under(key, &random, &own, &mut master);
+    master
+}
+
+// The connection when the key exchange has come.
+fn after_keys(c: Connection, m: &[u8], master: [u8; 48], listed: bool) -> Connection
+    ensures { λ r. ⌜ r ≡ afterKeysWith c (now (m .entry)) master listed ⌝ }
+{
+    let setup = c.setup;
+    let said = c.client;
+    let random = said.random;
     let client = Negotiated {
         random,
         suite: said.suite,
@@ -59,7 +73,7 @@ fn unlisted(c: Connection, m: &[u8]) -> Decision
         Rule::Tell => step::refused(c, Refusal::UnknownPskIdentity),
         Rule::Hide => {
             let stand_in = setup.stand_in;
-            step::silent(after_keys(c, m, &stand_in, false))
+            step::silent(after_keys(c, m, master_under(c, &stand_in), false))
         }
     }
 }
@@ -70,7 +84,7 @@ fn look_up(c: Connection, table: &[u8], m: &[u8], identity: &[u8]) -> Decision
 {
     let mut key = [0u8; 64];
     match keytable::lookup(table, identity, &mut key) {
-        Written::Wrote(n) => step::silent(after_keys(c, m, &key[..n], true)),
+        Written::Wrote(n) => step::silent(after_keys(c, m, master_under(c, &key[..n]), true)),
         Written::Refused(_) => unlisted(c, m),
     }
 }

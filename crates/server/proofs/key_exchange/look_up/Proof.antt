@@ -42,14 +42,16 @@ module _ (c : tie.After-known-told) where
 array-share-prefix-key : tie.Need-array-share-prefix-key
 array-share-prefix-key c = fits c
 
-slice-aggregate-after-keys : tie.Need-slice-aggregate-after-keys
-slice-aggregate-after-keys c = sym (length-take-le (n (c .before)) (buffer (c .before)) (fits (c .before)))
+slice-aggregate-master-under : tie.Need-slice-aggregate-master-under
+slice-aggregate-master-under c = sym (length-take-le (n (c .before)) (buffer (c .before)) (fits (c .before)))
 
-after-keys-requires : tie.Need-after-keys-requires
-after-keys-requires c κs = key-size (table (c .before)) (identity (c .before)) _ (put (c .before) .1)
+master-under-requires : tie.Need-master-under-requires
+master-under-requires c κs = key-size (table (c .before)) (identity (c .before)) _ (put (c .before) .1)
 
 returns : tie.Need-returns
-returns c = rw (put (c .before .before .before) .1, ← c .before .after-keys .ensures) (c .silent .ensures)
+returns c =
+    let told = c .before .before .before .before in
+    rw (put told .1, ← c .before .before .master-under .ensures, ← c .before .after-keys .ensures) (c .silent .ensures)
 
 returns-2 : tie.Need-returns-2
 returns-2 c =
@@ -65,8 +67,9 @@ look-up-spec =
     (λ c κs. search needs)
     (λ c. search needs)
     array-share-prefix-key
-    slice-aggregate-after-keys
-    after-keys-requires
+    slice-aggregate-master-under
+    master-under-requires
+    (λ c κs. search needs)
     (λ c κs. search needs)
     (λ c. search needs)
     (λ c κs. search needs)

@@ -10,8 +10,8 @@ use borrow.Author.Needs.{needs}
 use Rattle.server.proofs.key_exchange.unlisted.Statement.{statement}
 use Rattle.server.proofs.key_exchange.unlisted.Tie as tie
 
-after-keys-requires : tie.Need-after-keys-requires
-after-keys-requires c κs =
+master-under-requires : tie.Need-master-under-requires
+master-under-requires c κs =
     let start = c .before .before .before .before .before .before in
     let fields = start .good .0 .1 .1 .1 .0 .1 .1 in
     let size : length (start .args .c .setup .«stand_in») ≡ 32 = search (needs, fields .1 .1 .1 .1 .0) in
@@ -22,10 +22,10 @@ returns c = rw (c .before .enum-told .given .1) (c .refused .ensures)
 
 returns-2 : tie.Need-returns-2
 returns-2 c =
-    let told = c .before .before .before .before in
+    let told = c .before .before .before .before .before in
     let args = told .before .before .before .before .args in
     same-step (ap (λ (r : Rule). unlisted r (args .c) (args .m .now)) (told .enum-told2 .given .1))
-    (rw (c .before .after-keys .ensures) at (c .silent .ensures))
+    (rw (c .before .after-keys .ensures, c .before .before .master-under .ensures) at (c .silent .ensures))
 
 pub unlisted-spec : {M : Type 1} → statement M
 unlisted-spec =
@@ -35,7 +35,8 @@ unlisted-spec =
     (λ c κs. search needs)
     (λ c. search needs)
     (λ c. search needs)
-    after-keys-requires
+    master-under-requires
+    (λ c κs. search needs)
     (λ c κs. search needs)
     returns
     returns-2)
