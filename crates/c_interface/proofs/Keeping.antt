@@ -11,7 +11,6 @@ use lib.IntN.{ℤ}
 use lib.Signed.{mag}
 use mir.Syntax.{w32}
 use mir.Val.{toZ, ofZ}
-use Rattle.refusal.specs.declared.Refusal.{Refusal}
 use Rattle.refusal.specs.declared.Written.{Written}
 use Rattle.refusal.specs.declared.Written.the-variants.{Wrote, Refused}
 use Rattle.refusal.specs.Table.{toClient}
@@ -28,7 +27,7 @@ use Rattle.saved.specs.Saved.{restored}
 use Rattle.server.proofs.Refusals.{alerts-close}
 use Rattle.c_interface.specs.Codes.{coded}
 use Rattle.c_interface.specs.Connections.{Keeps, Starts, masterAfter}
-use Rattle.c_interface.specs.Inner.{count, readAfter, KeptAs, Kept}
+use Rattle.c_interface.specs.Inner.{count, changes, readAfter, KeptAs, Kept}
 use Rattle.c_interface.proofs.Signed.{handed-on}
 use Rattle.c_interface.proofs.Answers.{answer-count-small}
 use Rattle.c_interface.proofs.Sizes.{Brief}
@@ -36,17 +35,15 @@ use Rattle.c_interface.proofs.Sizes.{Brief}
 -- ---- the connection's bytes
 
 -- whatever kind of connection it is, and however it is saved
-module _ {A : Type 0} {save : A → List ℕ} {restore : List ℕ → A} {said : Written} {next : A} {bytes bytes' : List ℕ} where
-  pub kept-wrote : {n : ℕ} → said ≡ Wrote n → bytes' ≡ save next → restore bytes' ≡ next → KeptAs save restore said next bytes bytes'
-  kept-wrote e left read = record { left = rw e left; read = rw e read }
-
-  pub kept-alert : {r : Refusal} → said ≡ Refused r → toClient r ≡ true → bytes' ≡ save next → restore bytes' ≡ next
-      → KeptAs save restore said next bytes bytes'
-  kept-alert e t left read = record { left = rw (e, t) left; read = rw (e, t) read }
+module _ {A : Type 0} {save : A → List ℕ} {restore : List ℕ → A} {next : A} {bytes bytes' : List ℕ} where
+  pub kept-changed : {said : Written} → changes said ≡ true → bytes' ≡ save next → restore bytes' ≡ next → KeptAs save restore said next bytes bytes'
+  kept-changed {said = Wrote n} t left read = record { left = left; read = read }
+  kept-changed {said = Refused r} t left read = record { left = rw t left; read = rw t read }
 
   -- an R number
-  pub kept-same : {r : Refusal} → said ≡ Refused r → toClient r ≡ false → bytes' ≡ bytes → KeptAs save restore said next bytes bytes'
-  kept-same e t same = record { left = rw (e, t) same; read = rw (e, t) (ap restore same) }
+  pub kept-same : {said : Written} → changes said ≡ false → bytes' ≡ bytes → KeptAs save restore said next bytes bytes'
+  kept-same {said = Wrote n} t same = absurd (true≢false t)
+  kept-same {said = Refused r} t same = record { left = rw t same; read = rw t (ap restore same) }
 
 -- an alert's connection is written, and an R number's is the one that the bytes stand for
 pub closed-read : {A : Type 0} (t : Bool) (closed c : A) {next : A} → next ≡ cond t closed c → cond t next c ≡ next

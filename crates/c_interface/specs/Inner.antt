@@ -1,7 +1,7 @@
 -- What the private functions ask, that a number fits the type in which C is given it, and what the connection's bytes stand for behind `keep`.
 use mathlib.Core.Path.{_≡_}
 use Prim.Native.Nat.{ℕ, _<_, _^_}
-use mathlib.Core.Bool.{cond}
+use mathlib.Core.Bool.{Bool, true, cond}
 use mathlib.Core.List.{List}
 use Rattle.refusal.specs.declared.Written.{Written}
 use Rattle.refusal.specs.declared.Written.the-variants.{Wrote, Refused}
@@ -39,6 +39,11 @@ DataFits Data.Nothing = Unit
 DataFits (Data.Bytes n) = n < 2 ^ 32
 
 -- ---- what `keep` leaves
+
+-- whether the bytes of a connection change with this answer: not with an R number
+abbrev pub changes : Written → Bool
+changes (Wrote n) = true
+changes (Refused r) = toClient r
 
 -- the connection that the bytes stand for after a call that said this, where they stood for c
 abbrev pub readAfter : {A : Type 0} → Written → (next c : A) → A

@@ -3,6 +3,7 @@ ghost use mathlib.Core.Path.{_≡_};
 ghost use Prim.Native.Nat.{_<_, _^_};
 ghost use lib.IntN.{pos, negℤ};
 ghost use Rattle.c_interface.specs.Codes.{coded, refusalCode};
+ghost use Rattle.c_interface.specs.Inner as Inner;
 ghost use Rattle.c_interface.specs.Inner.{count};
 use refusal::Refusal;
 use refusal::Written;
@@ -32,5 +33,15 @@ pub(crate) fn of_answer(said: Written) -> i32
     match said {
         Written::Wrote(n) => n as i32,
         Written::Refused(r) => of_refusal(r),
+    }
+}
+
+// Whether the bytes of a connection change with this answer: not with an R number.
+pub(crate) fn changes(said: Written) -> bool
+    ensures { λ r. ⌜ r ≡ Inner.changes said ⌝ }
+{
+    match said {
+        Written::Wrote(_) => true,
+        Written::Refused(r) => refusal::for_client(r),
     }
 }

@@ -24,15 +24,8 @@ fn keep(said: Written, next: Connection, connection: &mut [u8; 388]) -> i32
     ensures { λ r. ⌜ r ≡ coded said ⌝ }
     ensures { λ _. ⌜ Kept said next (now (connection .entry)) (now (connection .exit)) ⌝ }
 {
-    match said {
-        Written::Wrote(_) => {
-            *connection = saved::save(next);
-        }
-        Written::Refused(r) => {
-            if refusal::for_client(r) {
-                *connection = saved::save(next);
-            }
-        }
+    if code::changes(said) {
+        *connection = saved::save(next);
     }
     code::of_answer(said)
 }

@@ -28,15 +28,8 @@ fn keep(said: Written, next: RecordConnection, connection: &mut [u8; 576]) -> i3
     ensures { λ r. ⌜ r ≡ coded said ⌝ }
     ensures { λ _. ⌜ KeptRecord said next (now (connection .entry)) (now (connection .exit)) ⌝ }
 {
-    match said {
-        Written::Wrote(_) => {
-            *connection = saved_records::save(next);
-        }
-        Written::Refused(r) => {
-            if refusal::for_client(r) {
-                *connection = saved_records::save(next);
-            }
-        }
+    if code::changes(said) {
+        *connection = saved_records::save(next);
     }
     code::of_answer(said)
 }
@@ -77,6 +70,15 @@ fn told_of(handed: bool, holds: Data) -> [u32; 4]
     }
 }
 
+// The connection that the bytes stand for. A function of its own, so that the compiler keeps no second copy of it on
+// the stack while a record is judged, which is where the stack is deepest.
+fn connection_of(connection: &[u8; 576]) -> RecordConnection
+    ensures { λ r. ⌜ r ≡ restored (now (connection .entry)) ⌝ }
+{
+    let bytes = *connection;
+    saved_records::restore(bytes)
+}
+
 // A record. The master secret is written where one is handed over. The four numbers are written where the record is
 // accepted: whether the secret was, whether the record holds application data, where that starts and its length.
 #[no_mangle]
@@ -98,8 +100,7 @@ pub extern "C" fn tn_take_record(
         (now (received .entry)) (now (memory .entry)) (now (out .entry)))
         (now (out .exit)) (now (memory .exit)) (now (master .entry)) (now (master .exit)) (now (told .entry)) (now (told .exit)) ⌝ }
 {
-    let bytes = *connection;
-    let taken = record_server::take(saved_records::restore(bytes), table, received, memory, out);
+    let taken = record_server::take(connection_of(connection), table, received, memory, out);
     let said = taken.said;
     let holds = taken.holds;
     let next = taken.next;

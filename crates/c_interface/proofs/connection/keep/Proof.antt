@@ -1,45 +1,21 @@
--- `c_interface::connection::keep` meets its contract, by each of its three ways: an answer, an alert and an R number.
+-- `c_interface::connection::keep` meets its contract, where the connection's bytes change and where they do not.
 -- Assumes nothing.
 use borrow.Author.Needs.{needs}
-use mathlib.Core.Path.{_≡_, sym, ap, _∙_}
+use mathlib.Core.Path.{sym, ap, _∙_}
 use mathlib.Core.Logic.{⊎-elim}
 use Rattle.saved.specs.Saved.{restored}
-use Rattle.c_interface.specs.Codes.{coded}
-use Rattle.c_interface.specs.Inner.{Kept}
 use Rattle.c_interface.proofs.Signed.{handed-on}
-use Rattle.c_interface.proofs.Keeping.{kept-wrote, kept-alert, kept-same}
+use Rattle.c_interface.proofs.Keeping.{kept-changed, kept-same}
 use Rattle.c_interface.proofs.connection.keep.Statement.{statement}
 use Rattle.c_interface.proofs.connection.keep.Tie as tie
 
--- where the ways meet
-met : (c : tie.At-match-came)
-    → (c .match .said ≡ c .before .args .said) × Kept (c .before .args .said) (c .before .args .next) (c .before .args .connection .now)
-    (c .match .connection)
-met c =
-    ⊎-elim (λ w. (w .3, kept-wrote (w .1 .given .1) (w .4 ∙ w .2 .ensures .0) (ap restored (w .4) ∙ w .2 .ensures .1)))
-    (⊎-elim
-    (λ w.
-    let alert = sym (w .3 .ensures) ∙ w .4 .taken in
-    (w .6 ∙ sym (w .1 .given .1), kept-alert (w .1 .given .1) alert (w .7 ∙ w .5 .ensures .0) (ap restored (w .7) ∙ w .5 .ensures .1)))
-    (λ w. (w .5 ∙ sym (w .1 .given .1), kept-same (w .1 .given .1) (sym (w .3 .ensures) ∙ w .4 .left) (w .6))))
-    (c .match .came)
-
-of-answer-requires : tie.Need-of-answer-requires
-of-answer-requires c κs = rw (met c .0) (c .before .pre)
-
 returns : tie.Need-returns
 returns c =
-    let all = met (c .before) in
-    (handed-on _ (c .of-answer .ok) ∙ c .of-answer .ensures ∙ ap coded (all .0), all .1)
+    let told = sym (c .before .before .changes .ensures) in (
+      handed-on _ (c .of-answer .ok) ∙ c .of-answer .ensures,
+      ⊎-elim (λ w. kept-changed (told ∙ w .0 .taken) (w .2 ∙ w .1 .ensures .0) (ap restored (w .2) ∙ w .1 .ensures .1))
+          (λ w. kept-same (told ∙ w .0 .left) (w .1)) (c .before .if1 .came),
+    )
 
 pub keep-spec : {M : Type 1} → statement M
-keep-spec =
-    tie.close
-    (tie.spec
-    (λ c. search needs)
-    (λ c κs. search needs)
-    (λ c. search needs)
-    (λ c κs. search needs)
-    (λ c κs. search needs)
-    of-answer-requires
-    returns)
+keep-spec = tie.close (tie.spec (λ c κs. search needs) (λ c κs. search needs) (λ c κs. search needs) returns)

@@ -14,7 +14,7 @@ returns : tie.Need-returns
 returns c =
     let a = c .before .before .before .before .before .args in
     rw (lt-leb (a .rule) 2 (omega (arith, c .before .if1 .taken)))
-    (answer-starts {a = badSetting} refl (c .of-refusal .ok) (c .of-refusal .ensures) (kept-same refl refl refl))
+    (answer-starts {a = badSetting} refl (c .of-refusal .ok) (c .of-refusal .ensures) (kept-same refl refl))
 
 keep-requires : tie.Need-keep-requires
 keep-requires c κs =

@@ -19,7 +19,7 @@ returns c =
     let a = c .before .before .before .before .before .args in
     rw (lt-leb (a .rule) 2 (omega (arith, c .before .if1 .taken)))
     (record-starts {a = record { said = Refused BadSetting; next = closedWith noAlert }} refl
-    (c .of-refusal .ok) (c .of-refusal .ensures) (kept-same refl refl refl))
+    (c .of-refusal .ok) (c .of-refusal .ensures) (kept-same refl refl))
 
 keep-requires : tie.Need-keep-requires
 keep-requires c κs =

@@ -28,8 +28,8 @@ module _ (c : tie.After-take) where
   abbrev wanted : Settled
   wanted = takenOn (restored (entry c .args .connection .now))
 
-  same : c .before .before .before .restore .result ≡ restored (entry c .args .connection .now)
-  same = c .before .before .before .restore .ensures
+  same : c .before .before .before .connection-of .result ≡ restored (entry c .args .connection .now)
+  same = c .before .before .before .connection-of .ensures
 
   given : c .take .result ≡ taken wanted
   given = c .take .ensures .0 .gives ∙ ap (λ (x : RecordConnection). taken (takenOn x)) same
