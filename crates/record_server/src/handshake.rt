@@ -66,19 +66,7 @@ fn header_at(held: &[u8], content: &[u8], at: usize) -> [u8; 4]
     ]
 }
 
-// The step of a message that is spread over records, all of `held` and n bytes of the content: joined in one array.
-fn decide_joined(c: Connection, table: &[u8], held: &[u8], content: &[u8], n: usize) -> Decision
-    requires { ⌜ (n ≤ length (now content)) × (length (now held) + n ≤ 16384) ⌝ }
-    ensures { λ d. ⌜ Server.Decides d (messageStep (viewOf (now (table .entry))) c (now (held .entry) ++ take n (now (content .entry))) (c .phase)) ⌝ }
-{
-    let mut message = [0u8; 16384];
-    let at = bytes::copy(held, &mut message);
-    let end = at + n;
-    bytes::copy(&content[..n], &mut message[at..]);
-    server::decide(c, table, &message[..end])
-}
-
-// The step of the message from `at` to `end`.
+// The step of the message from `at` to `end`; one that is spread over records is joined in one array.
 fn decide_at(
     c: Connection,
     table: &[u8],
@@ -95,7 +83,10 @@ fn decide_at(
     if kept <= at {
         return server::decide(c, table, &content[at - kept..end - kept]);
     }
-    decide_joined(c, table, held, content, end - kept)
+    let mut message = [0u8; 16384];
+    bytes::copy(held, &mut message);
+    bytes::copy(&content[..end - kept], &mut message[kept..]);
+    server::decide(c, table, &message[..end])
 }
 
 // The same progress, on another course.
