@@ -7,15 +7,13 @@ use mathlib.Core.List.{List}
 use lib.ListN.{length}
 use lib.Dec.{eqb, leb}
 use Rattle.refusal.specs.declared.Refusal.{Refusal}
-use Rattle.refusal.specs.declared.Refusal.the-variants.{ShortOutput, BadTable, BadSetting, ConnectionOver, BadValue}
-use Rattle.refusal.specs.declared.Refusal.the-variants.{AlreadyListed, NotListed, TableFull, SequenceSpent, BadRecordMac, RecordOverflow}
-use Rattle.refusal.specs.declared.Refusal.the-variants.{UnexpectedMessage, HandshakeFailure, IllegalParameter, DecodeError, DecryptError}
-use Rattle.refusal.specs.declared.Refusal.the-variants.{ProtocolVersion, UnknownPskIdentity}
+use Rattle.refusal.specs.declared.Refusal.the-variants.{ShortOutput, ConnectionOver, BadValue, SequenceSpent}
 use Rattle.refusal.specs.declared.Written.{Written}
 use Rattle.refusal.specs.Table.{toClient, numberOf}
 use Rattle.refusal.specs.declared.Written.the-variants.{Refused}
 use Rattle.refusal.specs.Lent.{Outcome, gives, refuses, within, answer, Answers}
 use Rattle.refusal.proofs.Laws.{refuses-answers}
+use Rattle.refusal.proofs.Effects.{by-receiver}
 use Rattle.layout.specs.declared.Verdict.{Verdict}
 use Rattle.records.specs.declared.ContentType.{ContentType}
 use Rattle.records.specs.declared.State.{State}
@@ -23,30 +21,13 @@ use Rattle.records.specs.Record.{contentLimit}
 use Rattle.records.specs.Protection.{lastSequence, sealing}
 use Rattle.record_server.specs.declared.RecordConnection.{RecordConnection}
 use Rattle.record_server.specs.declared.Answer.{Answer}
-use Rattle.record_server.specs.Connection.{isClosed, overTest, closedWith, closingAlert, afterRefusal}
+use Rattle.record_server.specs.Connection.{isClosed, overTest, closedWith, closingAlert, afterEffect, afterRefusal}
 use Rattle.record_server.specs.Sending.{afterOver, unlessOver, nextAfter, settled, answered}
 use Rattle.record_server.specs.InnerFlight.{settledBy}
 
 -- an alert closes the connection, an R number leaves it as it was
 pub alerts-close : (r : Refusal) (c : RecordConnection) → afterRefusal r c ≡ cond (toClient r) (closedWith (closingAlert (c .writing) (numberOf r))) c
-alerts-close ShortOutput c = refl
-alerts-close BadTable c = refl
-alerts-close BadSetting c = refl
-alerts-close ConnectionOver c = refl
-alerts-close BadValue c = refl
-alerts-close AlreadyListed c = refl
-alerts-close NotListed c = refl
-alerts-close TableFull c = refl
-alerts-close SequenceSpent c = refl
-alerts-close UnexpectedMessage c = refl
-alerts-close BadRecordMac c = refl
-alerts-close RecordOverflow c = refl
-alerts-close HandshakeFailure c = refl
-alerts-close IllegalParameter c = refl
-alerts-close DecodeError c = refl
-alerts-close DecryptError c = refl
-alerts-close ProtocolVersion c = refl
-alerts-close UnknownPskIdentity c = refl
+alerts-close r c = by-receiver (λ e. afterEffect e c (numberOf r)) refl refl refl refl r
 
 -- ---- outcomes whose refusals are the host's
 

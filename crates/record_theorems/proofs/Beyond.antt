@@ -39,8 +39,8 @@ use Rattle.record_server.specs.Sending as Sending
 use Rattle.record_server.specs.Sending.{afterSending, dataRecord}
 use Rattle.record_server.specs.Taking.{Step, refuse, accept, alertStep, changedBy, handshakeStep, contentTest, contentStep, afterTest, contentDecided}
 use Rattle.record_server.specs.Taking.{unlistedFirst, openedStep, settled, takeStep}
+use Rattle.record_server.proofs.Settling.{alerts-close}
 use Rattle.record_theorems.specs.Series.{Call, takes, sends, Kept, call}
-use Rattle.record_theorems.proofs.Coming.{alerts-close}
 use Rattle.record_theorems.proofs.Taking.{took}
 use Rattle.record_theorems.proofs.Cutting.{taken}
 

@@ -7,20 +7,17 @@ use mathlib.Core.List.{List, [], _∷_, _++_}
 use lib.ListN.{length}
 use lib.Dec.{leb, eqb}
 use Rattle.refusal.specs.declared.Refusal.{Refusal}
-use Rattle.refusal.specs.declared.Refusal.the-variants.{ShortOutput, BadTable, BadSetting, ConnectionOver, BadValue}
-use Rattle.refusal.specs.declared.Refusal.the-variants.{AlreadyListed, NotListed, TableFull, SequenceSpent}
-use Rattle.refusal.specs.declared.Refusal.the-variants.{UnexpectedMessage, BadRecordMac, RecordOverflow, HandshakeFailure, IllegalParameter}
-use Rattle.refusal.specs.declared.Refusal.the-variants.{DecodeError}
-use Rattle.refusal.specs.declared.Refusal.the-variants.{DecryptError, ProtocolVersion, UnknownPskIdentity}
+use Rattle.refusal.specs.declared.Refusal.the-variants.{ShortOutput}
 use Rattle.refusal.specs.declared.Written.the-variants.{Wrote, Refused}
 use Rattle.refusal.specs.Lent.{Outcome, gives, refuses, within, answer}
 use Rattle.refusal.specs.Table.{numberOf, toClient}
 use Rattle.server.specs.KeyExchange.{View}
 use Rattle.record_server.specs.declared.RecordConnection.{RecordConnection}
-use Rattle.record_server.specs.Connection.{closedWith, closingAlert, afterRefusal}
+use Rattle.record_server.specs.Connection.{afterRefusal}
 use Rattle.record_server.specs.Sending as Sending
 use Rattle.record_server.specs.Sending.{dataRecord, afterSending}
 use Rattle.record_server.specs.Taking.{Step, refuse, accept, Settled, refused, front, settled, takeStep}
+use Rattle.record_server.proofs.Settling.{alerts-close}
 use Rattle.record_theorems.specs.Series.{Call, takes, sends, Kept, call, run, refusedToHost, came}
 
 -- none of the calls is refused to the host
@@ -29,27 +26,6 @@ Come v k [] = Unit
 Come v k (x ∷ xs) = (refusedToHost (call v k x .said) ≡ false) × Come v (call v k x .kept) xs
 
 -- ---- one call
-
-pub alerts-close : (r : Refusal) (c : RecordConnection)
-    → afterRefusal r c ≡ cond (toClient r) (closedWith (closingAlert (c .writing) (numberOf r))) c
-alerts-close ShortOutput c = refl
-alerts-close BadTable c = refl
-alerts-close BadSetting c = refl
-alerts-close ConnectionOver c = refl
-alerts-close BadValue c = refl
-alerts-close AlreadyListed c = refl
-alerts-close NotListed c = refl
-alerts-close TableFull c = refl
-alerts-close SequenceSpent c = refl
-alerts-close UnexpectedMessage c = refl
-alerts-close BadRecordMac c = refl
-alerts-close RecordOverflow c = refl
-alerts-close HandshakeFailure c = refl
-alerts-close IllegalParameter c = refl
-alerts-close DecodeError c = refl
-alerts-close DecryptError c = refl
-alerts-close ProtocolVersion c = refl
-alerts-close UnknownPskIdentity c = refl
 
 -- a refusal to the host is no alert
 host-refused : (r : Refusal) → refusedToHost (Refused r) ≡ true → toClient r ≡ false

@@ -17,8 +17,8 @@ use Rattle.records.specs.Protection.{lastSequence}
 use Rattle.record_server.specs.declared.ClosingAlert.{ClosingAlert}
 use Rattle.record_server.specs.Connection.{isClosed, isComplete, closedWith, closingAlert, alertOf, afterRefusal}
 use Rattle.record_server.specs.Taking.{Accepted, refuse, accept}
+use Rattle.record_server.proofs.Settling.{alerts-close}
 use Rattle.record_theorems.specs.Series.{sends, Kept, Seen, call, seen, refusedToHost}
-use Rattle.record_theorems.proofs.Coming.{alerts-close}
 use Rattle.record_theorems.proofs.Taking.{took}
 
 pub record Near (k k' : Kept) : Type 0 where

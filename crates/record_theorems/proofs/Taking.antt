@@ -22,9 +22,9 @@ use Rattle.records.specs.declared.Read.{Read}
 use Rattle.records.specs.Record.{whole, fragmentOf, typeOf, typeRead, recordRead}
 use Rattle.records.specs.Joining.{unfinished, heldIn}
 use Rattle.record_server.specs.Taking.{Accepted, Step, refuse, accept, front, settled, takeStep}
+use Rattle.record_server.proofs.Settling.{alerts-close}
 use Rattle.record_theorems.specs.Series.{takes, Kept, Done, call, refusedToHost}
 use Rattle.record_theorems.specs.Terms.{Warning}
-use Rattle.record_theorems.proofs.Coming.{alerts-close}
 
 -- what the call gives back for a step: `call` of a record is this, for `takeStep`
 abbrev pub took : Kept → (out : List ℕ) → Step → Done
