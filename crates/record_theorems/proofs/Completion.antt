@@ -29,7 +29,8 @@ use Rattle.record_theorems.specs.Demand3.{begun, CameRight, Completes, C
 use Rattle.record_theorems.proofs.Coming.{Come, came-come, run-came, come-append}
 use Rattle.record_theorems.proofs.Cutting.{refused-on, cut}
 use Rattle.record_theorems.proofs.Reaching.{reached}
-use Rattle.record_theorems.proofs.Standing.{Proper, reached-going, begins, change-run, changedTo}
+use Rattle.record_theorems.proofs.Standing.{Proper, reached-going, begins, changedTo}
+use Rattle.record_theorems.proofs.Onward.{change-run}
 use Rattle.record_theorems.proofs.Finishing.{waiting, Finishing, waits, completes, refused, finishing, right-completes}
 use Rattle.record_theorems.proofs.Under.{macKey, protectedAt, At, under-begins, warned, waits-on, completes-on}
 use Rattle.record_theorems.proofs.Series.{came-append, completes-behind, completes-before, completes-came}

@@ -6,6 +6,7 @@ pub mod Taking
 pub mod Cutting
 pub mod Reaching
 pub mod Standing
+pub mod Onward
 pub mod Beyond
 pub mod Parting
 pub mod Seeing

@@ -21,7 +21,8 @@ use Rattle.record_theorems.specs.Terms.{Sealed, ChangeCame, named, clien
 use Rattle.record_theorems.specs.Terms as Terms
 use Rattle.record_theorems.specs.Demand3.{CameRight}
 use Rattle.record_theorems.proofs.Coming.{Come}
-use Rattle.record_theorems.proofs.Standing.{StandsPlain, AfterPlain, Proper, still, changes, closes, plain-on}
+use Rattle.record_theorems.proofs.Standing.{StandsPlain, AfterPlain, Proper, still, changes, closes}
+use Rattle.record_theorems.proofs.Onward.{plain-on}
 use Rattle.record_theorems.proofs.Sealing.{reads-under, key-given}
 use Rattle.record_theorems.proofs.Under as Under
 use Rattle.record_theorems.proofs.Under.{macKey, Under, under-begins, AfterUnder, under-on}

@@ -11,7 +11,6 @@ use lib.Dec.{eqb}
 use Rattle.lists.specs.Lists.{same}
 use Rattle.lists.proofs.Equal.{same-eq, same-refl}
 use Rattle.refusal.specs.declared.Refusal.the-variants.{SequenceSpent}
-use Rattle.refusal.specs.declared.Written.the-variants.{Refused}
 use Rattle.keytable.specs.Table.{keyOf}
 use Rattle.keytable.proofs.Laws.{removed-gone, removed-else}
 use Rattle.server.specs.declared.Rule.{Rule}
@@ -45,7 +44,8 @@ use Rattle.record_theorems.proofs.Reaching.{change-waits, reached}
 use Rattle.record_theorems.proofs.Standing.{plainly, StandsPlain, AfterPlain, still, changes, closes, Proper, plain-once, plainStep}
 use Rattle.record_theorems.proofs.Standing.{step-of}
 use Rattle.record_theorems.proofs.Standing.{none-protected, reached-going}
-use Rattle.record_theorems.proofs.Standing.{begins, plain-on}
+use Rattle.record_theorems.proofs.Standing.{begins}
+use Rattle.record_theorems.proofs.Onward.{plain-on}
 use Rattle.record_theorems.proofs.Beyond.{Beyond, beyond-same}
 use Rattle.record_theorems.proofs.Parting.{Pair, equal, parted, reached-pair}
 use Rattle.record_theorems.proofs.Seeing.{near-self, accepted-seen}
