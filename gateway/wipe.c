@@ -1,7 +1,7 @@
 /*
  * What keeps keys from outliving their use.
  *
- * A login reaches 10,356 bytes below the caller of connection.c, and 30,852 where the library reads the records; 12,712 and 32,920 where it is built with
+ * A login reaches 8,012 bytes below the caller of connection.c, and 26,028 where the library reads the records; 10,368 and 28,096 where it is built with
  * sanitizers. The library's limit for tn_take_record, the deepest of its calls, leaves a margin for all of them.
  */
 #include "wipe.h"
