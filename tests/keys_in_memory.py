@@ -4,7 +4,7 @@
     tests/keys_in_memory.py GATEWAY CARELESS
 
 In GATEWAY nothing may be left after a session, after a failed login and after a gate was retired. CARELESS is the same program without what clears the stack
-(tests/no_wipe.c): there the keys have to be found, so that the test is seen to work.
+(tests/no_wipe.c): there keys have to be found, so that the test is seen to work.
 
 The gateway lets nobody look into it, so its memory is opened at exec, before its first instruction, by the parent that traces it. That takes no privilege.
 """
@@ -210,8 +210,8 @@ def careful(*rule, suites=CBC):
             assert found(g, text) == {"gate256's line"}, "the table in use is not found"
 
 
-def careless():
-    """The same test finds the keys where the stack is not cleared. Under tell: the trial logins that hide makes at a new table overwrite them."""
+def careless(expected):
+    """The same test finds these secrets where the stack is not cleared. Under tell: the trial logins that hide makes at a new table overwrite them."""
     with tempfile.TemporaryDirectory() as folder:
         table = Table(folder)
         with watched(CARELESS, "--table", table.file, "--rule", "tell") as g:
@@ -219,9 +219,9 @@ def careless():
             _, _, after = session(g, "gate128", key)
             assert after, "a careless gateway leaves nothing behind after a session"
             names = failed_login(g, "gate128", key, "wrong MAC")
-            assert {"raw key", "master secret"} <= names, names
+            assert expected <= names, names
             retire(g, table, ["gate256"])
-            assert found(g, {"raw key": key}), "a retired gate's key is not found"
+            assert expected & {"raw key"} <= found(g, {"raw key": key}), "a retired gate's key is not found"
             return after | names
 
 
@@ -244,10 +244,10 @@ def main():
     begun = time.monotonic()
     careful()
     careful("--rule", "tell")
-    seen = careless()
+    seen = careless({"raw key", "master secret"})
     with proved_records():
         careful(suites=())
-        seen |= careless()
+        seen |= careless({"master secret"} | KEYS_IN_USE)  # the call that is given the raw key goes on to these, over the place where it stood
     assert closed_to_others(GATEWAY) == (True, True), "its memory can be dumped"
     assert closed_to_others(CARELESS)[0] is False, "a gateway that forbids nothing is closed to others too"
     print(f"tests/keys_in_memory: no key outlives its use; without the clearing there are {', '.join(sorted(seen))} ({time.monotonic() - begun:.0f} s)")
