@@ -15,13 +15,20 @@ use Rattle.refusal.specs.declared.Refusal.{Refusal}
 use Rattle.refusal.specs.declared.Refusal.the-variants.{ShortOutput}
 use Rattle.refusal.specs.declared.Written.{Written}
 use Rattle.refusal.specs.Lent.{Outcome, gives, refuses, within, answer, Answers}
-use Rattle.c_interface.specs.Codes.{coded, refusalCode, Codes}
+use Rattle.table_edits.specs.Edits.{EditsBoth}
+use Rattle.c_interface.specs.Codes.{coded, refusalCode, Codes, CodesBoth}
 use Rattle.c_interface.specs.Inner.{count}
 use Rattle.c_interface.proofs.Signed.{handed-on}
 
 pub codes-answer : {wanted : Outcome} {out out' : List ℕ} {said : Written} {result : ℤ} → Answers wanted out said out'
     → mag result < 2 ^ 31 → result ≡ coded said → Codes wanted out (toZ w32 (ofZ w32 result)) out'
 codes-answer {result = result} a fits e = record { told = handed-on result fits ∙ e ∙ ap coded (a .told); left = a .left }
+
+-- of an edit, which leaves a list too
+pub codes-edit : {wanted : Outcome} {memory starts memory' starts' : List ℕ} {n n' : ℕ} {said : Written} {result : ℤ}
+    → EditsBoth wanted memory starts n said memory' starts' n' → mag result < 2 ^ 31 → result ≡ coded said
+    → CodesBoth wanted memory starts n (toZ w32 (ofZ w32 result)) memory' starts' n'
+codes-edit a fits e = record { table = codes-answer (a .table) fits e; list = a .list; counted = a .counted }
 
 pub refusal-codes : {r : Refusal} {out : List ℕ} {result : ℤ} → mag result < 2 ^ 31 → result ≡ refusalCode r
     → Codes (refuses r) out (toZ w32 (ofZ w32 result)) out

@@ -8,7 +8,7 @@ use lib.Dec.{eqb}
 use lib.IntN.{ℤ, pos, negsuc}
 use Rattle.refusal.specs.declared.Refusal.{Refusal}
 use Rattle.refusal.specs.declared.Refusal.the-variants.{ShortOutput, BadTable, BadSetting, ConnectionOver, BadValue}
-use Rattle.refusal.specs.declared.Refusal.the-variants.{AlreadyListed, NotListed, TableFull, SequenceSpent, BadRecordMac, RecordOverflow}
+use Rattle.refusal.specs.declared.Refusal.the-variants.{AlreadyListed, NotListed, TableFull, SequenceSpent, BadList, BadRecordMac, RecordOverflow}
 use Rattle.refusal.specs.declared.Refusal.the-variants.{UnexpectedMessage, HandshakeFailure, IllegalParameter, DecodeError, DecryptError}
 use Rattle.refusal.specs.declared.Refusal.the-variants.{ProtocolVersion, UnknownPskIdentity}
 use Rattle.refusal.specs.declared.Written.{Written}
@@ -27,6 +27,7 @@ refusalBelow n =
     (cond (eqb n 6) NotListed
     (cond (eqb n 7) TableFull
     (cond (eqb n 8) SequenceSpent
+    (cond (eqb n 9) BadList
     (cond (eqb n 1009) UnexpectedMessage
     (cond (eqb n 1019) BadRecordMac
     (cond (eqb n 1021) RecordOverflow
@@ -35,7 +36,7 @@ refusalBelow n =
     (cond (eqb n 1049) DecodeError
     (cond (eqb n 1050) DecryptError
     (cond (eqb n 1069) ProtocolVersion
-    UnknownPskIdentity))))))))))))))))
+    UnknownPskIdentity)))))))))))))))))
 
 said : ℤ → Written
 said (pos n) = Wrote n
@@ -52,6 +53,7 @@ refusal-said AlreadyListed = refl
 refusal-said NotListed = refl
 refusal-said TableFull = refl
 refusal-said SequenceSpent = refl
+refusal-said BadList = refl
 refusal-said UnexpectedMessage = refl
 refusal-said BadRecordMac = refl
 refusal-said RecordOverflow = refl

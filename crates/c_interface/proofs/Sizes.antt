@@ -1,17 +1,17 @@
--- Every outcome of the layers below has fewer than 2 ^ 31 bytes: digests and secrets by their lengths, messages by their limit; of a message's answer
--- the server promises it.
+-- Every outcome of the layers below has fewer than 2 ^ 31 bytes, or numbers where it is a list: digests and secrets by their lengths, messages by their
+-- limit, and what comes of a table by the limits of keys and tables; of a message's answer the server promises it.
 -- Assumes nothing.
 use mathlib.Core.Path.{_≡_, refl}
 use Prim.Native.Nat.{ℕ, _-_, _≤_, _<_, _^_}
 use native.Mathlib.Omega.{arith}
 use mathlib.Core.Bool.{Bool, true, false, cond, _&&_, and-eq-true-iff}
-use mathlib.Core.List.{List, _++_}
+use mathlib.Core.List.{List, _++_, map}
 use mathlib.Core.Option.{Option, none, some}
 use lib.ListN.{length, take, length-take}
 use lib.Dec.{leb, ltb, eqb}
 use borrow.Author.Tests.{leb-true, ltb-true}
 use Rattle.refusal.specs.declared.Refusal.{Refusal}
-use Rattle.refusal.specs.declared.Refusal.the-variants.{BadTable, BadValue, TableFull, ConnectionOver}
+use Rattle.refusal.specs.declared.Refusal.the-variants.{ShortOutput, BadTable, BadList, BadValue, TableFull, ConnectionOver}
 use Rattle.refusal.specs.Lent.{Outcome, gives, refuses}
 use Rattle.endian.specs.Vector.{writable}
 use Rattle.sha256.specs.Hash.{limit, sha256, digest}
@@ -25,9 +25,13 @@ use Rattle.keys.proofs.Lengths.{length-premaster}
 use Rattle.layout.specs.Layout.{Layout, bytes, written, valid}
 use Rattle.layout.specs.Place.{contents}
 use Rattle.extensions.specs.Extensions.{Ext, extensionBytes, extensionWritten}
-use Rattle.keytable.specs.Table.{lines, joined, tableRefusal, keyOf, found}
-use Rattle.keytable.proofs.Lookups.{key-size}
-use Rattle.table_edits.specs.Edits.{Edit, subject, listed, linesAfter, allowed, misplaced, sized, unless, edited, editedIn}
+use Rattle.keytable.specs.Table.{lines, joined, validKey, decoded, wellFormed, tableRefusal, firstText, keyOfText, found}
+use Rattle.keytable.specs.Starts.{startsOf, listMade, listRefusal, lineAt, keyAt, lookedUp}
+use Rattle.keytable.proofs.Tests.{key-sound}
+use Rattle.keytable.proofs.Pairs.{length-decoded}
+use Rattle.keytable.proofs.Agreement.{well-formed-tests}
+use Rattle.keytable.proofs.Listed.{count-lines}
+use Rattle.table_edits.specs.Edits.{Edit, subject, listed, linesAfter, allowed, misplaced, sized, unless, edited, roomed, editedIn}
 use Rattle.server.specs.declared.Heard.{Heard}
 use Rattle.server.specs.declared.Phase.{Phase}
 use Rattle.server.specs.declared.Connection.{Connection}
@@ -119,12 +123,25 @@ extension-small e = bytes-if-small (ltb (e .kind) 65536 && writable 2 (e .conten
 
 -- ---- the table
 
-pub lookup-small : (table identity : List ℕ) → Small (found (keyOf table identity))
-lookup-small table identity = go (keyOf table identity) refl
+-- a key has at most 64 bytes, whatever text it is read from
+text-key-small : (text : Option (List ℕ)) → Small (found (keyOfText text))
+text-key-small none = omega arith
+text-key-small (some s) = go (validKey s) refl
   where
-    go : (o : Option (List ℕ)) → keyOf table identity ≡ o → Small (found o)
-    go none e = omega arith
-    go (some key) e = let n = key-size table identity key e in omega arith
+    go : (t : Bool) → validKey s ≡ t → Small (found (cond t (some (decoded s)) none))
+    go true valid = let key = key-sound s valid in rw (length-decoded s) (omega arith)
+    go false valid = omega arith
+
+pub lookup-small : (table starts : List ℕ) (count : ℕ) (identity : List ℕ) → Small (lookedUp table starts count identity)
+unfolding lookedUp keyAt
+lookup-small table starts count identity =
+    outcome-if-small (leb count (length starts)) _ BadList (text-key-small (firstText identity (map (lineAt table) (take count starts))))
+
+-- one number for each line
+pub list-small : (table : List ℕ) → Small (listMade table)
+list-small table = bytes-if-small (wellFormed table) (startsOf table) BadTable (λ ok.
+    let most : length (lines table) ≤ 256 = leb-true (length (lines table)) 256 (well-formed-tests table ok .2) in
+    rw (count-lines 0 (lines table)) (omega arith))
 
 sized-small : (ls : List (List ℕ)) → Small (sized ls)
 sized-small ls = bytes-if-small (leb (length ls) 256 && leb (length (joined ls)) 65536) (joined ls) TableFull (λ ok.
@@ -136,17 +153,24 @@ unless-small : (r : Option Refusal) (o : Outcome) → Small o → Small (unless 
 unless-small none o h = h
 unless-small (some r) o h = omega arith
 
-pub edit-small : (memory : List ℕ) (n : ℕ) (e : Edit) → Small (editedIn memory n e)
+roomed-small : (room : ℕ) (o : Outcome) → Small o → Small (roomed room o)
+roomed-small room (gives table) h = bytes-if-small (leb (length (lines table)) room) table ShortOutput (λ _. h)
+roomed-small room (refuses r) h = h
+
+pub edit-small : (memory : List ℕ) (n : ℕ) (starts : List ℕ) (count : ℕ) (e : Edit) → Small (editedIn memory n starts count e)
 unfolding edited editedIn
-edit-small memory n e =
+edit-small memory n starts count e =
     let t = take n memory in
     let made : Outcome = sized (linesAfter e (lines t)) in
     let placed : Outcome = unless (misplaced e (listed (subject e) (lines t))) made in
     let named : Outcome = unless (cond (allowed e) none (some BadValue)) placed in
-    outcome-if-small (leb n (length memory)) (edited e t) BadTable
+    let roomy : Outcome = roomed (length starts) (edited e t) in
+    outcome-if-small (leb n (length memory)) (unless (listRefusal t starts count) roomy) BadTable
+    (unless-small (listRefusal t starts count) roomy
+    (roomed-small (length starts) (edited e t)
     (unless-small (tableRefusal t) named
     (unless-small (cond (allowed e) none (some BadValue)) placed
-    (unless-small (misplaced e (listed (subject e) (lines t))) made (sized-small (linesAfter e (lines t))))))
+    (unless-small (misplaced e (listed (subject e) (lines t))) made (sized-small (linesAfter e (lines t))))))))
 
 -- ---- the server's steps
 

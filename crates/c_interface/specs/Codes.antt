@@ -1,5 +1,5 @@
 -- What comes back to C: one number for each answer, and what is left in the memory that was lent.
--- n bytes written is n (and so 0 where something is accepted), R1 to R9 are -1 to -9, and the alert a is -1000 - a.
+-- n bytes written is n (and so 0 where something is accepted), R1 to R10 are -1 to -10, and the alert a is -1000 - a.
 use mathlib.Core.Path.{_≡_}
 use Prim.Native.Nat.{ℕ, _+_}
 use mathlib.Core.Bool.{cond}
@@ -12,6 +12,7 @@ use Rattle.refusal.specs.declared.Written.{Written}
 use Rattle.refusal.specs.declared.Written.the-variants.{Wrote, Refused}
 use Rattle.refusal.specs.Table.{numberOf, toClient}
 use Rattle.refusal.specs.Lent.{Outcome, within, answer, after}
+use Rattle.table_edits.specs.Edits.{startsAfter, countAfter}
 
 abbrev pub refusalCode : Refusal → ℤ
 refusalCode r = negℤ (pos (cond (toClient r) (1000 + numberOf r) (numberOf r)))
@@ -26,6 +27,12 @@ coded (Refused r) = refusalCode r
 pub record Codes (wanted : Outcome) (out : List ℕ) (result : ℤ) (out' : List ℕ) : Type 0 where
   pub told : result ≡ coded (answer (within (length out) wanted))
   pub left : out' ≡ after (within (length out) wanted) out
+
+-- An edit that was lent a table's memory and a list returned `result` and left memory', starts' and count'.
+pub record CodesBoth (wanted : Outcome) (memory starts : List ℕ) (count : ℕ) (result : ℤ) (memory' starts' : List ℕ) (count' : ℕ) : Type 0 where
+  pub table : Codes wanted memory result memory'
+  pub list : starts' ≡ startsAfter (within (length memory) wanted) starts
+  pub counted : count' ≡ countAfter (within (length memory) wanted) count
 
 -- ---- a reader
 

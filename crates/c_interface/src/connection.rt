@@ -67,17 +67,19 @@ pub extern "C" fn tn_start(
 pub extern "C" fn tn_message(
     connection: &mut [u8; 388],
     table: &[u8],
+    starts: &[u32],
+    count: usize,
     message: &[u8],
     out: &mut [u8],
     master: &mut [u8; 48],
 ) -> i32
-    ensures { λ r. ⌜ Keeps (messageCall (viewOf (now (table .entry))) (restored (now (connection .entry))) (now (message .entry)) (now (out .entry)))
+    ensures { λ r. ⌜ Keeps (messageCall (viewOf (now (table .entry)) (now (starts .entry)) count) (restored (now (connection .entry))) (now (message .entry)) (now (out .entry)))
         (now (connection .entry)) r (now (connection .exit)) ⌝ }
-    ensures { λ _. ⌜ Replies (viewOf (now (table .entry))) (restored (now (connection .entry))) (now (message .entry))
+    ensures { λ _. ⌜ Replies (viewOf (now (table .entry)) (now (starts .entry)) count) (restored (now (connection .entry))) (now (message .entry))
         (now (out .entry)) (now (out .exit)) (now (master .entry)) (now (master .exit)) ⌝ }
 {
     let bytes = *connection;
-    let reply = server::message(saved::restore(bytes), table, message, out);
+    let reply = server::message(saved::restore(bytes), table, starts, count, message, out);
     if reply.handed {
         let secret = reply.master;
         *master = secret;

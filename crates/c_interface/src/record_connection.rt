@@ -85,22 +85,32 @@ fn connection_of(connection: &[u8; 576]) -> RecordConnection
 pub extern "C" fn tn_take_record(
     connection: &mut [u8; 576],
     table: &[u8],
+    starts: &[u32],
+    count: usize,
     received: &[u8],
     memory: &mut [u8],
     out: &mut [u8],
     master: &mut [u8; 48],
     told: &mut [u32; 4],
 ) -> i32
-    ensures { λ r. ⌜ KeepsRecord (takeCall (viewOf (now (table .entry))) (restored (now (connection .entry)))
+    ensures { λ r. ⌜ KeepsRecord (takeCall (viewOf (now (table .entry)) (now (starts .entry)) count) (restored (now (connection .entry)))
         (now (received .entry)) (now (memory .entry)) (now (out .entry)) .said)
-        (takeCall (viewOf (now (table .entry))) (restored (now (connection .entry)))
+        (takeCall (viewOf (now (table .entry)) (now (starts .entry)) count) (restored (now (connection .entry)))
         (now (received .entry)) (now (memory .entry)) (now (out .entry)) .next)
         (now (connection .entry)) r (now (connection .exit)) ⌝ }
-    ensures { λ _. ⌜ TakesRecord (takeCall (viewOf (now (table .entry))) (restored (now (connection .entry)))
+    ensures { λ _. ⌜ TakesRecord (takeCall (viewOf (now (table .entry)) (now (starts .entry)) count) (restored (now (connection .entry)))
         (now (received .entry)) (now (memory .entry)) (now (out .entry)))
         (now (out .exit)) (now (memory .exit)) (now (master .entry)) (now (master .exit)) (now (told .entry)) (now (told .exit)) ⌝ }
 {
-    let taken = record_server::take(connection_of(connection), table, received, memory, out);
+    let taken = record_server::take(
+        connection_of(connection),
+        table,
+        starts,
+        count,
+        received,
+        memory,
+        out,
+    );
     let said = taken.said;
     let holds = taken.holds;
     let next = taken.next;

@@ -6,17 +6,26 @@
 // A call is one byte, and what belongs to it: 1 start (rule, then random, hint and stand-in key, each
 // with its length in one byte); 2 the table from now on (length in three bytes); 3 a message (room of
 // the output in one byte, length in three bytes); 4 a change of cipher; 5 an alert (level,
-// description); 6 the key block under the last master secret (suite, server random, client random).
+// description); 6 the key block under the last master secret (suite, server random, client random);
+// 7 another list of line starts from now on (the count in three bytes, then in two bytes a place of the
+// list's 257, and the number there in three). With a table that is well formed its own list comes, with
+// another one the list stays.
 use refusal::Written;
 use server::Answer;
 use server::Connection;
 use server::Named;
 use server::Reply;
 
-// What is kept from call to call; the table is beside it.
+// What is kept from call to call; the table and the list of its line starts are beside it.
 struct Kept {
     connection: Connection,
     master: [u8; 48],
+}
+
+// How long the table is, and how many line starts the list has.
+struct Sizes {
+    table: usize,
+    count: usize,
 }
 
 fn print_bytes(bytes: &[u8]) {
@@ -100,9 +109,16 @@ fn replied(kept: Kept, reply: Reply) -> Kept {
 }
 
 // A message's line: what was said, and the whole output.
-fn deliver(kept: Kept, table: &[u8], bytes: &[u8], out: &mut [u8]) -> Kept {
+fn deliver(
+    kept: Kept,
+    table: &[u8],
+    starts: &[u32],
+    count: usize,
+    bytes: &[u8],
+    out: &mut [u8],
+) -> Kept {
     let connection = kept.connection;
-    let reply = server::message(connection, table, bytes, out);
+    let reply = server::message(connection, table, starts, count, bytes, out);
     let said = reply.said;
     lines::text(b"message ");
     print_said(said);
@@ -110,7 +126,8 @@ fn deliver(kept: Kept, table: &[u8], bytes: &[u8], out: &mut [u8]) -> Kept {
     replied(kept, reply)
 }
 
-fn message(kept: Kept, table: &[u8]) -> Kept {
+// The table is the front of its buffer.
+fn message(kept: Kept, table: &[u8], starts: &[u32], sizes: Sizes) -> Kept {
     let mut bytes = [0u8; 16400];
     let mut lent = [0xeeu8; 255];
     let room = lines::byte() as usize;
@@ -118,7 +135,9 @@ fn message(kept: Kept, table: &[u8]) -> Kept {
     lines::fill(&mut bytes, size);
     deliver(
         kept,
-        table,
+        lines::part(table, 0, sizes.table),
+        starts,
+        sizes.count,
         lines::part(&bytes, 0, size),
         &mut lent[255 - room..],
     )
@@ -156,12 +175,12 @@ fn key_block(kept: Kept) -> Kept {
     kept
 }
 
-fn once(call: u8, kept: Kept, table: &[u8]) -> Kept {
+fn once(call: u8, kept: Kept, table: &[u8], starts: &[u32], sizes: Sizes) -> Kept {
     if call == 1 {
         return start(kept);
     }
     if call == 3 {
-        return message(kept, table);
+        return message(kept, table, starts, sizes);
     }
     if call == 4 {
         return change(kept);
@@ -185,18 +204,49 @@ fn nothing() -> Kept {
     }
 }
 
-// The size of the table from now on: a call 2 brings another one.
-fn next_table(call: u8, table: &mut [u8], size: usize) -> usize {
-    if call != 2 {
-        return size;
-    }
+// Call 2: another table, and its list where it is well formed.
+fn new_table(table: &mut [u8], starts: &mut [u32], sizes: Sizes) -> Sizes {
     let n = lines::number24();
-    lines::fill(table, n)
+    let size = lines::fill(table, n);
+    let made = keytable::make_list(lines::part(table, 0, size), starts);
+    match made {
+        Written::Wrote(count) => Sizes { table: size, count },
+        Written::Refused(_) => Sizes {
+            table: size,
+            count: sizes.count,
+        },
+    }
+}
+
+// Call 7: another count, and another number at a place of the list.
+fn new_list(starts: &mut [u32], sizes: Sizes) -> Sizes {
+    let count = lines::number24();
+    let at = lines::number16();
+    let start = lines::number24() as u32;
+    if at < starts.len() {
+        starts[at] = start;
+    }
+    Sizes {
+        table: sizes.table,
+        count,
+    }
+}
+
+// The sizes of table and list from now on: calls 2 and 7 bring others.
+fn next_table(call: u8, table: &mut [u8], starts: &mut [u32], sizes: Sizes) -> Sizes {
+    if call == 2 {
+        return new_table(table, starts, sizes);
+    }
+    if call == 7 {
+        return new_list(starts, sizes);
+    }
+    sizes
 }
 
 fn main() {
     let mut table = [0u8; 70000];
-    let mut size: usize = 0;
+    let mut starts = [0u32; 257];
+    let mut sizes = Sizes { table: 0, count: 0 };
     let mut kept = nothing();
     let mut calls: usize = 0;
     while calls < 65536 {
@@ -204,9 +254,9 @@ fn main() {
         if call == 0 {
             break;
         }
-        let n = next_table(call, &mut table, size);
-        size = n;
-        let next = once(call, kept, lines::part(&table, 0, size));
+        let others = next_table(call, &mut table, &mut starts, sizes);
+        sizes = others;
+        let next = once(call, kept, &table, &starts, sizes);
         kept = next;
         calls += 1;
     }

@@ -13,7 +13,7 @@ use Rattle.keytable.specs.WellFormed.{Line, ValidLine, identityIn, WellF
 use Rattle.lists.proofs.Tests.{and-left, and-right, both}
 use Rattle.keytable.proofs.Tests.{identity-sound, identity-complete, key-sound, key-complete}
 use Rattle.keytable.proofs.Texts.{upto-append, past-append, parted, lineOf, joined-lines, text-parted}
-use Rattle.keytable.proofs.Texts.{identity-no-colon, lines-text, ended-text, lines-joined}
+use Rattle.keytable.proofs.Texts.{identity-no-colon, lines-text, ended-text}
 use Rattle.lists.proofs.Equal.{same-refl, same-not}
 use Rattle.lists.proofs.Distinct.{distinct-sound, distinct-complete}
 
@@ -88,9 +88,6 @@ module _ (ls : List (List ℕ)) (good : each validLine ls ≡ true) where
     few-lines = rw (length-map ls parted) few;
     few-bytes = small;
   }
-
-  pub joined-back : lines (joined ls) ≡ ls
-  joined-back = lines-joined ls good (lines-sound ls good)
 
 pub sound : (t : List ℕ) → wellFormed t ≡ true → WellFormed t
 sound t h =

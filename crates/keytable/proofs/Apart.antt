@@ -4,16 +4,15 @@ use mathlib.Core.Path.{_≡_, refl, sym, ap, _∙_}
 use Prim.Native.Nat.{ℕ, zero, suc, _+_, _-_, _*_, _%_, _≤_, _<_}
 use native.Mathlib.Omega.{arith}
 use native.Mathlib.Numerals.{add-one}
-use native.Mathlib.Decide.{ℕ-discrete}
 use mathlib.Core.Bool.{Bool, true, false, or-true}
 use mathlib.Core.List.{List, [], _∷_, _++_, map, map-append, append-assoc, append-nil}
 use lib.ListN.{length, take, drop, getD, set, drop-of-length-le, length-drop}
-use lib.Seq.{take-suc, take-take, take-suc-set, getD-set-same, getD-set-other}
+use lib.Seq.{take-suc, take-take, take-suc-set}
 use Rattle.lists.specs.Lists.{any, distinct, same, part}
 use Rattle.keytable.specs.Table.{lineEnd, colon, upto, lines, identityOf}
-use Rattle.keytable.specs.Inner.{identityAt, earlier, fingerprint, Kept}
+use Rattle.keytable.specs.Inner.{identityAt, earlier, fingerprint}
 use Rattle.lists.proofs.Walks.{left-cons}
-use Rattle.lists.proofs.Equal.{same-not, same-either}
+use Rattle.lists.proofs.Equal.{same-either}
 use Rattle.lists.proofs.Distinct.{any-append, distinct-snoc, distinct-repeat}
 use Rattle.keytable.proofs.Lines.{length-upto, take-upto, line-is, line-here, no-lines}
 
@@ -21,7 +20,7 @@ use Rattle.keytable.proofs.Lines.{length-upto, take-upto, line-is, line
 
 module _ (s : List ℕ) (i p : ℕ) where
   pub fingerprint-more : i < length s → fingerprint 0 s ≡ fingerprint p (drop i s)
-      → fingerprint 0 s ≡ fingerprint (p % 8388608 * 257 + getD s i 0) (drop (i + 1) s)
+      → fingerprint 0 s ≡ fingerprint (p % 67108864 * 33 + getD s i 0) (drop (i + 1) s)
   fingerprint-more h now = now ∙ ap (fingerprint p) (left-cons s i h)
 
   pub fingerprint-end : length s ≤ i → fingerprint 0 s ≡ fingerprint p (drop i s) → p ≡ fingerprint 0 s
@@ -63,10 +62,6 @@ module _ (t starts identity : List ℕ) (k : ℕ) (inside : k < length starts) w
 
   pub one-hit : (n : ℕ) → k < n → same identity (identityAt t (getD starts k 0)) ≡ true → true ≡ any (same identity) (earlier t starts n)
   one-hit n below e = sym (any-at (same identity) (identityAt t) n starts k below inside e)
-
--- identities with other numbers are others
-pub fingerprint-other : (a b : List ℕ) (p q : ℕ) → p ≡ fingerprint 0 a → q ≡ fingerprint 0 b → (q ≡ p → ⊥) → same a b ≡ false
-fingerprint-other a b p q ep eq other = same-not a b (λ e. other (eq ∙ ap (fingerprint 0) (sym e) ∙ sym ep))
 
 -- ---- a turn of the loop over the lines: the line from `at` to `end` is the n-th, and p the number of its identity
 
@@ -110,13 +105,3 @@ pub distinct-end : (t starts : List ℕ) (at n : ℕ) → length t ≤ at
 distinct-end t starts at n end all now =
     let none : map identityOf (lines (drop at t)) ≡ [] = ap (map identityOf) (no-lines t at end) in
     sym (ap (distinct same) (all ∙ ap (λ (ids : List (List ℕ)). earlier t starts n ++ ids) none ∙ append-nil (earlier t starts n)) ∙ now)
-
-pub kept-on : (t starts fingerprints : List ℕ) (at n p : ℕ) → at ≤ length t → n < length starts → n < length fingerprints
-    → p ≡ fingerprint 0 (identityAt t at) → Kept t starts fingerprints n → Kept t (set starts n at) (set fingerprints n p) (n + 1)
-kept-on t starts fingerprints at n p h hs hp e kept k below = go (ℕ-discrete k n)
-  where
-    go : Dec (k ≡ n) → (getD (set starts n at) k 0 ≤ length t)
-        × (getD (set fingerprints n p) k 0 ≡ fingerprint 0 (identityAt t (getD (set starts n at) k 0)))
-    go (yes same) = rw (same, getD-set-same starts n at 0 hs, getD-set-same fingerprints n p 0 hp) (h, e)
-    go (no other) =
-        rw (getD-set-other starts n k at 0 other, getD-set-other fingerprints n k p 0 other) (kept k (omega arith))

@@ -1,10 +1,15 @@
 pub mod Agreement
 pub mod Apart
+pub mod Chains
 pub mod Laws
 pub mod Lines
+pub mod Listed
 pub mod Lookups
 pub mod Matching
 pub mod Pairs
+pub mod Reading
+pub mod Scanned
+pub mod Scanning
 pub mod Spots
 pub mod Tests
 pub mod Texts

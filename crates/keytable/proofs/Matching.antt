@@ -1,78 +1,83 @@
--- The comparison of an identity with the front of a line, byte by byte, and what it makes of the search for a line.
--- Assumes nothing.
-use mathlib.Core.Path.{_≡_, refl, sym, _∙_}
-use Prim.Native.Nat.{ℕ, suc, _+_, _-_, _≤_, _<_}
+-- The comparison of an identity with what stands at a start, byte by byte, and what it makes of the search by a list. Assumes nothing.
+use mathlib.Core.Path.{_≡_, refl, sym, ap, _∙_}
+use Prim.Native.Nat.{ℕ, _+_, _≤_, _<_}
 use native.Mathlib.Omega.{arith}
+use mathlib.Core.Bool.{Bool, true, false, cond}
 use mathlib.Core.List.{List, [], _∷_}
 use mathlib.Core.Option.{none, some}
 use lib.ListN.{length, drop, getD, drop-of-length-le}
-use lib.Seq.{drop-cons}
-use native.Mathlib.Numerals.{add-one}
-use borrow.Author.Tests.{eq-eqb, ne-eqb}
-use Rattle.keytable.specs.declared.entries.Hit.the-variants.{Text}
-use Rattle.keytable.specs.Table.{colon, lineEnd, lines, upto, keyText, placed}
-use Rattle.lists.specs.Lists.{part}
-use Rattle.lists.proofs.Parts.{length-part}
+use lib.Dec.{eqb}
+use borrow.Author.Tests.{eq-eqb, ne-eqb, eqb-true, eqb-false}
 use Rattle.lists.proofs.Walks.{left-cons}
-use Rattle.keytable.proofs.Lines.{line-within, line-here}
-
--- a part that is not empty: its first element, and the part after it
-part-cons : (s : List ℕ) (from to : ℕ) → from < to → to ≤ length s → part from (to - from) s ≡ getD s from 0 ∷ part (from + 1) (to - (from + 1)) s
-part-cons s from to h k =
-    let one-more : to - from ≡ suc (to - (from + 1)) = omega arith in
-    rw (one-more, drop-cons s from 0 (omega arith)) (rw (← add-one from))
-
-part-empty : (s : List ℕ) (from to : ℕ) → to ≤ from → part from (to - from) s ≡ []
-part-empty s from to h = let none : to - from ≡ 0 = omega arith in rw none
+use Rattle.keytable.specs.declared.entries.Hit.the-variants.{Line}
+use Rattle.keytable.specs.Table.{colon, lineEnd, upto, keyText}
+use Rattle.keytable.specs.Starts.{lineAt, placed}
+use Rattle.keytable.specs.Inner.{isSome}
+use Rattle.keytable.proofs.Spots.{size}
 
 no-text : (identity : List ℕ) → keyText identity [] ≡ none
 no-text [] = refl
 no-text (i ∷ is) = refl
 
--- k bytes of the identity are at the front of the line from `at` to `end`
-module _ (t identity : List ℕ) (at k end : ℕ) where
+-- what stands at a place of the table, by its first byte
+pub line-cons : (t : List ℕ) (at : ℕ) → at < length t
+    → lineAt t at ≡ cond (eqb (getD t at 0) lineEnd) [] (getD t at 0 ∷ lineAt t (at + 1))
+line-cons t at inside = ap (upto lineEnd) (left-cons t at inside)
+
+-- i bytes of the identity stand at `at`
+module _ (t identity : List ℕ) (at i : ℕ) where
   abbrev pub Matched : Type 0
-  Matched = keyText identity (part at (end - at) t) ≡ keyText (drop k identity) (part (at + k) (end - (at + k)) t)
+  Matched = keyText identity (lineAt t at) ≡ keyText (drop i identity) (lineAt t (at + i))
 
-  module _ (inside : at + k < end) (within : end ≤ length t) where
-    pub match-more : k < length identity → getD t (at + k) 0 ≡ getD identity k 0 → Matched
-        → keyText identity (part at (end - at) t) ≡ keyText (drop (k + 1) identity) (part (at + (k + 1)) (end - (at + (k + 1))) t)
-    match-more h same now =
-        let next : at + (k + 1) ≡ at + k + 1 = omega arith in
-        now ∙ rw (part-cons t (at + k) end inside within, left-cons identity k h, next) (rw (eq-eqb _ _ same))
+  module _ (inside : at + i < length t) (now : Matched) where
+    module _ (h : i < length identity) where
+      pub match-more : getD t (at + i) 0 ≡ getD identity i 0 → (getD t (at + i) 0 ≡ lineEnd → ⊥)
+          → keyText identity (lineAt t at) ≡ keyText (drop (i + 1) identity) (lineAt t (at + (i + 1)))
+      match-more same other =
+          let next : at + (i + 1) ≡ at + i + 1 = omega arith in
+          now ∙ rw (line-cons t (at + i) inside, left-cons identity i h, ne-eqb _ _ other, next) (rw (eq-eqb _ _ same))
 
-    pub match-other : k < length identity → (getD t (at + k) 0 ≡ getD identity k 0 → ⊥) → Matched
-        → keyText identity (part at (end - at) t) ≡ none
-    match-other h other now =
-        now ∙ rw (part-cons t (at + k) end inside within, left-cons identity k h) (rw (ne-eqb _ _ other))
+      pub match-other : (getD t (at + i) 0 ≡ getD identity i 0 → ⊥) → keyText identity (lineAt t at) ≡ none
+      match-other other = now ∙ rw (line-cons t (at + i) inside, left-cons identity i h) (go (eqb (getD t (at + i) 0) lineEnd))
+        where
+          go : (b : Bool) → keyText (getD identity i 0 ∷ drop (i + 1) identity) (cond b [] (getD t (at + i) 0 ∷ lineAt t (at + i + 1))) ≡ none
+          go true = refl
+          go false = rw (ne-eqb _ _ other)
 
-    pub match-colon : k ≡ length identity → getD t (at + k) 0 ≡ colon → Matched
-        → keyText identity (part at (end - at) t) ≡ some (part (at + k + 1) (end - (at + k + 1)) t)
-    match-colon h same now =
-        now ∙ rw (part-cons t (at + k) end inside within, drop-of-length-le identity {i = k} (omega arith)) (rw (eq-eqb _ _ same))
+      pub match-ended : getD t (at + i) 0 ≡ lineEnd → keyText identity (lineAt t at) ≡ none
+      match-ended same = now ∙ rw (line-cons t (at + i) inside, left-cons identity i h, eq-eqb _ _ same)
 
-    pub match-longer : k ≡ length identity → (getD t (at + k) 0 ≡ colon → ⊥) → Matched
-        → keyText identity (part at (end - at) t) ≡ none
-    match-longer h other now =
-        now ∙ rw (part-cons t (at + k) end inside within, drop-of-length-le identity {i = k} (omega arith)) (rw (ne-eqb _ _ other))
+    module _ (h : i ≡ length identity) where
+      whole : drop i identity ≡ []
+      whole = drop-of-length-le identity {i = i} (omega arith)
 
-  pub match-end : end ≤ at + k → Matched → keyText identity (part at (end - at) t) ≡ none
-  match-end h now = now ∙ rw (part-empty t (at + k) end h) (no-text (drop k identity))
+      pub match-colon : getD t (at + i) 0 ≡ colon → keyText identity (lineAt t at) ≡ some (lineAt t (at + i + 1))
+      match-colon same = now ∙ rw (line-cons t (at + i) inside, whole, same)
 
--- the search from `at` on, where a line stands that ends at `end`
-module _ (t identity : List ℕ) (at end : ℕ) (h : at < length t) (e : end ≡ at + length (upto lineEnd (drop at t)))
-    (now : placed 0 identity (lines t) ≡ placed at identity (lines (drop at t))) where
-  here : lines (drop at t) ≡ part at (end - at) t ∷ lines (drop (end + 1) t)
-  here = line-here t at end (omega arith) e h
+      pub match-longer : (getD t (at + i) 0 ≡ colon → ⊥) → keyText identity (lineAt t at) ≡ none
+      match-longer other = now ∙ rw (line-cons t (at + i) inside, whole) (go (eqb (getD t (at + i) 0) lineEnd))
+        where
+          go : (b : Bool) → keyText [] (cond b [] (getD t (at + i) 0 ∷ lineAt t (at + i + 1))) ≡ none
+          go true = refl
+          go false = rw (ne-eqb _ _ other)
 
-  line-ends : at + length (part at (end - at) t) ≡ end
-  line-ends =
-      let within = line-within t at end (omega arith) e in
-      omega (arith, length-part t at (end - at) (omega arith))
+      pub match-whole : eqb (getD t (at + i) 0) colon ≡ isSome (keyText identity (lineAt t at))
+      match-whole = go (eqb (getD t (at + i) 0) colon) refl
+        where
+          go : (b : Bool) → eqb (getD t (at + i) 0) colon ≡ b → b ≡ isSome (keyText identity (lineAt t at))
+          go true e = rw (match-colon (eqb-true _ _ e))
+          go false e = rw (match-longer (eqb-false _ _ e))
 
-  pub search-on : keyText identity (part at (end - at) t) ≡ none → placed 0 identity (lines t) ≡ placed (end + 1) identity (lines (drop (end + 1) t))
-  search-on m = now ∙ rw here (rw (m, line-ends))
+  pub match-end : length t ≤ at + i → Matched → keyText identity (lineAt t at) ≡ none
+  match-end h now = now ∙ rw (drop-of-length-le t {i = at + i} h) (no-text (drop i identity))
 
-  pub search-hit : (text : List ℕ) → keyText identity (part at (end - at) t) ≡ some text
-      → Text (at + length identity + 1) end ≡ placed 0 identity (lines t)
-  search-hit text m = sym (now ∙ rw here (rw (m, line-ends)))
+-- the search from the k-th start on
+module _ (t starts identity : List ℕ) (k : ℕ) (h : k < length starts) (now : placed 0 identity t starts ≡ placed k identity t (drop k starts)) where
+  pub search-on : keyText identity (lineAt t (getD starts k 0)) ≡ none → placed 0 identity t starts ≡ placed (k + 1) identity t (drop (k + 1) starts)
+  search-on m = now ∙ rw (left-cons starts k h) (rw m)
+
+  pub search-hit : (from to : ℕ) → from ≡ getD starts k 0 + length identity + 1 → to ≡ from + length (lineAt t from)
+      → keyText identity (lineAt t (getD starts k 0)) ≡ some (lineAt t from) → Line k from to ≡ placed 0 identity t starts
+  search-hit from to start end m =
+      let ends : getD starts k 0 + length (lineAt t (getD starts k 0)) ≡ to = omega (arith, size t identity (getD starts k 0) (lineAt t from) m) in
+      sym (now ∙ rw (left-cons starts k h) (rw (m, ends, ← start)))

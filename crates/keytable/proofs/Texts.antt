@@ -138,14 +138,3 @@ lines-text (l ∷ ls) h =
 pub ended-text : (ls : List Line) → ended (text ls) ≡ true
 ended-text [] = refl
 ended-text (l ∷ ls) = ap ended (text-cons l ls) ∙ ended-end (lineOf l) (text ls) ∙ ended-text ls
-
--- and so are those of valid lines, each with its 0A
-pub lines-joined : (ls : List (List ℕ)) → each validLine ls ≡ true → Each ValidLine (map parted ls) → lines (joined ls) ≡ ls
-lines-joined ls v good =
-    ap lines (sym (text-parted ls v)) ∙ lines-text (map parted ls) good ∙ go ls v
-  where
-    go : (xs : List (List ℕ)) → each validLine xs ≡ true → map lineOf (map parted xs) ≡ xs
-    go [] h = refl
-    go (x ∷ xs) h =
-        ap₂ (λ (a : List ℕ) (b : List (List ℕ)). a ∷ b) (valid-parted x (and-left (validLine x) (each validLine xs) h))
-        (go xs (and-right (validLine x) (each validLine xs) h))

@@ -1,3 +1,4 @@
 pub mod Inner
+pub mod Starts
 pub mod Table
 pub mod WellFormed

@@ -12,8 +12,6 @@ use Rattle.refusal.specs.declared.Refusal.{Refusal}
 use Rattle.refusal.specs.declared.Refusal.the-variants.{BadTable, UnknownPskIdentity}
 use Rattle.keytable.specs.declared.Judged.{Judged}
 use Rattle.keytable.specs.declared.Judged.the-variants.{Good, Refused}
-use Rattle.keytable.specs.declared.entries.Hit.{Hit}
-use Rattle.keytable.specs.declared.entries.Hit.the-variants.{Text, Nothing}
 use Rattle.utf8.specs.Utf8.{validUtf8}
 
 abbrev pub lineEnd : ℕ
@@ -135,16 +133,6 @@ orElse none o = o
 abbrev pub firstText : List ℕ → List (List ℕ) → Option (List ℕ)
 firstText identity [] = none
 firstText identity (l ∷ ls) = orElse (keyText identity l) (firstText identity ls)
-
-abbrev pub orLater : Option (List ℕ) → Hit → Hit → Hit
-orLater (some s) here later = here
-orLater none here later = later
-
--- Where that text stands, from its start to the end of its line: the lines stand from `at` on, each with its 0A.
-abbrev pub placed : ℕ → List ℕ → List (List ℕ) → Hit
-placed at identity [] = Nothing
-placed at identity (l ∷ ls) =
-    orLater (keyText identity l) (Text (at + length identity + 1) (at + length l)) (placed (at + length l + 1) identity ls)
 
 abbrev pub keyIn : List ℕ → Option (List ℕ)
 keyIn s = cond (validKey s) (some (decoded s)) none

@@ -1,16 +1,22 @@
-// Whether a table is well formed.
+// Whether identities and lines are those of a table.
 ghost use mathlib.Core.Path.{_≡_};
-ghost use Rattle.lists.specs.Lists.{each};
-ghost use Rattle.keytable.specs.Table.{lines, validIdentity, validLine, ended, wellFormed};
+ghost use Prim.Native.Nat.{_<_};
+ghost use lib.ListN.{length};
+ghost use Rattle.keytable.specs.Table.{validIdentity, ended};
+ghost use Rattle.keytable.specs.Inner.{sizedKey, sizedIdentity, lineParts};
 use crate::classes::Class;
 use crate::classes::all;
-use crate::distinct::distinct;
-use crate::entries::line_end;
-use crate::hex::valid_key;
+use crate::classes::class_end;
 
-// Whether s is 1 to 128 bytes of UTF-8 that an identity may have.
-pub fn valid_identity(s: &[u8]) -> bool
-    ensures { λ r. ⌜ r ≡ validIdentity (now (s .entry)) ⌝ }
+// The line at a place: where its colon and its end are, if it is one of a table.
+pub(crate) enum Line {
+    Parts(usize, usize),
+    Bad,
+}
+
+// Whether s, of bytes that an identity may have, is 1 to 128 of them and UTF-8.
+fn sized_identity(s: &[u8]) -> bool
+    ensures { λ r. ⌜ r ≡ sizedIdentity (now (s .entry)) ⌝ }
 {
     if s.len() < 1 {
         return false;
@@ -18,43 +24,63 @@ pub fn valid_identity(s: &[u8]) -> bool
     if s.len() > 128 {
         return false;
     }
-    if !all(Class::Plain, s) {
-        return false;
-    }
     utf8::valid_utf8(s)
 }
 
-// Whether the line, without its 0A, is an identity, a colon and a key.
-fn valid_line(l: &[u8]) -> bool
-    ensures { λ r. ⌜ r ≡ validLine (now (l .entry)) ⌝ }
+// Whether s is 1 to 128 bytes of UTF-8 that an identity may have.
+pub fn valid_identity(s: &[u8]) -> bool
+    ensures { λ r. ⌜ r ≡ validIdentity (now (s .entry)) ⌝ }
 {
-    let at = bytes::scan::find(l, 0, l.len(), 58);
-    if !valid_identity(&l[..at]) {
+    if !all(Class::Plain, s) {
         return false;
     }
-    if at == l.len() {
-        return false;
-    }
-    valid_key(&l[at + 1..])
+    sized_identity(s)
 }
 
-// Whether every line is one of identity and key.
-fn valid_lines(table: &[u8]) -> bool
-    ensures { λ r. ⌜ r ≡ each validLine (lines (now (table .entry))) ⌝ }
+// Whether a key may have so many digits.
+pub(crate) fn sized_key(digits: usize) -> bool
+    ensures { λ r. ⌜ r ≡ sizedKey digits ⌝ }
 {
-    let mut at = 0;
-    while at < table.len() {
-        let end = line_end(table, at);
-        if !valid_line(&table[at..end]) {
-            return false;
-        }
-        at = end + 1;
+    if digits < 2 {
+        return false;
     }
-    true
+    if digits > 128 {
+        return false;
+    }
+    digits % 2 == 0
+}
+
+// The line that starts at `at`. Its bytes are looked at once: those of the identity up to the colon, and the digits up to
+// the 0A.
+pub(crate) fn read_line(table: &[u8], at: usize) -> Line
+    requires { ⌜ at < length (now table) ⌝ }
+    ensures { λ r. ⌜ r ≡ lineParts (now (table .entry)) at ⌝ }
+{
+    let colon = class_end(Class::Plain, table, at);
+    if colon == table.len() {
+        return Line::Bad;
+    }
+    if table[colon] != 58 {
+        return Line::Bad;
+    }
+    let end = class_end(Class::HexDigit, table, colon + 1);
+    if end == table.len() {
+        return Line::Bad;
+    }
+    if table[end] != 10 {
+        return Line::Bad;
+    }
+    if !sized_key(end - (colon + 1)) {
+        return Line::Bad;
+    }
+    if !sized_identity(&table[at..colon]) {
+        return Line::Bad;
+    }
+    Line::Parts(colon, end)
 }
 
 // Whether the last byte is 0A, if there is one.
-fn ended(table: &[u8]) -> bool
+pub(crate) fn ended(table: &[u8]) -> bool
     ensures { λ r. ⌜ r ≡ ended (now (table .entry)) ⌝ }
 {
     let n = table.len();
@@ -62,20 +88,4 @@ fn ended(table: &[u8]) -> bool
         return true;
     }
     table[n - 1] == 10
-}
-
-// Whether the table is well formed. If not, it is R2.
-pub fn well_formed(table: &[u8]) -> bool
-    ensures { λ r. ⌜ r ≡ wellFormed (now (table .entry)) ⌝ }
-{
-    if table.len() > 65536 {
-        return false;
-    }
-    if !ended(table) {
-        return false;
-    }
-    if !valid_lines(table) {
-        return false;
-    }
-    distinct(table)
 }

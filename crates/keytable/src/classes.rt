@@ -1,9 +1,11 @@
-// Which bytes may stand in an identity and in a key, and the loop that tests all bytes of either.
+// Which bytes may stand in an identity and in a key, and how far the bytes of either go.
 ghost use mathlib.Core.Path.{_≡_};
+ghost use Prim.Native.Nat.{_≤_, _+_};
+ghost use lib.ListN.{length, drop};
 ghost use Rattle.lists.specs.Lists.{each};
 ghost use Rattle.keytable.specs.Table.{plain};
-ghost use Rattle.keytable.specs.Inner.{belongs};
-use crate::hex::digit;
+ghost use Rattle.keytable.specs.Inner.{belongs, leading};
+use crate::hex::hex_digit;
 
 pub(crate) enum Class {
     // a byte that an identity may have
@@ -31,7 +33,7 @@ fn belongs(class: Class, b: u8) -> bool
 {
     match class {
         Class::Plain => plain(b),
-        Class::HexDigit => digit(b) < 16,
+        Class::HexDigit => hex_digit(b),
     }
 }
 
@@ -47,4 +49,19 @@ pub(crate) fn all(class: Class, s: &[u8]) -> bool
         i += 1;
     }
     true
+}
+
+// Where the bytes of the class end that stand from `at` on.
+pub(crate) fn class_end(class: Class, table: &[u8], at: usize) -> usize
+    requires { ⌜ at ≤ length (now table) ⌝ }
+    ensures { λ r. ⌜ r ≡ at + length (leading (belongs class) (drop at (now (table .entry)))) ⌝ }
+{
+    let mut i = at;
+    while i < table.len() {
+        if !belongs(class, table[i]) {
+            return i;
+        }
+        i += 1;
+    }
+    i
 }

@@ -1,16 +1,12 @@
-// No identity twice: each line's identity is compared with those of the lines before it. The
-// starts of the lines and a fingerprint of each identity are kept, so that the bytes of two
-// identities are compared only where their fingerprints are equal.
+// No identity twice. Each identity has a bucket, a number that equal ones have alike; of each bucket the latest line is
+// known, and for each line the one before it in its bucket. So an identity is compared with those of its bucket alone.
 ghost use mathlib.Core.Path.{_≡_};
-ghost use mathlib.Core.Bool.{_&&_};
-ghost use mathlib.Core.List.{map};
-ghost use lib.Dec.{leb};
-ghost use Prim.Native.Nat.{_≤_, _+_};
+ghost use mathlib.Core.Bool.{true};
+ghost use Prim.Native.Nat.{_≤_};
 ghost use lib.ListN.{length};
-ghost use Rattle.lists.specs.Lists.{any, distinct, same};
-ghost use Rattle.keytable.specs.Table.{identityOf, lines};
-ghost use Rattle.keytable.specs.Inner.{identityAt, earlier, fingerprint, Kept};
-use crate::entries::line_end;
+ghost use Rattle.lists.specs.Lists.{any, same};
+ghost use Rattle.keytable.specs.Table.{validIdentity};
+ghost use Rattle.keytable.specs.Inner.{earlier, bucket, begins, fingerprint, Latest, Chained};
 
 // A number that equal byte strings have alike.
 fn fingerprint(s: &[u8]) -> u32
@@ -19,79 +15,64 @@ fn fingerprint(s: &[u8]) -> u32
     let mut p = 0u32;
     let mut i = 0;
     while i < s.len() {
-        p = p % 8388608 * 257 + s[i] as u32;
+        p = p % 67108864 * 33 + s[i] as u32;
         i += 1;
     }
     p
 }
 
-// Where the identity ends of the line that starts at `at`.
-fn identity_end(table: &[u8], at: usize) -> usize
-    requires { ⌜ at ≤ length (now table) ⌝ }
-    ensures { λ r. ⌜ r ≡ at + length (identityAt (now (table .entry)) at) ⌝ }
+// The bucket of an identity.
+pub(crate) fn bucket(s: &[u8]) -> usize
+    ensures { λ r. ⌜ r ≡ bucket (now (s .entry)) ⌝ }
 {
-    let end = line_end(table, at);
-    bytes::scan::find(table, at, end, 58)
+    (fingerprint(s) % 256) as usize
 }
 
-// Whether the line at `at` has the identity.
-fn same_identity(table: &[u8], at: usize, identity: &[u8]) -> bool
+// Whether what stands at `at` begins with the identity and a colon.
+fn begins(table: &[u8], at: usize, identity: &[u8]) -> bool
     requires { ⌜ at ≤ length (now table) ⌝ }
-    ensures { λ r. ⌜ r ≡ same (now (identity .entry)) (identityAt (now (table .entry)) at) ⌝ }
+    ensures { λ r. ⌜ r ≡ begins (now (identity .entry)) (now (table .entry)) at ⌝ }
 {
-    let end = identity_end(table, at);
-    lists::same(identity, &table[at..end])
-}
-
-// Whether one of the first n lines has the identity, whose fingerprint is p.
-fn repeated(
-    table: &[u8],
-    starts: &[u32; 256],
-    fingerprints: &[u32; 256],
-    n: usize,
-    identity: &[u8],
-    p: u32,
-) -> bool
-    requires { ⌜ n ≤ 256 ⌝ }
-    requires { ⌜ n ≤ length (now starts) ⌝ }
-    requires { ⌜ p ≡ fingerprint 0 (now identity) ⌝ }
-    requires { ⌜ Kept (now table) (now starts) (now fingerprints) n ⌝ }
-    ensures { λ r. ⌜ r ≡ any (same (now (identity .entry))) (earlier (now (table .entry)) (now (starts .entry)) n) ⌝ }
-{
-    let mut k = 0;
-    while k < n {
-        if fingerprints[k] == p {
-            if same_identity(table, starts[k] as usize, identity) {
-                return true;
-            }
+    let mut i = 0;
+    while at + i < table.len() {
+        let b = table[at + i];
+        if i == identity.len() {
+            return b == 58;
         }
-        k += 1;
+        if b != identity[i] {
+            return false;
+        }
+        if b == 10 {
+            return false;
+        }
+        i += 1;
     }
     false
 }
 
-// Whether the table has at most 256 lines and no identity stands twice in it.
-pub(crate) fn distinct(table: &[u8]) -> bool
-    requires { ⌜ length (now table) ≤ 65536 ⌝ }
-    ensures { λ r. ⌜ r ≡ (leb (length (lines (now (table .entry)))) 256 && distinct same (map identityOf (lines (now (table .entry))))) ⌝ }
+// Whether one of the first n lines has the identity. `latest` is the number, from 1 on, of the latest of them in its
+// bucket, 0 where there is none.
+pub(crate) fn repeated(
+    table: &[u8],
+    starts: &[u32; 256],
+    links: &[u16; 256],
+    n: usize,
+    latest: usize,
+    identity: &[u8],
+) -> bool
+    requires { ⌜ n ≤ 256 ⌝ }
+    requires { ⌜ n ≤ length (now starts) ⌝ }
+    requires { ⌜ validIdentity (now identity) ≡ true ⌝ }
+    requires { ⌜ Chained (now table) (now starts) (now links) n ⌝ }
+    requires { ⌜ Latest (now table) (now starts) n latest (bucket (now identity)) ⌝ }
+    ensures { λ r. ⌜ r ≡ any (same (now (identity .entry))) (earlier (now (table .entry)) (now (starts .entry)) n) ⌝ }
 {
-    let mut starts = [0u32; 256];
-    let mut fingerprints = [0u32; 256];
-    let mut n = 0;
-    let mut at = 0;
-    while at < table.len() {
-        if n == 256 {
-            return false;
+    let mut c = latest;
+    while 0 < c {
+        if begins(table, starts[c - 1] as usize, identity) {
+            return true;
         }
-        let end = identity_end(table, at);
-        let p = fingerprint(&table[at..end]);
-        if repeated(table, &starts, &fingerprints, n, &table[at..end], p) {
-            return false;
-        }
-        starts[n] = at as u32;
-        fingerprints[n] = p;
-        n += 1;
-        at = line_end(table, at) + 1;
+        c = links[c - 1] as usize;
     }
-    true
+    false
 }

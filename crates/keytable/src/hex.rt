@@ -7,6 +7,7 @@ ghost use lib.ListN.{length, drop};
 ghost use Rattle.lists.specs.Lists.{each};
 ghost use Rattle.keytable.specs.Table.{between, digit, hexDigit, validKey, decoded, keyIn, found};
 ghost use Rattle.refusal.specs.Lent.{Answers};
+use crate::checks::sized_key;
 use crate::classes::Class;
 use crate::classes::all;
 use refusal::Refusal;
@@ -25,7 +26,7 @@ fn between(low: u8, high: u8, b: u8) -> bool
 }
 
 // The number of a hex digit, 16 for any other byte.
-pub(crate) fn digit(b: u8) -> u8
+fn digit(b: u8) -> u8
     ensures { λ r. ⌜ r ≡ digit b ⌝ }
 {
     if between(48, 57, b) {
@@ -40,17 +41,26 @@ pub(crate) fn digit(b: u8) -> u8
     16
 }
 
+// Whether b is a hex digit: the bits from 0 on of the number stand for the bytes from 30 hex on. Looked up and not
+// compared, since which of the three ranges the next digit of a key is in can't be foretold.
+pub(crate) fn hex_digit(b: u8) -> bool
+    ensures { λ r. ⌜ r ≡ hexDigit b ⌝ }
+{
+    if b < 48 {
+        return false;
+    }
+    if b > 102 {
+        return false;
+    }
+    let place = (b - 48) as u64;
+    (0x7E0000007E03FFu64 >> place) % 2 == 1
+}
+
 // Whether s is 1 to 64 pairs of hex digits.
 pub(crate) fn valid_key(s: &[u8]) -> bool
     ensures { λ r. ⌜ r ≡ validKey (now (s .entry)) ⌝ }
 {
-    if s.len() < 2 {
-        return false;
-    }
-    if s.len() > 128 {
-        return false;
-    }
-    if s.len() % 2 != 0 {
+    if !sized_key(s.len()) {
         return false;
     }
     all(Class::HexDigit, s)

@@ -70,6 +70,8 @@ fn header_at(held: &[u8], content: &[u8], at: usize) -> [u8; 4]
 fn decide_at(
     c: Connection,
     table: &[u8],
+    starts: &[u32],
+    count: usize,
     held: &[u8],
     content: &[u8],
     at: usize,
@@ -77,16 +79,16 @@ fn decide_at(
 ) -> Decision
     requires { ⌜ (at ≤ end) × (end ≤ length (now held) + length (now content)) × (end ≤ at + 16384) ⌝ }
     requires { ⌜ ((at ≡ 0) × (length (now held) ≤ end)) ⊎ (length (now held) ≤ at) ⌝ }
-    ensures { λ d. ⌜ Server.Decides d (messageStep (viewOf (now (table .entry))) c (take (end - at) (drop at (now (held .entry) ++ now (content .entry)))) (c .phase)) ⌝ }
+    ensures { λ d. ⌜ Server.Decides d (messageStep (viewOf (now (table .entry)) (now (starts .entry)) count) c (take (end - at) (drop at (now (held .entry) ++ now (content .entry)))) (c .phase)) ⌝ }
 {
     let kept = held.len();
     if kept <= at {
-        return server::decide(c, table, &content[at - kept..end - kept]);
+        return server::decide(c, table, starts, count, &content[at - kept..end - kept]);
     }
     let mut message = [0u8; 16384];
     bytes::copy(held, &mut message);
     bytes::copy(&content[..end - kept], &mut message[kept..]);
-    server::decide(c, table, &message[..end])
+    server::decide(c, table, starts, count, &message[..end])
 }
 
 // The same progress, on another course.
@@ -156,18 +158,26 @@ fn advance(phase: Phase, p: Progress, d: Decision, at: usize) -> Progress
 }
 
 // What the message of `size` bytes at the place that was come to leads to, where all of it is there.
-fn judge_whole(p: Progress, table: &[u8], held: &[u8], content: &[u8], size: usize) -> Progress
+fn judge_whole(
+    p: Progress,
+    table: &[u8],
+    starts: &[u32],
+    count: usize,
+    held: &[u8],
+    content: &[u8],
+    size: usize,
+) -> Progress
     requires { ⌜ Sound (length (now held)) (now held ++ now content) p ⌝ }
     requires { ⌜ (4 ≤ size) × (size ≤ 16384) × ((p .at ≡ 0) → length (now held) ≤ size) ⌝ }
-    ensures { λ r. ⌜ Goes (viewOf (now (table .entry))) (length (now (held .entry))) (now (held .entry) ++ now (content .entry))
-        (whereWhole (viewOf (now (table .entry))) (judgeLeft (viewOf (now (table .entry)))) (progressOf (now (held .entry) ++ now (content .entry)) p) size) (p .at) r ⌝ }
+    ensures { λ r. ⌜ Goes (viewOf (now (table .entry)) (now (starts .entry)) count) (length (now (held .entry))) (now (held .entry) ++ now (content .entry))
+        (whereWhole (viewOf (now (table .entry)) (now (starts .entry)) count) (judgeLeft (viewOf (now (table .entry)) (now (starts .entry)) count)) (progressOf (now (held .entry) ++ now (content .entry)) p) size) (p .at) r ⌝ }
 {
     let at = p.at;
     if held.len() + content.len() - at < size {
         return on_course(p, Course::Waits);
     }
     let c = p.connection;
-    let d = decide_at(c, table, held, content, at, at + size);
+    let d = decide_at(c, table, starts, count, held, content, at, at + size);
     let verdict = d.verdict;
     let phase = c.phase;
     match verdict {
@@ -177,12 +187,19 @@ fn judge_whole(p: Progress, table: &[u8], held: &[u8], content: &[u8], size: usi
 }
 
 // What the bytes from the place that was come to lead to, as far as one message.
-fn judge_first(p: Progress, table: &[u8], held: &[u8], content: &[u8]) -> Progress
+fn judge_first(
+    p: Progress,
+    table: &[u8],
+    starts: &[u32],
+    count: usize,
+    held: &[u8],
+    content: &[u8],
+) -> Progress
     requires { ⌜ Sound (length (now held)) (now held ++ now content) p ⌝ }
     requires { ⌜ unfinished (now held) ≡ true ⌝ }
     requires { ⌜ length (now held) + length (now content) ≤ 81919 ⌝ }
-    ensures { λ r. ⌜ Goes (viewOf (now (table .entry))) (length (now (held .entry))) (now (held .entry) ++ now (content .entry))
-        (judgeLeft (viewOf (now (table .entry))) (progressOf (now (held .entry) ++ now (content .entry)) p)) (p .at) r ⌝ }
+    ensures { λ r. ⌜ Goes (viewOf (now (table .entry)) (now (starts .entry)) count) (length (now (held .entry))) (now (held .entry) ++ now (content .entry))
+        (judgeLeft (viewOf (now (table .entry)) (now (starts .entry)) count) (progressOf (now (held .entry) ++ now (content .entry)) p)) (p .at) r ⌝ }
 {
     let at = p.at;
     let c = p.connection;
@@ -198,7 +215,17 @@ fn judge_first(p: Progress, table: &[u8], held: &[u8], content: &[u8]) -> Progre
     }
     let header = header_at(held, content, at);
     match server::judge_header(phase, header) {
-        Verdict::Accepted => { judge_whole(p, table, held, content, joining::message_end(header)) }
+        Verdict::Accepted => {
+            judge_whole(
+                p,
+                table,
+                starts,
+                count,
+                held,
+                content,
+                joining::message_end(header),
+            )
+        }
         Verdict::Refused(r) => on_course(p, Course::Refused(r)),
     }
 }
@@ -233,16 +260,23 @@ fn is_going(course: Course) -> bool
 }
 
 // What the held bytes and the content behind them come to.
-pub(crate) fn judge(c: Connection, table: &[u8], held: &[u8], content: &[u8]) -> Progress
+pub(crate) fn judge(
+    c: Connection,
+    table: &[u8],
+    starts: &[u32],
+    count: usize,
+    held: &[u8],
+    content: &[u8],
+) -> Progress
     requires { ⌜ unfinished (now held) ≡ true ⌝ }
     requires { ⌜ length (now held) + length (now content) ≤ 81919 ⌝ }
     ensures { λ r. ⌜ Ends (length (now (held .entry))) (now (held .entry) ++ now (content .entry))
-        (judged (viewOf (now (table .entry))) c (now (held .entry) ++ now (content .entry))) r ⌝ }
+        (judged (viewOf (now (table .entry)) (now (starts .entry)) count) c (now (held .entry) ++ now (content .entry))) r ⌝ }
 {
     let mut p = begin(c);
     let mut going = true;
     while going {
-        p = judge_first(p, table, held, content);
+        p = judge_first(p, table, starts, count, held, content);
         let course = p.course;
         going = is_going(course);
     }

@@ -248,6 +248,8 @@ fn progressed(c: RecordConnection, p: Progress, keep: Keep, left: usize) -> Deci
 fn shake(
     c: RecordConnection,
     table: &[u8],
+    starts: &[u32],
+    count: usize,
     memory: &[u8],
     kept: usize,
     received: &[u8],
@@ -255,10 +257,17 @@ fn shake(
 ) -> Decided
     requires { ⌜ Holds (now memory) kept (now received) n ⌝ }
     ensures { λ d. ⌜ Decides d (now (memory .entry)) (take kept (now (memory .entry))) (now (received .entry))
-        (contentStep (viewOf (now (table .entry))) c (take kept (now (memory .entry))) (part 5 n (now (received .entry))) ContentType.Handshake) ⌝ }
+        (contentStep (viewOf (now (table .entry)) (now (starts .entry)) count) c (take kept (now (memory .entry))) (part 5 n (now (received .entry))) ContentType.Handshake) ⌝ }
 {
     let handshake = c.handshake;
-    let p = handshake::judge(handshake, table, &memory[..kept], &received[5..5 + n]);
+    let p = handshake::judge(
+        handshake,
+        table,
+        starts,
+        count,
+        &memory[..kept],
+        &received[5..5 + n],
+    );
     let course = p.course;
     let at = p.at;
     match course {
@@ -342,6 +351,8 @@ fn test_content(kind: ContentType, complete: bool, amid: bool, content: &[u8]) -
 fn decide_content(
     c: RecordConnection,
     table: &[u8],
+    starts: &[u32],
+    count: usize,
     memory: &[u8],
     kept: usize,
     received: &[u8],
@@ -350,7 +361,7 @@ fn decide_content(
 ) -> Decided
     requires { ⌜ Holds (now memory) kept (now received) n ⌝ }
     ensures { λ d. ⌜ Decides d (now (memory .entry)) (take kept (now (memory .entry))) (now (received .entry))
-        (contentDecided (viewOf (now (table .entry))) c (take kept (now (memory .entry))) (part 5 n (now (received .entry))) kind) ⌝ }
+        (contentDecided (viewOf (now (table .entry)) (now (starts .entry)) count) c (take kept (now (memory .entry))) (part 5 n (now (received .entry))) kind) ⌝ }
 {
     let handshake = c.handshake;
     let phase = handshake.phase;
@@ -360,7 +371,7 @@ fn decide_content(
             ContentType::ApplicationData => silent(one_more(c), Data::Bytes(n)),
             ContentType::Alert => hear(c, &received[5..5 + n]),
             ContentType::ChangeCipherSpec => change(c),
-            ContentType::Handshake => shake(c, table, memory, kept, received, n),
+            ContentType::Handshake => shake(c, table, starts, count, memory, kept, received, n),
         },
         Verdict::Refused(r) => refused(c, r),
     }
@@ -393,13 +404,15 @@ fn refused_as(first: bool, r: Refusal) -> Refusal
 fn decide_opened(
     c: RecordConnection,
     table: &[u8],
+    starts: &[u32],
+    count: usize,
     memory: &[u8],
     kept: usize,
     received: &[u8],
 ) -> Decided
     requires { ⌜ (kept ≤ length (now memory)) × (kept ≤ 65535) × (unfinished (take kept (now memory)) ≡ true) ⌝ }
     ensures { λ d. ⌜ Decides d (now (memory .entry)) (take kept (now (memory .entry))) (now (received .entry))
-        (openedStep (viewOf (now (table .entry))) c (take kept (now (memory .entry))) (now (received .entry)) (opened (c .reading) (now (received .entry)))) ⌝ }
+        (openedStep (viewOf (now (table .entry)) (now (starts .entry)) count) c (take kept (now (memory .entry))) (now (received .entry)) (opened (c .reading) (now (received .entry)))) ⌝ }
 {
     let reading = c.reading;
     let handshake = c.handshake;
@@ -411,16 +424,23 @@ fn decide_opened(
                     return refused(c, Refusal::DecryptError);
                 }
             }
-            decide_content(c, table, memory, kept, received, kind, len)
+            decide_content(c, table, starts, count, memory, kept, received, kind, len)
         }
         Opened::Refused(r) => refused(c, refused_as(is_first(c), r)),
     }
 }
 
 // What a record comes to, whatever the room.
-fn decide(c: RecordConnection, table: &[u8], memory: &[u8], received: &[u8]) -> Decided
+fn decide(
+    c: RecordConnection,
+    table: &[u8],
+    starts: &[u32],
+    count: usize,
+    memory: &[u8],
+    received: &[u8],
+) -> Decided
     ensures { λ d. ⌜ Decides d (now (memory .entry)) (heldIn (now (memory .entry)) (c .held)) (now (received .entry))
-        (takeStep (viewOf (now (table .entry))) c (now (memory .entry)) (now (received .entry))) ⌝ }
+        (takeStep (viewOf (now (table .entry)) (now (starts .entry)) count) c (now (memory .entry)) (now (received .entry))) ⌝ }
 {
     let handshake = c.handshake;
     let reading = c.reading;
@@ -428,7 +448,7 @@ fn decide(c: RecordConnection, table: &[u8], memory: &[u8], received: &[u8]) -> 
     match closing::test_over(phase, reading.sequence) {
         Verdict::Accepted => {
             let kept = joining::held(memory, c.held as usize);
-            decide_opened(c, table, memory, kept, received)
+            decide_opened(c, table, starts, count, memory, kept, received)
         }
         Verdict::Refused(r) => refused(c, r),
     }
@@ -544,15 +564,17 @@ fn settle(
 pub fn take(
     c: RecordConnection,
     table: &[u8],
+    starts: &[u32],
+    count: usize,
     received: &[u8],
     memory: &mut [u8],
     out: &mut [u8],
 ) -> Taken
-    ensures { λ t. ⌜ Takes (takeCall (viewOf (now (table .entry))) c (now (received .entry)) (now (memory .entry)) (now (out .entry)))
+    ensures { λ t. ⌜ Takes (takeCall (viewOf (now (table .entry)) (now (starts .entry)) count) c (now (received .entry)) (now (memory .entry)) (now (out .entry)))
         t (now (out .exit)) (now (memory .exit)) ⌝ }
     ensures { λ t. ⌜ counted (t .said) ≤ 336 ⌝ }
 {
-    let d = decide(c, table, memory, received);
+    let d = decide(c, table, starts, count, memory, received);
     settle(c, d, received, memory, out)
 }
 

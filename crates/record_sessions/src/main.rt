@@ -6,7 +6,9 @@
 // A call is one byte, and what belongs to it: 1 start (rule, then random, hint and stand-in key, each with its length in
 // one byte); 2 the table from now on (length in three bytes); 3 a record (room of the output in one byte, length in three
 // bytes), of which the line has the lent memory too; 4 data to send (room in three bytes, length in three
-// bytes); 5 close_notify (room in one byte); 6 the alert that closed the connection (room in one byte).
+// bytes); 5 close_notify (room in one byte); 6 the alert that closed the connection (room in one byte); 7 another list of
+// line starts from now on (the count in three bytes, then in two bytes a place of the list's 257, and the number there in
+// three). With a table that is well formed its own list comes, with another one the list stays.
 ghost use Prim.Native.Nat.{_≤_};
 use record_server::Answer;
 use record_server::Data;
@@ -14,6 +16,12 @@ use record_server::RecordConnection;
 use record_server::Taken;
 use refusal::Written;
 use server::Named;
+
+// How long the table is, and how many line starts the list beside it has.
+struct Sizes {
+    table: usize,
+    count: usize,
+}
 
 // Bytes; of long ones the first eight of their SHA-256.
 fn print_bytes(bytes: &[u8]) {
@@ -103,11 +111,13 @@ fn print_taken(taken: Taken, received: &[u8]) {
 fn take_one(
     c: RecordConnection,
     table: &[u8],
+    starts: &[u32],
+    count: usize,
     received: &[u8],
     memory: &mut [u8],
     out: &mut [u8],
 ) -> RecordConnection {
-    let taken = record_server::take(c, table, received, memory, out);
+    let taken = record_server::take(c, table, starts, count, received, memory, out);
     let said = taken.said;
     lines::text(b"record ");
     print_said(said);
@@ -117,7 +127,14 @@ fn take_one(
     taken.next
 }
 
-fn take(c: RecordConnection, table: &[u8], memory: &mut [u8]) -> RecordConnection {
+// The table is the front of its buffer.
+fn take(
+    c: RecordConnection,
+    table: &[u8],
+    starts: &[u32],
+    sizes: Sizes,
+    memory: &mut [u8],
+) -> RecordConnection {
     let mut bytes = [0u8; 16500];
     let mut lent = [0xeeu8; 255];
     let room = lines::byte() as usize;
@@ -125,7 +142,9 @@ fn take(c: RecordConnection, table: &[u8], memory: &mut [u8]) -> RecordConnectio
     lines::fill(&mut bytes, size);
     take_one(
         c,
-        table,
+        lines::part(table, 0, sizes.table),
+        starts,
+        sizes.count,
         lines::part(&bytes, 0, size),
         memory,
         &mut lent[255 - room..],
@@ -192,12 +211,19 @@ fn alert(c: RecordConnection) {
     alert_one(c, &mut lent[255 - room..]);
 }
 
-fn once(call: u8, c: RecordConnection, table: &[u8], memory: &mut [u8]) -> RecordConnection {
+fn once(
+    call: u8,
+    c: RecordConnection,
+    table: &[u8],
+    starts: &[u32],
+    sizes: Sizes,
+    memory: &mut [u8],
+) -> RecordConnection {
     if call == 1 {
         return start();
     }
     if call == 3 {
-        return take(c, table, memory);
+        return take(c, table, starts, sizes, memory);
     }
     if call == 4 {
         return send(c);
@@ -217,19 +243,50 @@ fn nothing() -> RecordConnection {
     answer.next
 }
 
-// The size of the table from now on: a call 2 brings another one.
-fn next_table(call: u8, table: &mut [u8], size: usize) -> usize {
-    if call != 2 {
-        return size;
-    }
+// Call 2: another table, and its list where it is well formed.
+fn new_table(table: &mut [u8], starts: &mut [u32], sizes: Sizes) -> Sizes {
     let n = lines::number24();
-    lines::fill(table, n)
+    let size = lines::fill(table, n);
+    let made = keytable::make_list(lines::part(table, 0, size), starts);
+    match made {
+        Written::Wrote(count) => Sizes { table: size, count },
+        Written::Refused(_) => Sizes {
+            table: size,
+            count: sizes.count,
+        },
+    }
+}
+
+// Call 7: another count, and another number at a place of the list.
+fn new_list(starts: &mut [u32], sizes: Sizes) -> Sizes {
+    let count = lines::number24();
+    let at = lines::number16();
+    let start = lines::number24() as u32;
+    if at < starts.len() {
+        starts[at] = start;
+    }
+    Sizes {
+        table: sizes.table,
+        count,
+    }
+}
+
+// The sizes of table and list from now on: calls 2 and 7 bring others.
+fn next_table(call: u8, table: &mut [u8], starts: &mut [u32], sizes: Sizes) -> Sizes {
+    if call == 2 {
+        return new_table(table, starts, sizes);
+    }
+    if call == 7 {
+        return new_list(starts, sizes);
+    }
+    sizes
 }
 
 fn main() {
     let mut table = [0u8; 70000];
+    let mut starts = [0u32; 257];
     let mut memory = [0xeeu8; 16384];
-    let mut size: usize = 0;
+    let mut sizes = Sizes { table: 0, count: 0 };
     let mut c = nothing();
     let mut calls: usize = 0;
     while calls < 65536 {
@@ -237,9 +294,9 @@ fn main() {
         if call == 0 {
             break;
         }
-        let n = next_table(call, &mut table, size);
-        size = n;
-        let next = once(call, c, lines::part(&table, 0, size), &mut memory);
+        let others = next_table(call, &mut table, &mut starts, sizes);
+        sizes = others;
+        let next = once(call, c, &table, &starts, sizes, &mut memory);
         c = next;
         calls += 1;
     }

@@ -8,9 +8,10 @@ use mathlib.Core.Bool.{Bool, true, false, cond, false≢true}
 use mathlib.Core.List.{List, [], _∷_, _++_, append-nil, append-assoc}
 use mathlib.Core.Option.{Option, none, some, Option·none-ne-some}
 use lib.ListN.{length}
-use Rattle.refusal.specs.declared.Refusal.the-variants.{BadTable}
+use Rattle.refusal.specs.declared.Refusal.the-variants.{BadTable, BadList}
 use Rattle.refusal.specs.declared.Written.the-variants.{Refused}
 use Rattle.keytable.specs.Table.{wellFormed}
+use Rattle.keytable.specs.Starts.{isList}
 use Rattle.server.specs.declared.Rule.{Rule}
 use Rattle.server.specs.declared.Phase.{Phase}
 use Rattle.server.specs.declared.Connection.{Connection}
@@ -162,13 +163,15 @@ module _ (s : Settings) (v : View) (ok : acceptable s ≡ true) (proper : Proper
         (came-right-completes memory (came v (begun s memory) calls) (came-come v (begun s memory) calls) right),
   )
 
--- a table that is not well formed is refused to the host, R2
-table-proper : (table : List ℕ) → Proper (viewOf table)
-table-proper table r e = go (wellFormed table) e
+-- a table that is not well formed and a list that is not its own are refused to the host, R2 and R10
+table-proper : (table starts : List ℕ) (count : ℕ) → Proper (viewOf table starts count)
+table-proper table starts count r e = go (wellFormed table) (isList table starts count) e
   where
-    go : (b : Bool) → cond b none (some BadTable) ≡ some r → refusedToHost (Refused r) ≡ true
-    go true e = absurd (Option·none-ne-some r e)
-    go false e = let is : BadTable ≡ r = cc in rw (← is)
+    go : (formed own : Bool) → cond formed (cond own none (some BadList)) (some BadTable) ≡ some r → refusedToHost (Refused r) ≡ true
+    go true true e = absurd (Option·none-ne-some r e)
+    go true false e = let is : BadList ≡ r = cc in rw (← is)
+    go false own e = let is : BadTable ≡ r = cc in rw (← is)
 
 pub completes-exactly : CompletesExactly
-completes-exactly s ok memory table calls = exactly s (viewOf table) (ok .acceptable) (table-proper table) memory calls
+completes-exactly s ok memory table starts count calls =
+    exactly s (viewOf table starts count) (ok .acceptable) (table-proper table starts count) memory calls

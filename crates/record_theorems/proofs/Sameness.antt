@@ -339,11 +339,11 @@ sameness-of-lookups s s' alike ok hide hide' Set v v' good good' agree memory ca
 -- ---- the second table is the first one without a line
 
 pub sameness : Sameness
-sameness s s' alike ok hide hide' identity table without removed good good' memory calls never =
-    sameness-of-lookups s s' alike ok hide hide' (λ i. i ≡ identity) (viewOf table) (viewOf without) (rw good) (rw good') agree memory calls
-    never-judged
+sameness s s' alike ok hide hide' identity table without removed good good' starts starts' count count' own own' memory calls never =
+    sameness-of-lookups s s' alike ok hide hide' (λ i. i ≡ identity) (viewOf table starts count) (viewOf without starts' count')
+    (rw (good, own)) (rw (good', own')) agree memory calls never-judged
   where
-    agree : AgreeOutside (λ i. i ≡ identity) (viewOf table) (viewOf without)
+    agree : AgreeOutside (λ i. i ≡ identity) (viewOf table starts count) (viewOf without starts' count')
     agree i = go (same i identity) refl
       where
         go : (b : Bool) → same i identity ≡ b → (keyOf table i ≡ keyOf without i) ⊎ (i ≡ identity)
@@ -351,12 +351,12 @@ sameness s s' alike ok hide hide' identity table without removed good good' memo
         go false e = inl (removed-else identity table without removed good i (λ is. true≢false (sym (rw is (same-refl identity)) ∙ e)))
 
     -- the second table has no key for it
-    unlisted : (i : List ℕ) → i ≡ identity → (before : List Call) (x : Call) → ¬ JudgedRight s (viewOf without) memory i before x
+    unlisted : (i : List ℕ) → i ≡ identity → (before : List Call) (x : Call) → ¬ JudgedRight s (viewOf without starts' count') memory i before x
     unlisted i is before x judged =
         let gone : keyOf without identity ≡ none = removed-gone identity table without removed good in
         let found : keyOf without identity ≡ some (judged .key) = rw (← is) (judged .listed) in
         Option·none-ne-some (judged .key) (sym gone ∙ found)
 
     never-judged : (i : List ℕ) → i ≡ identity
-        → NoneJudgedRight s (viewOf table) memory i calls × NoneJudgedRight s (viewOf without) memory i calls
+        → NoneJudgedRight s (viewOf table starts count) memory i calls × NoneJudgedRight s (viewOf without starts' count') memory i calls
     never-judged i is = (rw is never, λ before x after split. unlisted i is before x)

@@ -90,7 +90,7 @@ pub data AfterPlain (s : Settings) (v : View) (calls : List Call) (k : Kept) : T
       → k .connection ≡ changedTo s v began → AfterPlain s v calls k
   closes : k .connection .handshake .phase ≡ Phase.Closed → AfterPlain s v calls k
 
--- a refusal of the key table, R2 today, is for the host
+-- a refusal of the key table or of its list, R2 or R10, is for the host
 abbrev pub Proper : View → Type 0
 Proper v = (r : Refusal) → v .refusal ≡ some r → refusedToHost (Refused r) ≡ true
 

@@ -8,6 +8,7 @@ use mathlib.Core.List.{List, _∷_, _++_}
 use mathlib.Core.Option.{none, some}
 use Rattle.refusal.specs.Lent.{gives, bytesOf}
 use Rattle.keytable.specs.Table.{wellFormed}
+use Rattle.keytable.specs.Starts.{isList}
 use Rattle.keytable.specs.WellFormed.{LineRemoved}
 use Rattle.server.specs.declared.Phase.{Phase}
 use Rattle.server.specs.Connection.{Settings, acceptable}
@@ -66,16 +67,17 @@ SamenessOfLookups =
     → ((identity : List ℕ) → Set identity → NoneJudgedRight s v memory identity calls × NoneJudgedRight s v' memory identity calls)
     → answers v (begun s memory) calls ≡ answers v' (begun s' memory) calls
 
--- Two servers with the same random, hint and stand-in key, under the hiding rule, with the same memory lent. Their tables are well formed, no call
--- changes them, and the second is the first without the line of one identity.
+-- Two servers with the same random, hint and stand-in key, under the hiding rule, with the same memory lent. Their tables are well formed, each with its
+-- own list of line starts, no call changes them, and the second table is the first without the line of one identity.
 abbrev pub Sameness : Type 0
 Sameness =
     (s s' : Settings) → Alike s s' → Accepted s → Hiding (s .named) → Hiding (s' .named)
     → (identity table without : List ℕ) → LineRemoved identity table without → wellFormed table ≡ true → wellFormed without ≡ true
-    → (memory : List ℕ) → (calls : List Call) → NoneJudgedRight s (viewOf table) memory identity calls
-    → answers (viewOf table) (begun s memory) calls ≡ answers (viewOf without) (begun s' memory) calls
+    → (starts starts' : List ℕ) (count count' : ℕ) → isList table starts count ≡ true → isList without starts' count' ≡ true
+    → (memory : List ℕ) → (calls : List Call) → NoneJudgedRight s (viewOf table starts count) memory identity calls
+    → answers (viewOf table starts count) (begun s memory) calls ≡ answers (viewOf without starts' count') (begun s' memory) calls
 
--- ---- second half: completes exactly when, under either rule, with a table well formed or not
+-- ---- second half: completes exactly when, under either rule, with a table well formed or not and any list
 
 -- Of the records that came, ignored warnings apart: first unprotected handshake records that joined are a legal ClientHello and a legal
 -- ClientKeyExchange naming a listed identity, and nothing more; then one change of cipher; then handshake records, each with the MAC that the
@@ -104,5 +106,6 @@ pub record Completes (v : View) (k : Kept) (calls : List Call) : Type 0 where
 
 abbrev pub CompletesExactly : Type 0
 CompletesExactly =
-    (s : Settings) → Accepted s → (memory : List ℕ) (table : List ℕ) (calls : List Call)
-    → Completes (viewOf table) (begun s memory) calls ↔ CameRight s (viewOf table) (came (viewOf table) (begun s memory) calls)
+    (s : Settings) → Accepted s → (memory : List ℕ) (table starts : List ℕ) (count : ℕ) (calls : List Call)
+    → Completes (viewOf table starts count) (begun s memory) calls
+    ↔ CameRight s (viewOf table starts count) (came (viewOf table starts count) (begun s memory) calls)

@@ -4,7 +4,7 @@ use mathlib.Core.Path.{_≡_}
 use mathlib.Core.Bool.{cond}
 use Rattle.refusal.specs.declared.Refusal.{Refusal}
 use Rattle.refusal.specs.declared.Refusal.the-variants.{ShortOutput, BadTable, BadSetting, ConnectionOver, BadValue}
-use Rattle.refusal.specs.declared.Refusal.the-variants.{AlreadyListed, NotListed, TableFull, SequenceSpent}
+use Rattle.refusal.specs.declared.Refusal.the-variants.{AlreadyListed, NotListed, TableFull, SequenceSpent, BadList}
 use Rattle.refusal.specs.declared.Refusal.the-variants.{UnexpectedMessage, BadRecordMac, RecordOverflow, HandshakeFailure, IllegalParameter, DecodeError}
 use Rattle.refusal.specs.declared.Refusal.the-variants.{DecryptError, ProtocolVersion, UnknownPskIdentity}
 use Rattle.refusal.specs.Table.{Effect, unchanged, closed, noneMade, noneInvolved, row, toClient}
@@ -20,6 +20,7 @@ module _ {A : Type 0} (f : Effect → A) {x y : A} (shut : f closed ≡ x) (same
   by-receiver NotListed = apart
   by-receiver TableFull = apart
   by-receiver SequenceSpent = same
+  by-receiver BadList = same
   by-receiver UnexpectedMessage = shut
   by-receiver BadRecordMac = shut
   by-receiver RecordOverflow = shut

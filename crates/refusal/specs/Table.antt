@@ -1,10 +1,10 @@
--- Document 01, "Numbers that come back", and the numbers of document 02's P1 and P5, as a table: for each refusal its number, who is given it, and what
+-- Document 01, "Numbers that come back", and the numbers of document 02's P1, P5 and P6, as a table: for each refusal its number, who is given it, and what
 -- becomes of the connection.
 use Prim.Native.Nat.{ℕ}
 use mathlib.Core.Bool.{Bool, true, false}
 use Rattle.refusal.specs.declared.Refusal.{Refusal}
 use Rattle.refusal.specs.declared.Refusal.the-variants.{ShortOutput, BadTable, BadSetting, ConnectionOver, BadValue}
-use Rattle.refusal.specs.declared.Refusal.the-variants.{AlreadyListed, NotListed, TableFull, SequenceSpent}
+use Rattle.refusal.specs.declared.Refusal.the-variants.{AlreadyListed, NotListed, TableFull, SequenceSpent, BadList}
 use Rattle.refusal.specs.declared.Refusal.the-variants.{UnexpectedMessage, BadRecordMac, RecordOverflow, HandshakeFailure, IllegalParameter, DecodeError}
 use Rattle.refusal.specs.declared.Refusal.the-variants.{DecryptError, ProtocolVersion, UnknownPskIdentity}
 
@@ -39,6 +39,7 @@ row AlreadyListed = R 6 noneInvolved
 row NotListed = R 7 noneInvolved
 row TableFull = R 8 noneInvolved
 row SequenceSpent = R 9 unchanged
+row BadList = R 10 unchanged
 row UnexpectedMessage = alert 10
 row BadRecordMac = alert 20
 row RecordOverflow = alert 22

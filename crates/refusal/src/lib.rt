@@ -26,6 +26,8 @@ pub enum Refusal {
     TableFull,
     // R9: a record under the last sequence number
     SequenceSpent,
+    // R10: list of line starts not the table's
+    BadList,
     // The rest are TLS alerts, under their names in RFC 5246 section 7.2 and RFC 4279 section 6.
     UnexpectedMessage,
     BadRecordMac,
@@ -59,6 +61,7 @@ pub fn number(r: Refusal) -> u8
         Refusal::NotListed => 7,
         Refusal::TableFull => 8,
         Refusal::SequenceSpent => 9,
+        Refusal::BadList => 10,
         Refusal::UnexpectedMessage => 10,
         Refusal::BadRecordMac => 20,
         Refusal::RecordOverflow => 22,
@@ -72,7 +75,7 @@ pub fn number(r: Refusal) -> u8
 }
 
 // Whether the number is a fatal alert for the client. If not, it is an R number for the host.
-// A later R10 and alert 10 share their number, so a caller that mixes both needs this too.
+// R10 and alert 10 share their number, so a caller that mixes both needs this too.
 pub fn for_client(r: Refusal) -> bool
     ensures { λ b. ⌜ b ≡ toClient r ⌝ }
 {
@@ -86,6 +89,7 @@ pub fn for_client(r: Refusal) -> bool
         Refusal::NotListed => false,
         Refusal::TableFull => false,
         Refusal::SequenceSpent => false,
+        Refusal::BadList => false,
         Refusal::UnexpectedMessage => true,
         Refusal::BadRecordMac => true,
         Refusal::RecordOverflow => true,

@@ -60,7 +60,7 @@ key-missing table identity out {r = r} l a e = go (keyOf table identity) refl
 pub identity-there : (m : List ℕ) {s n : ℕ} → header 16 m ≡ Verdict.Accepted → lastAt 2 m 4 ≡ At s n → contents m (lastAt 2 m 4) ≡ some (identityIn m)
 identity-there m h e = rw (h, e)
 
--- a table's own refusal, as its crate answers it
+-- the refusal of a table and its list, as its crate answers it
 pub not-refused : (o : Option Refusal) → judged o ≡ Judged.Good → o ≡ none
 not-refused none e = refl
 not-refused (some r) e = cc

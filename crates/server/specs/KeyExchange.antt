@@ -8,20 +8,22 @@ use Rattle.refusal.specs.declared.Refusal.the-variants.{DecodeError, UnknownPsk
 use Rattle.refusal.specs.Lent.{bytesOf}
 use Rattle.sha256.specs.State.{absorb}
 use Rattle.keys.specs.Secrets.{masterUnder}
-use Rattle.keytable.specs.Table.{tableRefusal, keyOf}
+use Rattle.keytable.specs.Starts.{listRefusal}
+use Rattle.keytable.specs.Table.{keyOf}
 use Rattle.server.specs.declared.Rule.{Rule}
 use Rattle.server.specs.declared.Phase.{Phase}
 use Rattle.server.specs.declared.Connection.{Connection}
 use Rattle.server.specs.Flight.{silence}
 use Rattle.server.specs.Step.{Step, refuse, accept}
 
--- What the server knows of a key table: which refusal it comes to, if any, and a lookup from identity to key.
+-- What the server knows of a key table and the list of its line starts: which refusal they come to, if any, and a lookup from identity to key. The list
+-- does not change what is looked up: one that is not the table's own is refused (document 02, P6).
 pub record View : Type 0 where
   pub refusal : Option Refusal
   pub lookup : List ℕ → Option (List ℕ)
 
-abbrev pub viewOf : List ℕ → View
-viewOf table = record { refusal = tableRefusal table; lookup = keyOf table }
+abbrev pub viewOf : List ℕ → List ℕ → ℕ → View
+viewOf table starts count = record { refusal = listRefusal table starts count; lookup = keyOf table }
 
 -- After the key exchange m. A key of 1 to 64 bytes, which every key of a table is, has a master secret.
 abbrev pub afterKeys : Connection → List ℕ → List ℕ → Bool → Connection

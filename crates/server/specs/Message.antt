@@ -45,7 +45,7 @@ earlyTest (some kind) m =
     (Verdict.Refused UnexpectedMessage)
 earlyTest none m = Verdict.Refused UnexpectedMessage
 
--- The step of each phase, of a message that passed those tests; for a ClientKeyExchange the table's own refusal stands before the tests on the body.
+-- The step of each phase, of a message that passed those tests; for a ClientKeyExchange the refusal of the table and its list stands before the tests on the body.
 -- No message passes in the other phases.
 abbrev pub bodyStep : View → Connection → List ℕ → Phase → Step
 bodyStep v c m Phase.Hello = helloFields c m (clientFields m (clientBody m))

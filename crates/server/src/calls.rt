@@ -82,14 +82,14 @@ fn test_header(phase: Phase, m: &[u8]) -> Verdict
 }
 
 // The step of a message whose header is tested already.
-fn body(c: Connection, table: &[u8], m: &[u8]) -> Decision
+fn body(c: Connection, table: &[u8], starts: &[u32], count: usize, m: &[u8]) -> Decision
     requires { ⌜ headerTest (Message.awaited (c .phase)) (now m) ≡ Accepted ⌝ }
-    ensures { λ d. ⌜ Decides d (bodyStep (viewOf (now (table .entry))) c (now (m .entry)) (c .phase)) ⌝ }
+    ensures { λ d. ⌜ Decides d (bodyStep (viewOf (now (table .entry)) (now (starts .entry)) count) c (now (m .entry)) (c .phase)) ⌝ }
 {
     let phase = c.phase;
     match phase {
         Phase::Hello => hello::body(c, m),
-        Phase::KeyExchange => key_exchange::body(c, table, m),
+        Phase::KeyExchange => key_exchange::body(c, table, starts, count, m),
         Phase::Change => step::refused(c, Refusal::UnexpectedMessage),
         Phase::Finished => finished::body(c, m),
         Phase::Complete => step::refused(c, Refusal::UnexpectedMessage),
@@ -98,15 +98,15 @@ fn body(c: Connection, table: &[u8], m: &[u8]) -> Decision
 }
 
 // What a message comes to, whatever the room, for a caller that has its own way of writing the answer.
-pub fn decide(c: Connection, table: &[u8], m: &[u8]) -> Decision
-    ensures { λ d. ⌜ Decides d (messageStep (viewOf (now (table .entry))) c (now (m .entry)) (c .phase)) ⌝ }
+pub fn decide(c: Connection, table: &[u8], starts: &[u32], count: usize, m: &[u8]) -> Decision
+    ensures { λ d. ⌜ Decides d (messageStep (viewOf (now (table .entry)) (now (starts .entry)) count) c (now (m .entry)) (c .phase)) ⌝ }
 {
     let phase = c.phase;
     if is_over(phase) {
         return step::refused(c, Refusal::ConnectionOver);
     }
     match test_header(phase, m) {
-        Verdict::Accepted => body(c, table, m),
+        Verdict::Accepted => body(c, table, starts, count, m),
         Verdict::Refused(r) => step::refused(c, r),
     }
 }
@@ -161,13 +161,20 @@ fn reply(phase: Phase, d: Decision, a: Answer) -> Reply
 }
 
 // A handshake message. No answer is longer than the longest flight.
-pub fn message(c: Connection, table: &[u8], m: &[u8], out: &mut [u8]) -> Reply
-    ensures { λ r. ⌜ (r ≡ messageReply (viewOf (now (table .entry))) c (now (m .entry)) (now (out .entry)))
-        × (now (out .exit) ≡ messageCall (viewOf (now (table .entry))) c (now (m .entry)) (now (out .entry)) .out) ⌝ }
+pub fn message(
+    c: Connection,
+    table: &[u8],
+    starts: &[u32],
+    count: usize,
+    m: &[u8],
+    out: &mut [u8],
+) -> Reply
+    ensures { λ r. ⌜ (r ≡ messageReply (viewOf (now (table .entry)) (now (starts .entry)) count) c (now (m .entry)) (now (out .entry)))
+        × (now (out .exit) ≡ messageCall (viewOf (now (table .entry)) (now (starts .entry)) count) c (now (m .entry)) (now (out .entry)) .out) ⌝ }
     ensures { λ r. ⌜ counted (r .said) ≤ longest ⌝ }
 {
     let phase = c.phase;
-    let d = decide(c, table, m);
+    let d = decide(c, table, starts, count, m);
     let a = step::settle(c, d, out);
     reply(phase, d, a)
 }

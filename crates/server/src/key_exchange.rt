@@ -7,6 +7,8 @@ ghost use Rattle.layout.specs.Header.{header};
 ghost use Rattle.layout.specs.Place.{lastAt, contents};
 ghost use Rattle.refusal.specs.Lent.{bytesOf};
 ghost use Rattle.keys.specs.Secrets.{masterUnder};
+ghost use mathlib.Core.Bool.{true};
+ghost use Rattle.keytable.specs.Starts.{isList};
 ghost use Rattle.keytable.specs.Table.{keyOf};
 ghost use Rattle.server.specs.declared.Phase.{Phase};
 ghost use Rattle.server.specs.KeyExchange as Exchange;
@@ -79,34 +81,50 @@ fn unlisted(c: Connection, m: &[u8]) -> Decision
 }
 
 // The key of the identity, if the table has it.
-fn look_up(c: Connection, table: &[u8], m: &[u8], identity: &[u8]) -> Decision
+fn look_up(
+    c: Connection,
+    table: &[u8],
+    starts: &[u32],
+    count: usize,
+    m: &[u8],
+    identity: &[u8],
+) -> Decision
+    requires { ⌜ isList (now table) (now starts) count ≡ true ⌝ }
     ensures { λ d. ⌜ Decides d (keyFound c (now (m .entry)) (keyOf (now (table .entry)) (now (identity .entry)))) ⌝ }
 {
     let mut key = [0u8; 64];
-    match keytable::lookup(table, identity, &mut key) {
+    match keytable::lookup(table, starts, count, identity, &mut key) {
         Written::Wrote(n) => step::silent(after_keys(c, m, master_under(c, &key[..n]), true)),
         Written::Refused(_) => unlisted(c, m),
     }
 }
 
-// The identity that the message names, of a table that does not refuse.
-fn identified(c: Connection, table: &[u8], m: &[u8]) -> Decision
+// The identity that the message names, of a table and a list that do not refuse.
+fn identified(c: Connection, table: &[u8], starts: &[u32], count: usize, m: &[u8]) -> Decision
     requires { ⌜ header 16 (now m) ≡ Accepted ⌝ }
+    requires { ⌜ isList (now table) (now starts) count ≡ true ⌝ }
     ensures { λ d. ⌜ Decides d (keyIdentity (keyOf (now (table .entry))) c (now (m .entry)) (contents (now (m .entry)) (lastAt 2 (now (m .entry)) 4))) ⌝ }
 {
     match messages::key_exchange::read_identity_body(m) {
-        Part::At { start: _, len: _ } => look_up(c, table, m, messages::key_exchange::identity(m)),
+        Part::At { start: _, len: _ } => look_up(
+            c,
+            table,
+            starts,
+            count,
+            m,
+            messages::key_exchange::identity(m),
+        ),
         Part::Refused => step::refused(c, Refusal::DecodeError),
     }
 }
 
 // A key exchange whose header is tested already.
-pub(crate) fn body(c: Connection, table: &[u8], m: &[u8]) -> Decision
+pub(crate) fn body(c: Connection, table: &[u8], starts: &[u32], count: usize, m: &[u8]) -> Decision
     requires { ⌜ header 16 (now m) ≡ Accepted ⌝ }
-    ensures { λ d. ⌜ Decides d (bodyStep (viewOf (now (table .entry))) c (now (m .entry)) Phase.KeyExchange) ⌝ }
+    ensures { λ d. ⌜ Decides d (bodyStep (viewOf (now (table .entry)) (now (starts .entry)) count) c (now (m .entry)) Phase.KeyExchange) ⌝ }
 {
-    match keytable::judge(table) {
-        Judged::Good => identified(c, table, m),
+    match keytable::judge(table, starts, count) {
+        Judged::Good => identified(c, table, starts, count, m),
         Judged::Refused(r) => step::refused(c, r),
     }
 }

@@ -43,7 +43,7 @@ module _ (i k : List ℕ) (named : validIdentity i ≡ true) where
 -- ---- valid lines
 
 module _ (i : List ℕ) where
-  others-each : (p : List ℕ → Bool) (ls : List (List ℕ)) → each p ls ≡ true → each p (others i ls) ≡ true
+  pub others-each : (p : List ℕ → Bool) (ls : List (List ℕ)) → each p ls ≡ true → each p (others i ls) ≡ true
   others-each p [] h = refl
   others-each p (l ∷ ls) h = go (isLineOf i l) (others-each p ls (and-right (p l) (each p ls) h))
     where
@@ -51,7 +51,7 @@ module _ (i : List ℕ) where
       go true ih = ih
       go false ih = both (and-left (p l) (each p ls) h) ih
 
-  replaced-each : (p : List ℕ → Bool) (k : List ℕ) (ls : List (List ℕ)) → p (lineWith i k) ≡ true → each p ls ≡ true
+  pub replaced-each : (p : List ℕ → Bool) (k : List ℕ) (ls : List (List ℕ)) → p (lineWith i k) ≡ true → each p ls ≡ true
       → each p (linesAfter (replace i k) ls) ≡ true
   replaced-each p k [] new h = refl
   replaced-each p k (l ∷ ls) new h = both (go (isLineOf i l)) (replaced-each p k ls new (and-right (p l) (each p ls) h))
@@ -60,7 +60,7 @@ module _ (i : List ℕ) where
       go true = new
       go false = and-left (p l) (each p ls) h
 
-each-snoc : (p : List ℕ → Bool) (ls : List (List ℕ)) (l : List ℕ) → each p ls ≡ true → p l ≡ true → each p (ls ++ (l ∷ [])) ≡ true
+pub each-snoc : (p : List ℕ → Bool) (ls : List (List ℕ)) (l : List ℕ) → each p ls ≡ true → p l ≡ true → each p (ls ++ (l ∷ [])) ≡ true
 each-snoc p [] l h new = both new refl
 each-snoc p (x ∷ ls) l h new = both (and-left (p x) (each p ls) h) (each-snoc p ls l (and-right (p x) (each p ls) h) new)
 

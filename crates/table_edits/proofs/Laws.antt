@@ -17,21 +17,23 @@ use Rattle.refusal.specs.declared.Refusal.{Refusal}
 use Rattle.refusal.specs.Lent.{gives}
 use Rattle.refusal.proofs.Laws.{refuses-gives}
 use Rattle.keytable.specs.declared.entries.Hit.{Hit}
-use Rattle.keytable.specs.declared.entries.Hit.the-variants.{Text, Nothing}
-use Rattle.keytable.specs.Table.{lines, joined, placed, firstText, keyOfText, keyOf, identityOf, validIdentity, validLine, wellFormed}
+use Rattle.keytable.specs.declared.entries.Hit.the-variants.{Line, Nothing}
+use Rattle.keytable.specs.Table.{lines, joined, firstText, keyOfText, keyOf, identityOf, validIdentity, validLine, wellFormed}
+use Rattle.keytable.specs.Starts.{startsOf, placed}
 use Rattle.keytable.specs.WellFormed.{WellFormed, LineRemoved}
-use Rattle.keytable.proofs.Agreement.{identities-sound, well-formed-tests, joined-formed, joined-back, complete}
+use Rattle.keytable.proofs.Agreement.{identities-sound, well-formed-tests, joined-formed, complete}
 use Rattle.keytable.proofs.Texts.{joined-lines}
 use Rattle.table_edits.specs.Edits.{Edit, add, replace, retire, subject, lineWith, isLineOf, listed, others, linesAfter}
 use Rattle.table_edits.specs.Edits.{validSecret, allowed, misplaced, sized, unless, edited, keyAfter, OfBytes}
 use Rattle.table_edits.proofs.Outcomes.{sized-fits}
 use Rattle.table_edits.proofs.After.{own-line, replaced-listed, replaced-twice, others-same, valid-after, distinct-after, others-after}
 use Rattle.table_edits.proofs.After.{unlisted-none, listed-some, others-first, first-after, may-add, may-replace}
+use Rattle.table_edits.proofs.Ends.{unbroken-after}
 use Rattle.table_edits.proofs.Places.{replaced-there, absent-unlisted, line-removed}
 
 -- ---- an accepted edit
 
-record Accepted (e : Edit) (t t' : List ℕ) : Type 0 where
+pub record Accepted (e : Edit) (t t' : List ℕ) : Type 0 where
   pub formed : wellFormed t ≡ true
   pub named : allowed e ≡ true
   pub free : misplaced e (listed (subject e) (lines t)) ≡ none
@@ -42,7 +44,7 @@ record Accepted (e : Edit) (t t' : List ℕ) : Type 0 where
 gives-bytes : {a b : List ℕ} → gives a ≡ gives b → a ≡ b
 gives-bytes e = cc
 
-accepted : (e : Edit) (t t' : List ℕ) → edited e t ≡ gives t' → Accepted e t t'
+pub accepted : (e : Edit) (t t' : List ℕ) → edited e t ≡ gives t' → Accepted e t t'
 unfolding edited
 accepted e t t' h = first (wellFormed t) refl
   where
@@ -78,6 +80,12 @@ edited-on : (e : Edit) (t : List ℕ) → wellFormed t ≡ true → allowed e �
 unfolding edited
 edited-on e t a b = rw (a, b)
 
+-- the lines of the new table
+pub lines-after : (e : Edit) (t t' : List ℕ) → edited e t ≡ gives t' → lines t' ≡ linesAfter e (lines t)
+lines-after e t t' h =
+    let a = accepted e t t' h in
+    ap lines (a .text) ∙ unbroken-after e (lines t) (a .named) (well-formed-tests t (a .formed) .3)
+
 module _ (e : Edit) (t t' : List ℕ) (bytes : OfBytes e) (h : edited e t ≡ gives t') where
   abbrev made : Accepted e t t'
   made = accepted e t t' h
@@ -96,10 +104,6 @@ module _ (e : Edit) (t t' : List ℕ) (bytes : OfBytes e) (h : edited e t ≡ gi
       go (replace i k) ok = and-left (validIdentity i) (validSecret k) ok
       go (retire i) ok = and-left (validIdentity i) true ok
 
-  -- the lines of the new table
-  lines-after : lines t' ≡ linesAfter e (lines t)
-  lines-after = ap lines (made .text) ∙ joined-back (linesAfter e (lines t)) good-after
-
   pub edit-formed : WellFormed t'
   edit-formed =
       rw (made .text)
@@ -107,18 +111,18 @@ module _ (e : Edit) (t t' : List ℕ) (bytes : OfBytes e) (h : edited e t ≡ gi
       (distinct-after e (lines t) (made .named) (made .free) (well-formed-tests t (made .formed) .4)) (made .few-lines) (made .few-bytes))
 
   pub edit-others : others (subject e) (lines t') ≡ others (subject e) (lines t)
-  edit-others = ap (others (subject e)) lines-after ∙ others-after e (lines t) named
+  edit-others = ap (others (subject e)) (lines-after e t t' h) ∙ others-after e (lines t) named
 
   pub edit-key : keyOf t' (subject e) ≡ keyAfter e
   unfolding keyOf
   edit-key =
-      ap (λ (ls : List (List ℕ)). keyOfText (firstText (subject e) ls)) lines-after
+      ap (λ (ls : List (List ℕ)). keyOfText (firstText (subject e) ls)) (lines-after e t t' h)
       ∙ first-after e (lines t) bytes (made .named) (made .free) good
 
   pub edit-else : (other : List ℕ) → ¬ (other ≡ subject e) → keyOf t' other ≡ keyOf t other
   unfolding keyOf
   edit-else other differ =
-      let after : each validLine (lines t') ≡ true = rw lines-after good-after in
+      let after : each validLine (lines t') ≡ true = rw (lines-after e t t' h) good-after in
       ap keyOfText
       (sym (others-first (subject e) other (lines t') differ after)
       ∙ ap (firstText other) edit-others ∙ others-first (subject e) other (lines t) differ good)
@@ -138,13 +142,13 @@ listed-found t i formed =
 -- ---- retiring takes out one line
 
 pub retire-removes : (i t t' : List ℕ) → edited (retire i) t ≡ gives t' → LineRemoved i t t'
-retire-removes i t t' h = go (placed 0 i (lines t)) refl
+retire-removes i t t' h = go (placed 0 i t (startsOf t)) refl
   where
     a : Accepted (retire i) t t'
     a = accepted (retire i) t t' h
 
-    go : (hit : Hit) → placed 0 i (lines t) ≡ hit → LineRemoved i t t'
-    go (Text from to) e = rw (a .text) (line-removed t i (a .formed) (and-left (validIdentity i) true (a .named)) from to e)
+    go : (hit : Hit) → placed 0 i t (startsOf t) ≡ hit → LineRemoved i t t'
+    go (Line n from to) e = rw (a .text) (line-removed t i (a .formed) (and-left (validIdentity i) true (a .named)) n from to e)
     go Nothing e = absurd (true≢false (sym (may-replace (listed i (lines t)) (a .free)) ∙ absent-unlisted t i (a .formed) e))
 
 -- ---- retiring what was added
@@ -155,7 +159,7 @@ retire-added i k t t' bytes h =
     let (size, end, few, good, other) = well-formed-tests t (a .formed) in
     let named' = and-left (validIdentity i) (validSecret k) (a .named) in
     let formed' : wellFormed t' ≡ true = complete t' (edit-formed (add i k) t t' bytes h) in
-    let new = lines-after (add i k) t t' bytes h in
+    let new = lines-after (add i k) t t' h in
     let free = may-add (listed i (lines t)) (a .free) in
     let present : listed i (lines t') ≡ true =
     ap (listed i) new ∙ any-append (isLineOf i) (lines t) (lineWith i k ∷ []) ∙ rw (free, own-line i k named') in
@@ -168,14 +172,14 @@ retire-added i k t t' bytes h =
 -- ---- where a line is put
 
 pub added-last : (i k t t' : List ℕ) → Each (λ b. b < 256) k → edited (add i k) t ≡ gives t' → lines t' ≡ lines t ++ (lineWith i k ∷ [])
-added-last i k t t' bytes h = lines-after (add i k) t t' bytes h
+added-last i k t t' bytes h = lines-after (add i k) t t' h
 
 pub replaced-in-place : (i k t t' : List ℕ) (xs : List (List ℕ)) (l : List ℕ) (ys : List (List ℕ)) → Each (λ b. b < 256) k
     → edited (replace i k) t ≡ gives t' → lines t ≡ xs ++ (l ∷ ys) → identityOf l ≡ i → lines t' ≡ xs ++ (lineWith i k ∷ ys)
 replaced-in-place i k t t' xs l ys bytes h split own =
     let a = accepted (replace i k) t t' h in
     let apart = rw split at (identities-sound (map identityOf (lines t)) (well-formed-tests t (a .formed) .4)) in
-    lines-after (replace i k) t t' bytes h ∙ ap (linesAfter (replace i k)) split
+    lines-after (replace i k) t t' h ∙ ap (linesAfter (replace i k)) split
     ∙ replaced-there i xs l ys (ap (same i) own ∙ same-refl i) apart k
 
 -- ---- replacing twice
@@ -187,7 +191,7 @@ replace-twice i k k' t t' bytes h =
     let a = accepted (replace i k) t t' h in
     let named' = and-left (validIdentity i) (validSecret k) (a .named) in
     let formed' : wellFormed t' ≡ true = complete t' (edit-formed (replace i k) t t' bytes h) in
-    let new = lines-after (replace i k) t t' bytes h in
+    let new = lines-after (replace i k) t t' h in
     let still : listed i (lines t') ≡ listed i (lines t) = ap (listed i) new ∙ replaced-listed i k (lines t) named' in
     let again : linesAfter (replace i k') (lines t') ≡ linesAfter (replace i k') (lines t) =
     ap (linesAfter (replace i k')) new ∙ replaced-twice i k k' (lines t) named' in

@@ -1,9 +1,12 @@
 pub mod After
-pub mod Counting
+pub mod Both
 pub mod Digits
+pub mod Ends
 pub mod Laws
+pub mod Lists
 pub mod Moving
 pub mod Outcomes
 pub mod Places
 pub mod Results
+pub mod Starts
 pub mod Writing

@@ -1,23 +1,40 @@
--- A part that is moved within its list, byte by byte. Assumes nothing.
+-- A part that is moved within its list, one by one. Assumes nothing.
 use mathlib.Core.Path.{_≡_, sym, ap, _∙_}
 use Prim.Native.Nat.{ℕ, suc, _+_, _-_, _≤_, _<_}
+use native.Mathlib.Numerals.{add-one}
 use native.Mathlib.Omega.{arith}
-use mathlib.Core.List.{List, _∷_, _++_, append-assoc}
-use lib.ListN.{length, take, drop, getD, set, length-append, length-drop, List·getD-append}
-use lib.Seq.{paste, drop-paste, length-take-le, getD-drop, getD-take, take-suc, drop-cons, set-at, append-snoc}
+use mathlib.Core.List.{List, _∷_, _++_, map, append-assoc}
+use lib.ListN.{length, take, drop, getD, set, length-append, length-drop, length-map, List·getD-append, List·getD-map}
+use lib.Seq.{paste, drop-paste, paste-suc, length-take-le, getD-drop, getD-take, take-suc, drop-cons, set-at, append-snoc}
 
 -- ---- to the front
 
--- the byte that is read next was not written yet
-pub lower-read : (s : List ℕ) (from to i : ℕ) → to ≤ from → from + i < length s
-    → getD (paste s to (drop from s) i) (from + i) 0 ≡ getD (drop from s) i 0
-lower-read s from to i h inside =
+-- what is read next was not written yet
+pub lower-read : (s tail : List ℕ) (from to i : ℕ) → to ≤ from → from + i < length s → i ≤ length tail
+    → getD (paste s to tail i) (from + i) 0 ≡ getD s (from + i) 0
+lower-read s tail from to i h inside left =
     let place : from + i ≡ to + i + (from - to) = omega arith in
     let there : to + i + (from - to) ≡ from + i = omega arith in
-    ap (λ (k : ℕ). getD (paste s to (drop from s) i) k 0) place
-    ∙ sym (getD-drop (to + i) (paste s to (drop from s) i) (from - to) 0)
-    ∙ ap (λ (r : List ℕ). getD r (from - to) 0) (drop-paste s to (drop from s) i (omega arith) (simp length-drop (omega arith)))
-    ∙ getD-drop (to + i) s (from - to) 0 ∙ ap (λ (k : ℕ). getD s k 0) there ∙ sym (getD-drop from s i 0)
+    ap (λ (k : ℕ). getD (paste s to tail i) k 0) place
+    ∙ sym (getD-drop (to + i) (paste s to tail i) (from - to) 0)
+    ∙ ap (λ (r : List ℕ). getD r (from - to) 0) (drop-paste s to tail i (omega arith) left)
+    ∙ getD-drop (to + i) s (from - to) 0 ∙ ap (λ (k : ℕ). getD s k 0) there
+
+-- a turn that changes what it moves: the first i were moved, and the one behind them is next
+module _ (f : ℕ → ℕ) (s m : List ℕ) (from to i : ℕ) (h : to ≤ from) (inside : from + i < length s)
+    (e : m ≡ paste s to (map f (drop from s)) i) where
+  size : length (map f (drop from s)) ≡ length s - from
+  size = length-map (drop from s) f ∙ length-drop from s
+
+  pub change-read : getD m (from + i) 0 ≡ getD s (from + i) 0
+  change-read = ap (λ (r : List ℕ). getD r (from + i) 0) e ∙ lower-read s (map f (drop from s)) from to i h inside (omega (arith, size))
+
+  pub change-turn : set m (to + i) (f (getD m (from + i) 0)) ≡ paste s to (map f (drop from s)) (i + 1)
+  change-turn =
+      let next : f (getD m (from + i) 0) ≡ getD (map f (drop from s)) i (f 0) =
+      ap f (change-read ∙ sym (getD-drop from s i 0)) ∙ sym (List·getD-map f (drop from s) i 0) in
+      rw (next, e) (paste-suc s to (map f (drop from s)) i (f 0) (omega arith) (omega (arith, size)))
+      ∙ ap (paste s to (map f (drop from s))) (sym (add-one i))
 
 -- ---- to the back
 

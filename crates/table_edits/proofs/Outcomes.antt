@@ -4,10 +4,12 @@ use Prim.Native.Nat.{ℕ, _+_, _*_, _≤_, _<_}
 use native.Mathlib.Omega.{arith}
 use mathlib.Core.Bool.{Bool, true, false, _&&_}
 use mathlib.Core.List.{List, [], _∷_, _++_}
+use mathlib.Core.Option.{Option, none, some}
 use lib.ListN.{length, take, drop, length-append}
 use lib.Seq.{length-take-le}
 use lib.Dec.{leb}
 use borrow.Author.Tests.{leb-true, leb-false, le-leb, lt-leb}
+use Rattle.lists.specs.Lists.{each}
 use Rattle.lists.proofs.Tests.{and-left, and-right}
 use Rattle.refusal.specs.declared.Refusal.{Refusal}
 use Rattle.refusal.specs.declared.Refusal.the-variants.{ShortOutput, BadTable, BadValue, TableFull}
@@ -17,122 +19,169 @@ use Rattle.refusal.specs.Lent.{gives, refuses, Answers}
 use Rattle.refusal.proofs.Laws.{gives-answers, short-answers, refuses-answers}
 use Rattle.keytable.specs.declared.Judged.{Judged}
 use Rattle.keytable.specs.declared.entries.Hit.{Hit}
-use Rattle.keytable.specs.declared.entries.Hit.the-variants.{Text, Nothing}
-use Rattle.keytable.specs.Table.{lineEnd, lines, joined, ended, placed, validIdentity, wellFormed}
+use Rattle.keytable.specs.declared.entries.Hit.the-variants.{Line, Nothing}
+use Rattle.keytable.specs.Table.{lineEnd, lines, joined, ended, judged, validIdentity, validLine, wellFormed}
+use Rattle.keytable.specs.Starts.{startsFrom, startsOf, isList, listRefusal, placed}
 use Rattle.keytable.proofs.Tests.{between-sound, identity-sound}
 use Rattle.keytable.proofs.Texts.{joined-lines}
 use Rattle.keytable.proofs.Agreement.{well-formed-tests}
+use Rattle.keytable.proofs.Listed.{count-lines, own-within, own-starts, passed-both}
 use Rattle.keytable.proofs.Spots.{joined-append}
 use Rattle.table_edits.specs.declared.Place.{Place}
 use Rattle.table_edits.specs.declared.Place.the-variants.{At, Absent, Refused}
 use Rattle.table_edits.specs.Edits.{Edit, subject, validSecret, secretAllowed, allowed, misplaced, listed, linesAfter}
-use Rattle.table_edits.specs.Edits.{lineWith, lowerHex, sized, unless, edited, editedIn}
-use Rattle.table_edits.specs.Inner.{bounded, hitPlace, placeIn, sizeJudged}
+use Rattle.table_edits.specs.Edits.{lineWith, lowerHex, sized, unless, edited, roomed, editedIn}
+use Rattle.table_edits.specs.Inner.{bounded, hitPlace, soughtIn, placeIn, sizeJudged, OwnList, Unbroken}
 use Rattle.table_edits.proofs.Digits.{length-hex}
+use Rattle.table_edits.proofs.Starts.{starts-snoc}
 
 -- ---- the tests at the beginning
 
--- neither R2 nor R5
-pub record Passed (memory : List ℕ) (n : ℕ) (identity : List ℕ) (secret : Bool) : Type 0 where
+-- neither R2, nor R10, nor R5
+pub record Passed (memory : List ℕ) (n : ℕ) (starts : List ℕ) (count : ℕ) (identity : List ℕ) (secret : Bool) : Type 0 where
   pub inside : n ≤ length memory
   pub formed : wellFormed (take n memory) ≡ true
+  pub own : isList (take n memory) starts count ≡ true
   pub named : validIdentity identity ≡ true
   pub keyed : secret ≡ true
 
-module _ (memory : List ℕ) (n : ℕ) (i : List ℕ) (secret : Bool) where
+-- what table and list were judged to be
+pub judged-good : (o : Option Refusal) → judged o ≡ Judged.Good → o ≡ none
+judged-good none e = refl
+judged-good (some r) e = let z : _≡_ {A = ℕ} 0 1 = cc in absurd (omega arith)
+
+pub judged-refused : (o : Option Refusal) (r : Refusal) → judged o ≡ Judged.Refused r → o ≡ some r
+judged-refused none r e = let z : _≡_ {A = ℕ} 0 1 = cc in absurd (omega arith)
+judged-refused (some q) r e = cc
+
+pub sought : (t starts i : List ℕ) (secret : Bool) → validIdentity i ≡ true → secret ≡ true
+    → soughtIn t starts i secret ≡ hitPlace (placed 0 i t starts)
+sought t starts i secret named keyed = rw (named, keyed)
+
+hit-at : (h : Hit) (k from to : ℕ) → hitPlace h ≡ At k from to → h ≡ Line k from to
+hit-at (Line a b c) k from to e = cc
+hit-at Nothing k from to e = let z : _≡_ {A = ℕ} 0 1 = cc in absurd (omega arith)
+
+hit-absent : (h : Hit) → hitPlace h ≡ Absent → h ≡ Nothing
+hit-absent (Line a b c) e = let z : _≡_ {A = ℕ} 0 1 = cc in absurd (omega arith)
+hit-absent Nothing e = refl
+
+module _ (memory : List ℕ) (n : ℕ) (starts : List ℕ) (count : ℕ) (i : List ℕ) (secret : Bool) where
   abbrev table : List ℕ
   table = take n memory
 
-  -- a place that no test refused is the search's
-  module _ (p : Place) (e : placeIn memory n i secret ≡ p) (found : (r : Refusal) → ¬ (p ≡ Refused r)) where
-    passed-tests : Passed memory n i secret × (hitPlace (placed 0 i (lines table)) ≡ p)
-    passed-tests = first (leb n (length memory) && wellFormed table) refl
+  module _ (inside : n ≤ length memory) where
+    pub place-good : listRefusal table starts count ≡ none → placeIn memory n starts count i secret ≡ soughtIn table (take count starts) i secret
+    place-good good = rw (le-leb n (length memory) inside, good)
+
+    pub place-refused : (r : Refusal) → listRefusal table starts count ≡ some r → placeIn memory n starts count i secret ≡ Refused r
+    place-refused r bad = rw (le-leb n (length memory) inside, bad)
+
+  -- a place that no test refused is the search's, by the table's own list
+  module _ (p : Place) (e : placeIn memory n starts count i secret ≡ p) (found : (r : Refusal) → ¬ (p ≡ Refused r)) where
+    passed-tests : Passed memory n starts count i secret × (hitPlace (placed 0 i table (startsOf table)) ≡ p)
+    passed-tests = first (leb n (length memory)) refl
       where
-        second : (b : Bool) → (validIdentity i && secret) ≡ b → (leb n (length memory) && wellFormed table) ≡ true
-            → Passed memory n i secret × (hitPlace (placed 0 i (lines table)) ≡ p)
-        second true h held = (
-          record {
-            inside = leb-true n (length memory) (and-left (leb n (length memory)) (wellFormed table) held);
-            formed = and-right (leb n (length memory)) (wellFormed table) held;
-            named = and-left (validIdentity i) secret h;
-            keyed = and-right (validIdentity i) secret h;
-          },
-          rw (held, h) at e,
-        )
-        second false h held = absurd (found BadValue (sym (rw (held, h) at e)))
+        third : (b : Bool) → (validIdentity i && secret) ≡ b → leb n (length memory) ≡ true → listRefusal table starts count ≡ none
+            → Passed memory n starts count i secret × (hitPlace (placed 0 i table (startsOf table)) ≡ p)
+        third true h inside good =
+            let (formed, own) = passed-both table starts count good in (
+              record {
+                inside = leb-true n (length memory) inside;
+                formed = formed;
+                own = own;
+                named = and-left (validIdentity i) secret h;
+                keyed = and-right (validIdentity i) secret h;
+              },
+              rw (own-starts table starts count own) at (rw (inside, good, h) at e),
+            )
+        third false h inside good = absurd (found BadValue (sym (rw (inside, good, h) at e)))
 
-        first : (b : Bool) → (leb n (length memory) && wellFormed table) ≡ b
-            → Passed memory n i secret × (hitPlace (placed 0 i (lines table)) ≡ p)
-        first true held = second (validIdentity i && secret) refl held
-        first false held = absurd (found BadTable (sym (rw held at e)))
+        second : (o : Option Refusal) → listRefusal table starts count ≡ o → leb n (length memory) ≡ true
+            → Passed memory n starts count i secret × (hitPlace (placed 0 i table (startsOf table)) ≡ p)
+        second none good inside = third (validIdentity i && secret) refl inside good
+        second (some r) bad inside = absurd (found r (sym (rw (inside, bad) at e)))
 
-  pub all-passed : Passed memory n i secret → placeIn memory n i secret ≡ hitPlace (placed 0 i (lines table))
-  all-passed p = rw (le-leb n (length memory) (p .inside), p .formed, p .named, p .keyed)
+        first : (b : Bool) → leb n (length memory) ≡ b
+            → Passed memory n starts count i secret × (hitPlace (placed 0 i table (startsOf table)) ≡ p)
+        first true inside = second (listRefusal table starts count) refl inside
+        first false short = absurd (found BadTable (sym (rw short at e)))
 
-hit-at : (h : Hit) (from to : ℕ) → hitPlace h ≡ At from to → h ≡ Text from to
-hit-at (Text a b) from to e = cc
-hit-at Nothing from to e = let z : _≡_ {A = ℕ} 0 1 = cc in absurd (omega arith)
+  pub passed-at : (k from to : ℕ) → placeIn memory n starts count i secret ≡ At k from to
+      → Passed memory n starts count i secret × (placed 0 i table (startsOf table) ≡ Line k from to)
+  passed-at k from to e =
+      let (tests, place) = passed-tests (At k from to) e (λ r f. let z : _≡_ {A = ℕ} 0 1 = cc in omega arith) in
+      (tests, hit-at (placed 0 i table (startsOf table)) k from to place)
 
-hit-absent : (h : Hit) → hitPlace h ≡ Absent → h ≡ Nothing
-hit-absent (Text a b) e = let z : _≡_ {A = ℕ} 0 1 = cc in absurd (omega arith)
-hit-absent Nothing e = refl
-
-module _ (memory : List ℕ) (n : ℕ) (i : List ℕ) (secret : Bool) where
-  pub passed-at : (from to : ℕ) → placeIn memory n i secret ≡ At from to
-      → Passed memory n i secret × (placed 0 i (lines (take n memory)) ≡ Text from to)
-  passed-at from to e =
-      let (tests, place) = passed-tests memory n i secret (At from to) e (λ r f. let z : _≡_ {A = ℕ} 0 1 = cc in omega arith) in
-      (tests, hit-at (placed 0 i (lines (take n memory))) from to place)
-
-  pub passed-absent : placeIn memory n i secret ≡ Absent → Passed memory n i secret × (placed 0 i (lines (take n memory)) ≡ Nothing)
+  pub passed-absent : placeIn memory n starts count i secret ≡ Absent
+      → Passed memory n starts count i secret × (placed 0 i table (startsOf table) ≡ Nothing)
   passed-absent e =
-      let (tests, place) = passed-tests memory n i secret Absent e (λ r f. let z : _≡_ {A = ℕ} 0 1 = cc in omega arith) in
-      (tests, hit-absent (placed 0 i (lines (take n memory))) place)
+      let (tests, place) = passed-tests Absent e (λ r f. let z : _≡_ {A = ℕ} 0 1 = cc in omega arith) in
+      (tests, hit-absent (placed 0 i table (startsOf table)) place)
 
--- ---- what the tests say of sizes
+  -- ---- what the tests say of sizes, and of the list
 
-module _ (memory : List ℕ) (n : ℕ) (i : List ℕ) (secret : Bool) (p : Passed memory n i secret) where
-  pub passed-size : n ≤ 65536
-  passed-size =
-      let size = length-take-le n memory (p .inside) in
-      omega (arith, leb-true (length (take n memory)) 65536 (well-formed-tests (take n memory) (p .formed) .0))
+  module _ (p : Passed memory n starts count i secret) where
+    pub passed-size : n ≤ 65536
+    passed-size =
+        let size = length-take-le n memory (p .inside) in
+        omega (arith, leb-true (length table) 65536 (well-formed-tests table (p .formed) .0))
 
-  pub passed-ended : ended (take n memory) ≡ true
-  passed-ended = well-formed-tests (take n memory) (p .formed) .1
+    pub passed-ended : ended table ≡ true
+    passed-ended = well-formed-tests table (p .formed) .1
 
-  pub passed-lines : length (lines (take n memory)) ≤ 256
-  passed-lines = leb-true (length (lines (take n memory))) 256 (well-formed-tests (take n memory) (p .formed) .2)
+    pub passed-lines : length (lines table) ≤ 256
+    passed-lines = leb-true (length (lines table)) 256 (well-formed-tests table (p .formed) .2)
 
-  pub passed-identity : length i ≤ 128
-  passed-identity = identity-sound i (p .named) .few
+    pub passed-valid : each validLine (lines table) ≡ true
+    passed-valid = well-formed-tests table (p .formed) .3
+
+    pub passed-identity : length i ≤ 128
+    passed-identity = identity-sound i (p .named) .few
+
+    pub passed-list : OwnList table starts count
+    passed-list = (leb-true count (length starts) (own-within table starts count (p .own)), own-starts table starts count (p .own))
+
+    -- a list's count is that of the lines
+    pub passed-count : count ≡ length (lines table)
+    passed-count =
+        sym (length-take-le count starts (passed-list .0)) ∙ ap length (passed-list .1) ∙ count-lines 0 (lines table)
 
 pub secret-few : (key : List ℕ) → validSecret key ≡ true → length key ≤ 64
 secret-few key h = between-sound 1 64 (length key) h .1
 
 -- ---- an edit, by these tests
 
-module _ (memory : List ℕ) (n : ℕ) (e : Edit) where
-  pub edit-refused : (r : Refusal) → placeIn memory n (subject e) (secretAllowed e) ≡ Refused r → editedIn memory n e ≡ refuses r
+module _ (memory : List ℕ) (n : ℕ) (starts : List ℕ) (count : ℕ) (e : Edit) where
+  pub edit-refused : (r : Refusal) → placeIn memory n starts count (subject e) (secretAllowed e) ≡ Refused r → editedIn memory n starts count e ≡ refuses r
   unfolding edited editedIn
-  edit-refused r h = first (leb n (length memory)) (wellFormed (take n memory)) refl refl
+  edit-refused r h = first (leb n (length memory)) refl
     where
       hit-refused : (hit : Hit) → ¬ (hitPlace hit ≡ Refused r)
-      hit-refused (Text a b) f = let z : _≡_ {A = ℕ} 0 1 = cc in omega arith
+      hit-refused (Line a b c) f = let z : _≡_ {A = ℕ} 0 1 = cc in omega arith
       hit-refused Nothing f = let z : _≡_ {A = ℕ} 0 1 = cc in omega arith
 
-      first : (inside formed : Bool) → leb n (length memory) ≡ inside → wellFormed (take n memory) ≡ formed → editedIn memory n e ≡ refuses r
-      first false formed a b = let is : Refused BadTable ≡ Refused r = rw a at h in rw a (cc)
-      first true false a b = let is : Refused BadTable ≡ Refused r = rw (a, b) at h in rw (a, b) (cc)
-      first true true a b = second (allowed e) refl
-        where
-          second : (good : Bool) → allowed e ≡ good → editedIn memory n e ≡ refuses r
-          second false c = let is : Refused BadValue ≡ Refused r = rw (a, b, c) at h in rw (a, b, c) (cc)
-          second true c = absurd (hit-refused (placed 0 (subject e) (lines (take n memory))) (rw (a, b, c) at h))
+      third : (good : Bool) → allowed e ≡ good → leb n (length memory) ≡ true → listRefusal (take n memory) starts count ≡ none
+          → editedIn memory n starts count e ≡ refuses r
+      third false c a b =
+          let is : Refused BadValue ≡ Refused r = rw (a, b, c) at h in
+          rw (a, b, passed-both (take n memory) starts count b .0, c) (cc)
+      third true c a b = absurd (hit-refused (placed 0 (subject e) (take n memory) (take count starts)) (rw (a, b, c) at h))
 
-  pub edit-on : Passed memory n (subject e) (secretAllowed e)
-      → editedIn memory n e ≡ unless (misplaced e (listed (subject e) (lines (take n memory)))) (sized (linesAfter e (lines (take n memory))))
+      second : (o : Option Refusal) → listRefusal (take n memory) starts count ≡ o → leb n (length memory) ≡ true
+          → editedIn memory n starts count e ≡ refuses r
+      second none b a = third (allowed e) refl a b
+      second (some q) b a = let is : Refused q ≡ Refused r = rw (a, b) at h in rw (a, b) (cc)
+
+      first : (inside : Bool) → leb n (length memory) ≡ inside → editedIn memory n starts count e ≡ refuses r
+      first false a = let is : Refused BadTable ≡ Refused r = rw a at h in rw a (cc)
+      first true a = second (listRefusal (take n memory) starts count) refl a
+
+  pub edit-on : Passed memory n starts count (subject e) (secretAllowed e)
+      → editedIn memory n starts count e
+      ≡ roomed (length starts) (unless (misplaced e (listed (subject e) (lines (take n memory)))) (sized (linesAfter e (lines (take n memory)))))
   unfolding edited editedIn
-  edit-on p = rw (le-leb n (length memory) (p .inside), p .formed, p .named, p .keyed)
+  edit-on p = rw (le-leb n (length memory) (p .inside), p .formed, p .own, p .named, p .keyed)
 
 -- ---- the size of the table that comes out
 
@@ -194,3 +243,8 @@ module _ (t i k : List ℕ) where
         let b = length-append (lineWith i k) (lineEnd ∷ []) in
         let c = length-append i (58 ∷ lowerHex k) in
         omega (arith, length-hex k)
+
+    pub added-list : Unbroken (lines t ++ (lineWith i k ∷ [])) → startsOf (joined (lines t ++ (lineWith i k ∷ []))) ≡ startsOf t ++ (length t ∷ [])
+    added-list whole =
+        ap (startsFrom 0) whole ∙ starts-snoc (lines t) (lineWith i k)
+        ∙ ap (λ (s : List ℕ). startsOf t ++ (length s ∷ [])) (joined-lines t end)

@@ -1,6 +1,6 @@
--- Where an identity's line stands in a well-formed table, and what the edits make of the table there. Assumes nothing.
+-- Where an identity's line stands in a well-formed table, and what the edits make of the table and its list there. Assumes nothing.
 use mathlib.Core.Path.{_≡_, refl, sym, ap, ap₂, _∙_}
-use Prim.Native.Nat.{ℕ, suc, _+_, _-_, _≤_}
+use Prim.Native.Nat.{ℕ, suc, _+_, _-_, _*_, _≤_}
 use native.Mathlib.Omega.{arith}
 use mathlib.Core.Bool.{Bool, true, false, cond}
 use mathlib.Core.List.{List, [], _∷_, _++_, map, append-assoc, append-nil, map-append}
@@ -12,17 +12,21 @@ use Rattle.lists.proofs.Tests.{and-left, and-right}
 use Rattle.lists.proofs.Equal.{same-eq, same-refl, same-not}
 use Rattle.lists.proofs.Every.{each-append, every-map}
 use Rattle.lists.proofs.Distinct.{any-append, distinct-middle}
-use Rattle.keytable.specs.declared.entries.Hit.the-variants.{Text, Nothing}
+use Rattle.keytable.specs.declared.entries.Hit.the-variants.{Line, Nothing}
 use Rattle.keytable.specs.Table.{lineEnd, colon, upto, past, lines, joined, keyText}
-use Rattle.keytable.specs.Table.{firstText, placed, identityOf, validIdentity, validLine, wellFormed}
+use Rattle.keytable.specs.Table.{firstText, identityOf, validIdentity, validLine, wellFormed}
+use Rattle.keytable.specs.Starts.{startsFrom, startsOf, placed}
 use Rattle.keytable.specs.WellFormed.{Plain, LineRemoved}
 use Rattle.keytable.proofs.Tests.{identity-sound}
 use Rattle.keytable.proofs.Texts.{Without, upto-append, ended-joined, joined-lines, parted, valid-parted, line-no-end}
 use Rattle.keytable.proofs.Agreement.{identities-sound, line-sound, well-formed-tests}
 use Rattle.keytable.proofs.Lookups.{own-text}
+use Rattle.keytable.proofs.Listed.{lines-there}
 use Rattle.keytable.proofs.Spots.{Spot, spot, nowhere, joined-append}
 use Rattle.table_edits.specs.Edits.{lineWith, isLineOf, listed, others, linesAfter, replace, retire, lowerHex}
-use Rattle.table_edits.specs.Inner.{spliced}
+use Rattle.table_edits.specs.Inner.{spliced, shifted, Starting}
+use Rattle.table_edits.proofs.Digits.{length-hex}
+use Rattle.table_edits.proofs.Starts.{changed-starts, removed-starts, behind-bounds}
 
 -- ---- lines of other identities
 
@@ -82,7 +86,7 @@ module _ (i : List ℕ) (xs : List (List ℕ)) (l : List ℕ) (ys : List (List �
       map-append (λ x. cond (isLineOf i x) (lineWith i k) x) xs (l ∷ ys)
       ∙ rw (replace-stays i k xs (around .0), own, replace-stays i k ys (around .1))
 
-  retired-there : linesAfter (retire i) (xs ++ (l ∷ ys)) ≡ xs ++ ys
+  pub retired-there : linesAfter (retire i) (xs ++ (l ∷ ys)) ≡ xs ++ ys
   retired-there = others-append i xs (l ∷ ys) ∙ rw (others-stay i xs (around .0), own, others-stay i ys (around .1))
 
 -- valid lines in which nothing follows the identity and a colon are those of others
@@ -101,15 +105,16 @@ unlisted i (l ∷ ls) v e = go (keyText i l) refl (λ f. unlisted i ls (and-righ
         rw (same-not i (identityOf l) own) (ih (rw h at e))
 
 module _ (t i : List ℕ) (w : wellFormed t ≡ true) where
-  pub absent-unlisted : placed 0 i (lines t) ≡ Nothing → listed i (lines t) ≡ false
-  absent-unlisted e = unlisted i (lines t) (well-formed-tests t w .3) (nowhere i 0 (lines t) e)
+  pub absent-unlisted : placed 0 i t (startsOf t) ≡ Nothing → listed i (lines t) ≡ false
+  absent-unlisted e =
+      unlisted i (lines t) (well-formed-tests t w .3) (ap (firstText i) (sym (lines-there t)) ∙ nowhere t i 0 (startsOf t) e)
 
   whole : joined (lines t) ≡ t
   whole = joined-lines t (well-formed-tests t w .1)
 
-  module _ (good : validIdentity i ≡ true) (from to : ℕ) (e : placed 0 i (lines t) ≡ Text from to) where
-    abbrev line : Spot i 0 (lines t) from to
-    line = spot i 0 (lines t) from to e
+  module _ (good : validIdentity i ≡ true) (n from to : ℕ) (e : placed 0 i t (startsOf t) ≡ Line n from to) where
+    abbrev line : Spot i 0 0 (lines t) n from to
+    line = spot t i 0 0 (lines t) n from to (lines-there t) e
 
     no-colon : Without colon i
     no-colon = every-map Plain _ (λ b h. h .no-colon) i (identity-sound i good .plain)
@@ -177,6 +182,44 @@ module _ (t i : List ℕ) (w : wellFormed t ≡ true) where
         (sym (drop-drop 1 to t) ∙ ap (drop 1) drop-digits)
         ∙ rw (append-nil (joined (line .front)))
         (sym (ap joined retired-lines ∙ joined-append (line .front) (line .back)))
+
+    -- ---- the list
+
+    index : n ≡ length (line .front)
+    index = omega (arith, line .index)
+
+    pub line-counted : n + 1 ≤ length (lines t)
+    line-counted = omega (arith, index, ap length (line .split) ∙ length-append (line .front) ((i ++ (colon ∷ line .hex)) ∷ line .back))
+
+    -- behind the line's 0A
+    next-starts : length (joined (line .front)) + length (i ++ (colon ∷ line .hex)) + 1 ≡ to + 1
+    next-starts = omega (arith, length-append i (colon ∷ line .hex), line .starts, line .ends)
+
+    -- the starts behind the line, and their bounds
+    pub behind-starts : Starting (to + 1) (length t) (n + 1) (length (lines t)) (startsOf t)
+    behind-starts j low high =
+        let bounds = behind-bounds (line .front) (i ++ (colon ∷ line .hex)) (line .back) j (omega (arith, index))
+        (rw (line .split) at high) in
+        rw (← line .split, next-starts, whole) at bounds
+
+    pub replaced-starts : (k : List ℕ) → startsFrom 0 (linesAfter (replace i k) (lines t))
+        ≡ take (n + 1) (startsOf t) ++ map (shifted to (from + 2 * length k)) (drop (n + 1) (startsOf t))
+    replaced-starts k =
+        let l : List ℕ = i ++ (colon ∷ line .hex) in
+        let size = length-append i (colon ∷ lowerHex k) in
+        let digits = length-hex k in
+        ap (startsFrom 0) (replaced-lines k)
+        ∙ rw (← line .split, ← index) at
+        (changed-starts (line .front) l (line .back) to (from + 2 * length k) (omega (arith, next-starts)) (lineWith i k)
+        (omega (arith, next-starts, line .starts)))
+
+    pub retired-starts : (start : ℕ) → start ≡ from - 1 - length i → startsFrom 0 (linesAfter (retire i) (lines t))
+        ≡ take n (startsOf t) ++ map (shifted (to + 1) start) (drop (n + 1) (startsOf t))
+    retired-starts start e =
+        let l : List ℕ = i ++ (colon ∷ line .hex) in
+        ap (startsFrom 0) retired-lines
+        ∙ rw (← line .split, ← index) at
+        (removed-starts (line .front) l (line .back) (to + 1) start (omega (arith, next-starts)) (omega (arith, next-starts, line .starts)))
 
     -- demand 3's "without one identity's line"
     pub line-removed : LineRemoved i t (joined (linesAfter (retire i) (lines t)))

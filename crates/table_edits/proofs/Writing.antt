@@ -52,7 +52,7 @@ line-appended s line n end h =
 -- ---- a part in the place of another
 
 -- what stands behind a place of a list's front
-front-behind : (s : List ℕ) (at n : ℕ) → at ≤ n → n ≤ length s → drop at (take n s) ≡ part at (n - at) s
+pub front-behind : (s : List ℕ) (at n : ℕ) → at ≤ n → n ≤ length s → drop at (take n s) ≡ part at (n - at) s
 front-behind s at n h inside =
     let size : n ≡ at + (n - at) = omega arith in
     ap (λ (k : ℕ). drop at (take k s)) size ∙ ap (drop at) (take-add at (n - at) s)

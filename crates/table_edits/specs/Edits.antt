@@ -1,18 +1,21 @@
--- Edits of a key table (document 02, P1): a line is added, one identity's key replaced, one identity's line retired. Which lines there are then,
--- and the tests that come first, in document 02's order: R2, R5, R6 or R7, R8. R1, the room, is added by `Answers` (crates/refusal/specs/Lent.antt),
--- last.
+-- Edits of a key table and of the list of its line starts (document 02, P1 and P6): a line is added, one identity's key replaced, one identity's line
+-- retired. Which lines there are then, and the tests that come first, in document 02's order: R2, R10, R5, R6 or R7, R8; R1, the room in the table's
+-- memory or in the list's, is last.
+use mathlib.Core.Path.{_≡_}
 use mathlib.Core.Logic.{_⊎_}
 use Prim.Native.Nat.{ℕ, _+_, _-_, _/_, _%_, _≤_, _<_}
 use mathlib.Core.Bool.{Bool, true, cond, _&&_}
 use mathlib.Core.List.{List, [], _∷_, _++_, map}
 use mathlib.Core.Option.{Option, none, some}
-use lib.ListN.{length, take}
+use lib.ListN.{length, take, drop}
 use lib.Dec.{leb, ltb}
 use Rattle.lists.specs.Lists.{any, same, Each}
 use Rattle.refusal.specs.declared.Refusal.{Refusal}
-use Rattle.refusal.specs.declared.Refusal.the-variants.{BadTable, BadValue, AlreadyListed, NotListed, TableFull}
-use Rattle.refusal.specs.Lent.{Outcome, gives, refuses}
+use Rattle.refusal.specs.declared.Refusal.the-variants.{ShortOutput, BadTable, BadValue, AlreadyListed, NotListed, TableFull}
+use Rattle.refusal.specs.declared.Written.{Written}
+use Rattle.refusal.specs.Lent.{Outcome, gives, refuses, within, Answers}
 use Rattle.keytable.specs.Table.{colon, lines, joined, between, identityOf, validIdentity, tableRefusal}
+use Rattle.keytable.specs.Starts.{startsOf, listRefusal}
 
 -- ---- the line of an identity and a key
 
@@ -97,9 +100,34 @@ edited e t =
     (unless (misplaced e (listed (subject e) (lines t)))
     (sized (linesAfter e (lines t)))))
 
--- The table is the first n bytes of the memory; where the memory is shorter it is R2.
-unfoldable pub editedIn : List ℕ → ℕ → Edit → Outcome
-editedIn memory n e = cond (leb n (length memory)) (edited e (take n memory)) (refuses BadTable)
+-- ---- an edit of a table and its list, in lent memory
+
+-- R1 where the list's room is below the resulting line count; that of the table's memory is added by `Answers` (crates/refusal/specs/Lent.antt)
+abbrev pub roomed : ℕ → Outcome → Outcome
+roomed room (gives t) = cond (leb (length (lines t)) room) (gives t) (refuses ShortOutput)
+roomed room (refuses r) = refuses r
+
+-- The table is the first n bytes of the memory; where the memory is shorter it is R2. The list is the first `count` of the starts.
+unfoldable pub editedIn : List ℕ → ℕ → List ℕ → ℕ → Edit → Outcome
+editedIn memory n starts count e =
+    cond (leb n (length memory))
+    (unless (listRefusal (take n memory) starts count) (roomed (length starts) (edited e (take n memory))))
+    (refuses BadTable)
+
+-- the list's memory afterwards: the edited table's own list stands at its front
+abbrev pub startsAfter : Outcome → List ℕ → List ℕ
+startsAfter (gives t) starts = startsOf t ++ drop (length (startsOf t)) starts
+startsAfter (refuses r) starts = starts
+
+abbrev pub countAfter : Outcome → ℕ → ℕ
+countAfter (gives t) count = length (lines t)
+countAfter (refuses r) count = count
+
+-- A call that was lent a table's memory and a list said `said` and left memory', starts' and count'.
+pub record EditsBoth (wanted : Outcome) (memory starts : List ℕ) (count : ℕ) (said : Written) (memory' starts' : List ℕ) (count' : ℕ) : Type 0 where
+  pub table : Answers wanted memory said memory'
+  pub list : starts' ≡ startsAfter (within (length memory) wanted) starts
+  pub counted : count' ≡ countAfter (within (length memory) wanted) count
 
 -- ---- for what is claimed of an edit
 

@@ -1,30 +1,32 @@
-// Edits of a key table where it stands (document 02, P1): a line is added, one identity's key replaced,
-// one identity's line retired. The table is the first `length` bytes of the lent memory. Each call
-// answers with the length of the edited table, which stands at the front of the memory then, the
-// rest as it was; or it refuses, and no byte was written.
+// Edits of a key table where it stands (document 02, P1), and of the list of its line starts (P6): a line is
+// added, one identity's key replaced, one identity's line retired. The table is the first `length` bytes of
+// the lent memory, its list the first `count` of the lent starts. Each call answers with the length of the
+// edited table, which stands at the front of the memory then, and its list at the front of the starts, the
+// rest of both as it was; or it refuses, and nothing was written.
 //
-// The table is tested, the line is looked for, and what stands behind it is moved once.
+// Table and list are tested, the line is looked for, and what stands behind it is moved once.
 mod hex;
+mod list;
 mod moves;
 
 ghost use mathlib.Core.Path.{_≡_};
 ghost use mathlib.Core.Bool.{true};
-ghost use mathlib.Core.List.{_++_, _∷_, []};
 ghost use Prim.Native.Nat.{_≤_};
 ghost use lib.ListN as ListN;
 ghost use lib.ListN.{take};
 ghost use Rattle.refusal.specs.Lent.{Answers};
 ghost use Rattle.keytable.specs.Table.{lines, ended};
-ghost use Rattle.table_edits.specs.Edits.{add, replace, retire, editedIn, lineWith, lowerHex, sized, validSecret};
-ghost use Rattle.table_edits.specs.Inner.{bounded, spliced, placeIn, sizeJudged};
+ghost use Rattle.table_edits.specs.Edits.{add, replace, retire, linesAfter, editedIn, EditsBoth, lowerHex, roomed, sized, validSecret};
+ghost use Rattle.table_edits.specs.Inner.{bounded, spliced, soughtIn, placeIn, sizeJudged, OwnList, Unbroken};
 use keytable::Hit;
 use keytable::Judged;
 use refusal::Refusal;
 use refusal::Written;
 
-// Where the identity's key stands, from its start to its line's end, if the edit is not refused yet.
+// Which of the lines is the identity's, and where its key stands, from its start to the line's end, if the
+// edit is not refused yet.
 enum Place {
-    At(usize, usize),
+    At(usize, usize, usize),
     Absent,
     Refused(Refusal),
 }
@@ -39,46 +41,43 @@ fn valid_secret(key: &[u8]) -> bool
     key.len() <= 64
 }
 
-// The tests and the search that all edits begin with; `secret` says whether the key is allowed.
-fn locate(memory: &[u8], length: usize, identity: &[u8], secret: bool) -> Place
-    ensures { λ r. ⌜ r ≡ placeIn (now (memory .entry)) length (now (identity .entry)) secret ⌝ }
+// The test of the edit's own bytes, and the search; `secret` says whether the key is allowed.
+fn seek(table: &[u8], starts: &[u32], identity: &[u8], secret: bool) -> Place
+    ensures { λ r. ⌜ r ≡ soughtIn (now (table .entry)) (now (starts .entry)) (now (identity .entry)) secret ⌝ }
 {
-    if memory.len() < length {
-        return Place::Refused(Refusal::BadTable);
-    }
-    let table = &memory[..length];
-    if !keytable::well_formed(table) {
-        return Place::Refused(Refusal::BadTable);
-    }
     if !keytable::valid_identity(identity) {
         return Place::Refused(Refusal::BadValue);
     }
     if !secret {
         return Place::Refused(Refusal::BadValue);
     }
-    let hit = keytable::first_line(table, identity);
+    let hit = keytable::first_line(table, starts, identity);
     match hit {
-        Hit::Text(from, to) => Place::At(from, to),
+        Hit::Line(k, from, to) => Place::At(k, from, to),
         Hit::Nothing => Place::Absent,
     }
 }
 
-// How many lines the table has: each ends in one byte 0A. They are few, and in so narrow a number a
-// processor adds up many bytes at once.
-fn line_count(table: &[u8]) -> u16
-    requires { ⌜ ended (now table) ≡ true ⌝ }
-    requires { ⌜ ListN.length (lines (now table)) ≤ 256 ⌝ }
-    ensures { λ r. ⌜ r ≡ ListN.length (lines (now (table .entry))) ⌝ }
+// What all edits begin with: the tests of table and list come before those of the edit.
+fn locate(
+    memory: &[u8],
+    length: usize,
+    starts: &[u32],
+    count: usize,
+    identity: &[u8],
+    secret: bool,
+) -> Place
+    ensures { λ r. ⌜ r ≡ placeIn (now (memory .entry)) length (now (starts .entry)) count (now (identity .entry)) secret ⌝ }
 {
-    let mut n: u16 = 0;
-    let mut i = 0;
-    while i < table.len() {
-        if table[i] == 10 {
-            n += 1;
-        }
-        i += 1;
+    if memory.len() < length {
+        return Place::Refused(Refusal::BadTable);
     }
-    n
+    let table = &memory[..length];
+    let both = keytable::judge(table, starts, count);
+    match both {
+        Judged::Good => seek(table, &starts[..count], identity, secret),
+        Judged::Refused(r) => Place::Refused(r),
+    }
 }
 
 // Whether a table of so many bytes is short enough (R8), and the memory has room for it (R1).
@@ -94,25 +93,40 @@ fn judge_size(size: usize, room: usize) -> Judged
     Judged::Good
 }
 
-// The line behind the last one, where there is room for it.
-fn append(memory: &mut [u8], length: usize, identity: &[u8], key: &[u8]) -> Written
+// The line behind the last one, and its start behind the others, where there is room for both. A list's count
+// is the number of its table's lines, so none need be counted.
+fn append(
+    memory: &mut [u8],
+    length: usize,
+    starts: &mut [u32],
+    count: &mut usize,
+    identity: &[u8],
+    key: &[u8],
+) -> Written
     requires { ⌜ length ≤ ListN.length (now memory) ⌝ }
     requires { ⌜ length ≤ 65536 ⌝ }
     requires { ⌜ ended (take length (now memory)) ≡ true ⌝ }
-    requires { ⌜ ListN.length (lines (take length (now memory))) ≤ 256 ⌝ }
+    requires { ⌜ OwnList (take length (now memory)) (now starts) (now count) ⌝ }
     requires { ⌜ ListN.length (now identity) ≤ 128 ⌝ }
     requires { ⌜ ListN.length (now key) ≤ 64 ⌝ }
-    ensures { λ r. ⌜ Answers (sized (lines (take length (now (memory .entry))) ++ (lineWith (now (identity .entry)) (now (key .entry)) ∷ [])))
-        (now (memory .entry)) r (now (memory .exit)) ⌝ }
+    requires { ⌜ Unbroken (linesAfter (add (now identity) (now key)) (lines (take length (now memory)))) ⌝ }
+    ensures { λ r. ⌜ EditsBoth (roomed (ListN.length (now (starts .entry))) (sized (linesAfter (add (now (identity .entry)) (now (key .entry))) (lines (take length (now (memory .entry)))))))
+        (now (memory .entry)) (now (starts .entry)) (now (count .entry)) r (now (memory .exit)) (now (starts .exit)) (now (count .exit)) ⌝ }
 {
-    if 256 <= line_count(&memory[..length]) {
+    let lines = *count;
+    if 256 <= lines {
         return Written::Refused(Refusal::TableFull);
     }
     let end = length + identity.len() + 2 * key.len() + 2;
     let size = judge_size(end, memory.len());
     match size {
         Judged::Good => {
+            if starts.len() <= lines {
+                return Written::Refused(Refusal::ShortOutput);
+            }
             hex::put_line(identity, key, &mut memory[length..end]);
+            starts[lines] = length as u32;
+            *count = lines + 1;
             Written::Wrote(end)
         }
         Judged::Refused(r) => Written::Refused(r),
@@ -142,45 +156,76 @@ fn put_digits(memory: &mut [u8], length: usize, from: usize, to: usize, key: &[u
     }
 }
 
-// The line of the identity and the key, as the table's last one. R2, R5, R6 where the identity is listed
+// The line of the identity and the key, as the table's last one. R2, R10, R5, R6 where the identity is listed
 // already, R8, R1.
-pub fn add(memory: &mut [u8], length: usize, identity: &[u8], key: &[u8]) -> Written
-    ensures { λ r. ⌜ Answers (editedIn (now (memory .entry)) length (add (now (identity .entry)) (now (key .entry))))
-        (now (memory .entry)) r (now (memory .exit)) ⌝ }
+pub fn add(
+    memory: &mut [u8],
+    length: usize,
+    starts: &mut [u32],
+    count: &mut usize,
+    identity: &[u8],
+    key: &[u8],
+) -> Written
+    ensures { λ r. ⌜ EditsBoth (editedIn (now (memory .entry)) length (now (starts .entry)) (now (count .entry)) (add (now (identity .entry)) (now (key .entry))))
+        (now (memory .entry)) (now (starts .entry)) (now (count .entry)) r (now (memory .exit)) (now (starts .exit)) (now (count .exit)) ⌝ }
 {
-    let found = locate(memory, length, identity, valid_secret(key));
+    let found = locate(memory, length, starts, *count, identity, valid_secret(key));
     match found {
-        Place::At(_, _) => Written::Refused(Refusal::AlreadyListed),
-        Place::Absent => append(memory, length, identity, key),
+        Place::At(_, _, _) => Written::Refused(Refusal::AlreadyListed),
+        Place::Absent => append(memory, length, starts, count, identity, key),
         Place::Refused(r) => Written::Refused(r),
     }
 }
 
-// The identity's key, in its line's place. R2, R5, R7 where the identity is not listed, R8, R1.
-pub fn replace(memory: &mut [u8], length: usize, identity: &[u8], key: &[u8]) -> Written
-    ensures { λ r. ⌜ Answers (editedIn (now (memory .entry)) length (replace (now (identity .entry)) (now (key .entry))))
-        (now (memory .entry)) r (now (memory .exit)) ⌝ }
+// The identity's key, in its line's place. R2, R10, R5, R7 where the identity is not listed, R8, R1.
+pub fn replace(
+    memory: &mut [u8],
+    length: usize,
+    starts: &mut [u32],
+    count: &mut usize,
+    identity: &[u8],
+    key: &[u8],
+) -> Written
+    ensures { λ r. ⌜ EditsBoth (editedIn (now (memory .entry)) length (now (starts .entry)) (now (count .entry)) (replace (now (identity .entry)) (now (key .entry))))
+        (now (memory .entry)) (now (starts .entry)) (now (count .entry)) r (now (memory .exit)) (now (starts .exit)) (now (count .exit)) ⌝ }
 {
-    let found = locate(memory, length, identity, valid_secret(key));
+    let found = locate(memory, length, starts, *count, identity, valid_secret(key));
     match found {
-        Place::At(from, to) => put_digits(memory, length, from, to, key),
+        Place::At(k, from, to) => {
+            let written = put_digits(memory, length, from, to, key);
+            match written {
+                Written::Wrote(n) => {
+                    list::follow(starts, k + 1, *count, k + 1, to, from + 2 * key.len());
+                    Written::Wrote(n)
+                }
+                Written::Refused(r) => Written::Refused(r),
+            }
+        }
         Place::Absent => Written::Refused(Refusal::NotListed),
         Place::Refused(r) => Written::Refused(r),
     }
 }
 
-// The table without the identity's line. R2, R5, R7 where the identity is not listed. The bytes behind
-// the shorter table stay as they were, keys among them.
-pub fn retire(memory: &mut [u8], length: usize, identity: &[u8]) -> Written
-    ensures { λ r. ⌜ Answers (editedIn (now (memory .entry)) length (retire (now (identity .entry))))
-        (now (memory .entry)) r (now (memory .exit)) ⌝ }
+// The table without the identity's line. R2, R10, R5, R7 where the identity is not listed. The bytes
+// behind the shorter table stay as they were, keys among them, and so does the list's old last start.
+pub fn retire(
+    memory: &mut [u8],
+    length: usize,
+    starts: &mut [u32],
+    count: &mut usize,
+    identity: &[u8],
+) -> Written
+    ensures { λ r. ⌜ EditsBoth (editedIn (now (memory .entry)) length (now (starts .entry)) (now (count .entry)) (retire (now (identity .entry))))
+        (now (memory .entry)) (now (starts .entry)) (now (count .entry)) r (now (memory .exit)) (now (starts .exit)) (now (count .exit)) ⌝ }
 {
-    let found = locate(memory, length, identity, true);
+    let found = locate(memory, length, starts, *count, identity, true);
     match found {
-        Place::At(from, to) => {
+        Place::At(k, from, to) => {
             let start = from - 1 - identity.len();
             let next = to + 1;
             moves::shift(memory, next, length, start);
+            list::follow(starts, k + 1, *count, k, next, start);
+            *count = *count - 1;
             Written::Wrote(start + (length - next))
         }
         Place::Absent => Written::Refused(Refusal::NotListed),

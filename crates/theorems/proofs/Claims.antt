@@ -16,6 +16,8 @@ use Rattle.messages.proofs.NewSessionTickets.{ticket-inverse}
 use Rattle.keytable.proofs.Agreement.{sound, complete}
 use Rattle.keytable.proofs.Lookups.{lookup-exact, malformed-unlisted}
 use Rattle.keytable.proofs.Laws.{removable, removed-had}
+use Rattle.keytable.proofs.Listed.{lines-there, looked-up-own}
+use Rattle.table_edits.proofs.Lists.{starts-added, starts-replaced, starts-retired}
 use Rattle.table_edits.proofs.Digits.{lower-only}
 use Rattle.table_edits.proofs.Laws.{edit-formed, edit-others, edit-key, edit-else, listed-found, retire-removes, added-last}
 use Rattle.table_edits.proofs.Laws.{retire-added, replaced-in-place, replace-twice}
@@ -30,6 +32,7 @@ use Rattle.theorems.proofs.Numbers.{label-texts, numbers-in-c}
 use Rattle.theorems.proofs.Sameness.{sameness, sameness-of-lookups}
 use Rattle.theorems.proofs.Completion.{completes-exactly}
 use Rattle.theorems.proofs.FromC.{sameness-from-c, completes-exactly-from-c}
+use Rattle.theorems.proofs.Starts.{list-is-own, made-list-matches, edited-alike, edited-list}
 use Rattle.theorems.proofs.Worked as Worked
 
 pub claims : Claims
@@ -68,6 +71,10 @@ claims =
       malformedUnlisted = malformed-unlisted;
       lineRemovable = removable;
       removedHad = removed-had;
+      linesAtStarts = lines-there;
+      listIsOwn = list-is-own;
+      madeListMatches = made-list-matches;
+      lookupByList = looked-up-own;
       editFormed = edit-formed;
       editOthers = edit-others;
       editKey = edit-key;
@@ -79,6 +86,11 @@ claims =
       retireUndoesAdd = retire-added;
       replaceTwice = replace-twice;
       listedFound = listed-found;
+      editedAlike = edited-alike;
+      editedList = edited-list;
+      addedStart = starts-added;
+      replacedStarts = starts-replaced;
+      retiredStarts = starts-retired;
       worked = Worked.worked;
       suitesInOrder = suites-in-order;
       masterHanded = λ flight next. refl;

@@ -136,4 +136,4 @@ module _ (s : Settings) (v : View) (ok : acceptable s ≡ true) where
   )
 
 pub completes-exactly : CompletesExactly
-completes-exactly s ok table calls = rw ok (exactly s (viewOf table) ok calls)
+completes-exactly s ok table starts count calls = rw ok (exactly s (viewOf table starts count) ok calls)

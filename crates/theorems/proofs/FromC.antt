@@ -81,16 +81,18 @@ hiding rule (inl e) = inl (rw e)
 hiding rule (inr e) = inr (rw e)
 
 pub sameness-from-c : SamenessFromC
-sameness-from-c random hint standIn rule rule' hide hide' _ _ start start' identity table without removed good good' calls never _ _ _ _ made made' =
+sameness-from-c random hint standIn rule rule' hide hide' _ _ start start' identity table without removed good good' starts starts' count count' own own' calls
+    never _ _ _ _ made made' =
     let s : Settings = settingsOf random hint standIn rule in
     let s' : Settings = settingsOf random hint standIn rule' in
     let one-side = begun random hint standIn rule start in
     let other-side = begun random hint standIn rule' start' in
     let alike : Alike s s' = record { random = refl; hint = refl; standIn = refl; suites = refl } in
-    let same = sameness s s' alike (one-side .0) (hiding rule hide) (hiding rule' hide') identity table without removed good good' calls never in
-    series-run (viewOf table) made (startAnswer s .next) (one-side .1) .1
+    let same = sameness s s' alike (one-side .0) (hiding rule hide) (hiding rule' hide') identity table without removed good good' starts starts' count count'
+    own own' calls never in
+    series-run (viewOf table starts count) made (startAnswer s .next) (one-side .1) .1
     ∙ ap (map asGiven) same
-    ∙ sym (series-run (viewOf without) made' (startAnswer s' .next) (other-side .1) .1)
+    ∙ sym (series-run (viewOf without starts' count') made' (startAnswer s' .next) (other-side .1) .1)
 
 five-is-complete : (p : Phase) → phaseByte p ≡ 5 → p ≡ Phase.Complete
 five-is-complete Phase.Closed e = cc
@@ -101,11 +103,11 @@ five-is-complete Phase.Finished e = cc
 five-is-complete Phase.Complete e = refl
 
 pub completes-exactly-from-c : CompletesExactlyFromC
-completes-exactly-from-c random hint standIn rule bytes start table calls given last made =
+completes-exactly-from-c random hint standIn rule bytes start table starts count calls given last made =
     let s : Settings = settingsOf random hint standIn rule in
     let side = begun random hint standIn rule start in
-    let exactly = completes-exactly s (side .0) table calls in
-    let ends = ap (λ (c : Connection). c .phase) (series-run (viewOf table) made (startAnswer s .next) (side .1) .0) in (
+    let exactly = completes-exactly s (side .0) table starts count calls in
+    let ends = ap (λ (c : Connection). c .phase) (series-run (viewOf table starts count) made (startAnswer s .next) (side .1) .0) in (
       λ e. exactly .0 (sym ends ∙ five-is-complete (restored last .phase) e),
       λ came. ap phaseByte (ends ∙ exactly .1 came),
     )

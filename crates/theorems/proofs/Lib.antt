@@ -5,6 +5,7 @@ pub mod Finishing
 pub mod Progress
 pub mod Completion
 pub mod Sameness
+pub mod Starts
 pub mod Worked
 pub mod Rules
 pub mod Over

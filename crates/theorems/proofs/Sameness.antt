@@ -333,10 +333,11 @@ sameness-of-lookups s s' alike ok hide hide' Set v v' good good' agree calls nev
 -- ---- the second table is the first one without a line
 
 pub sameness : Sameness
-sameness s s' alike ok hide hide' identity table without removed good good' calls never =
-    sameness-of-lookups s s' alike ok hide hide' (λ i. i ≡ identity) (viewOf table) (viewOf without) (rw good) (rw good') agree calls never-judged
+sameness s s' alike ok hide hide' identity table without removed good good' starts starts' count count' own own' calls never =
+    sameness-of-lookups s s' alike ok hide hide' (λ i. i ≡ identity) (viewOf table starts count) (viewOf without starts' count')
+    (rw (good, own)) (rw (good', own')) agree calls never-judged
   where
-    agree : AgreeOutside (λ i. i ≡ identity) (viewOf table) (viewOf without)
+    agree : AgreeOutside (λ i. i ≡ identity) (viewOf table starts count) (viewOf without starts' count')
     agree i = go (same i identity) refl
       where
         go : (b : Bool) → same i identity ≡ b → (keyOf table i ≡ keyOf without i) ⊎ (i ≡ identity)
@@ -344,11 +345,11 @@ sameness s s' alike ok hide hide' identity table without removed good good' call
         go false e = inl (removed-else identity table without removed good i (λ is. true≢false (sym (rw is (same-refl identity)) ∙ e)))
 
     -- the second table has no key for it
-    unlisted : (i : List ℕ) → i ≡ identity → (before : List Call) (x : Call) → ¬ JudgedRight s (viewOf without) i before x
+    unlisted : (i : List ℕ) → i ≡ identity → (before : List Call) (x : Call) → ¬ JudgedRight s (viewOf without starts' count') i before x
     unlisted i is before x judged =
         let gone : keyOf without identity ≡ none = removed-gone identity table without removed good in
         let found : keyOf without identity ≡ some (judged .right .key) = rw (← is, ← judged .names) (judged .right .listed) in
         Option·none-ne-some (judged .right .key) (sym gone ∙ found)
 
-    never-judged : NoneJudgedRightOf (λ i. i ≡ identity) s (viewOf table) (viewOf without) calls
+    never-judged : NoneJudgedRightOf (λ i. i ≡ identity) s (viewOf table starts count) (viewOf without starts' count') calls
     never-judged i is = (rw is never, λ before x after split. unlisted i is before x)

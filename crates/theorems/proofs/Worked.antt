@@ -20,7 +20,7 @@ premaster-answer : (psk : List ℕ) → 1 ≤ length psk → length psk ≤ 64 �
 premaster-answer psk h k = rw (premaster-given psk h k) (ap Wrote (length-premaster psk))
 
 bad-gives-R2 : (t : List ℕ) → wellFormed t ≡ false → GivesR2 t
-bad-gives-R2 t bad c m fits = rw (fits, bad)
+bad-gives-R2 t bad starts count c m fits = rw (fits, bad)
 
 pub worked : BytesWorkedThrough
 unfolding premaster premasterBytes leadingZeros validUtf8 wellFormed keyOf

@@ -2,11 +2,11 @@
 -- field, and tests/claims compares the two. proofs/Claims.antt proves it by one value.
 use mathlib.Core.Path.{_≡_}
 use mathlib.Core.Logic.{_↔_}
-use Prim.Native.Nat.{ℕ, _+_, _%_, _^_, _≤_, _<_}
+use Prim.Native.Nat.{ℕ, _+_, _-_, _%_, _^_, _≤_, _<_}
 use mathlib.Core.Bool.{true, false}
-use mathlib.Core.List.{List, [], _∷_, _++_}
+use mathlib.Core.List.{List, [], _∷_, _++_, map}
 use mathlib.Core.Option.{none, some}
-use lib.ListN.{length, drop, replicate}
+use lib.ListN.{length, take, drop, replicate}
 use lib.Dec.{eqb}
 use Rattle.lists.specs.Lists.{each, distinct, Each}
 use Rattle.refusal.specs.declared.Refusal.{Refusal}
@@ -29,10 +29,11 @@ use Rattle.messages.specs.KeyExchange.{serverKeyExchange, clientKeyExchange, re
 use Rattle.messages.specs.Fixed as Fixed
 use Rattle.messages.specs.Fixed.{serverHelloDone, readFixed}
 use Rattle.messages.specs.NewSessionTicket.{newSessionTicket, readTicket}
-use Rattle.keytable.specs.Table.{lines, decoded, identityOf, validIdentity, wellFormed, keyOf}
+use Rattle.keytable.specs.Table.{lines, decoded, identityOf, validIdentity, wellFormed, keyOf, found}
+use Rattle.keytable.specs.Starts.{startsOf, lineAt, isList, listMade, lookedUp}
 use Rattle.keytable.specs.WellFormed.{Line, text, WellFormed, Listed, LineRemoved}
-use Rattle.table_edits.specs.Edits.{Edit, add, replace, retire, subject, lowerHex, lineWith, listed, others, edited}
-use Rattle.table_edits.specs.Edits.{keyAfter, OfBytes, LowerDigit}
+use Rattle.table_edits.specs.Edits.{Edit, add, replace, retire, subject, lowerHex, lineWith, listed, others, edited, editedIn}
+use Rattle.table_edits.specs.Edits.{keyAfter, OfBytes, LowerDigit, startsAfter, countAfter}
 use Rattle.server.specs.declared.Phase.{Phase}
 use Rattle.server.specs.declared.Connection.{Connection}
 use Rattle.server.specs.KeyExchange.{View}
@@ -96,6 +97,12 @@ pub record Claims : Type 1 where
   pub lineRemovable : (t : List ℕ) (w : WellFormed t) (xs : List Line) (l : Line) (ys : List Line) → w .lines ≡ xs ++ (l ∷ ys)
       → LineRemoved (l .identity) t (text (xs ++ ys))
   pub removedHad : (identity t t' : List ℕ) (r : LineRemoved identity t t') → wellFormed t ≡ true → keyOf t identity ≡ some (decoded (r .hex))
+  -- the list of line starts (document 02, P6): at the table's own starts stand its lines, a list that is not refused is its own, the one that is made is
+  -- not refused, and a lookup by it answers as one without a list
+  pub linesAtStarts : (t : List ℕ) → map (lineAt t) (startsOf t) ≡ lines t
+  pub listIsOwn : (t starts : List ℕ) (count : ℕ) → isList t starts count ≡ true → (take count starts ≡ startsOf t) × (count ≡ length (lines t))
+  pub madeListMatches : (t made starts : List ℕ) → listMade t ≡ gives made → isList t (made ++ starts) (length made) ≡ true
+  pub lookupByList : (t starts : List ℕ) (count : ℕ) → isList t starts count ≡ true → (i : List ℕ) → lookedUp t starts count i ≡ found (keyOf t i)
   -- edits of a key table (document 02, P1): of every edit that gives a table
   pub editFormed : (e : Edit) (t t' : List ℕ) → OfBytes e → edited e t ≡ gives t' → WellFormed t'
   pub editOthers : (e : Edit) (t t' : List ℕ) → OfBytes e → edited e t ≡ gives t' → others (subject e) (lines t') ≡ others (subject e) (lines t)
@@ -114,6 +121,21 @@ pub record Claims : Type 1 where
   pub replaceTwice : (identity key key' t t' : List ℕ) → Each (λ b. b < 256) key → edited (replace identity key) t ≡ gives t'
       → edited (replace identity key') t' ≡ edited (replace identity key') t
   pub listedFound : (t identity : List ℕ) → wellFormed t ≡ true → (listed identity (lines t) ≡ false) ↔ (keyOf t identity ≡ none)
+  -- edits with a list (document 02, P6): the table is edited as without one, and the list afterwards is the edited table's own, in its room
+  pub editedAlike : (memory : List ℕ) (n : ℕ) (starts : List ℕ) (count : ℕ) (e : Edit) (t : List ℕ) → editedIn memory n starts count e ≡ gives t
+      → edited e (take n memory) ≡ gives t
+  pub editedList : (memory : List ℕ) (n : ℕ) (starts : List ℕ) (count : ℕ) (e : Edit) (t : List ℕ) → editedIn memory n starts count e ≡ gives t
+      → (isList t (startsAfter (gives t) starts) (countAfter (gives t) count) ≡ true) × (length (startsAfter (gives t) starts) ≡ length starts)
+  -- how that list comes from the one before: a start more, where the table ended; the starts behind a line moved by as much as it grows; one start
+  -- gone, and those behind it moved by the line with its 0A
+  pub addedStart : (identity key t t' : List ℕ) → edited (add identity key) t ≡ gives t' → startsOf t' ≡ startsOf t ++ (length t ∷ [])
+  pub replacedStarts : (identity t : List ℕ) (xs : List (List ℕ)) (l : List ℕ) (ys : List (List ℕ)) → lines t ≡ xs ++ (l ∷ ys) → identityOf l ≡ identity
+      → (key t' : List ℕ) → edited (replace identity key) t ≡ gives t'
+      → startsOf t'
+      ≡ take (length xs + 1) (startsOf t) ++ map (λ s. s - length l + length (lineWith identity key)) (drop (length xs + 1) (startsOf t))
+  pub retiredStarts : (identity t : List ℕ) (xs : List (List ℕ)) (l : List ℕ) (ys : List (List ℕ)) → lines t ≡ xs ++ (l ∷ ys) → identityOf l ≡ identity
+      → (t' : List ℕ) → edited (retire identity) t ≡ gives t'
+      → startsOf t' ≡ take (length xs) (startsOf t) ++ map (λ s. s - (length l + 1)) (drop (length xs + 1) (startsOf t))
   -- the worked bytes
   pub worked : BytesWorkedThrough
   -- the server's choices

@@ -7,6 +7,7 @@ use mathlib.Core.Bool.{true}
 use mathlib.Core.List.{List, _∷_, _++_}
 use lib.ListN.{length}
 use Rattle.keytable.specs.Table.{wellFormed}
+use Rattle.keytable.specs.Starts.{isList}
 use Rattle.keytable.specs.WellFormed.{LineRemoved}
 use Rattle.server.specs.declared.Named.{Named}
 use Rattle.server.specs.declared.Phase.{Phase}
@@ -44,17 +45,18 @@ abbrev pub NoneJudgedRight : Settings → View → List ℕ → List Call → Ty
 NoneJudgedRight s v identity calls =
     (before : List Call) (x : Call) (after : List Call) → calls ≡ before ++ (x ∷ after) → ¬ JudgedRight s v identity before x
 
--- Two servers with the same random, hint and stand-in key; the setting of each is hide, or none is named. Their tables are well formed, no call changes
--- them, and the second is the first without the line of one identity. The answers are compared over the whole series: said of one call at a time, from
+-- Two servers with the same random, hint and stand-in key; the setting of each is hide, or none is named. Their tables are well formed, each with its own
+-- list of line starts, so that neither R2 nor R10 ever comes; no call changes them, and the second table is the first without the line of one identity. The answers are compared over the whole series: said of one call at a time, from
 -- alike connections, it would say nothing of a difference that a call leaves behind for a later one to show.
 abbrev pub Sameness : Type 0
 Sameness =
     (s s' : Settings) → Alike s s' → acceptable s ≡ true → Hiding (s .named) → Hiding (s' .named)
     → (identity table without : List ℕ) → LineRemoved identity table without → wellFormed table ≡ true → wellFormed without ≡ true
-    → (calls : List Call) → NoneJudgedRight s (viewOf table) identity calls
-    → answers (viewOf table) (startAnswer s .next) calls ≡ answers (viewOf without) (startAnswer s' .next) calls
+    → (starts starts' : List ℕ) (count count' : ℕ) → isList table starts count ≡ true → isList without starts' count' ≡ true
+    → (calls : List Call) → NoneJudgedRight s (viewOf table starts count) identity calls
+    → answers (viewOf table starts count) (startAnswer s .next) calls ≡ answers (viewOf without starts' count') (startAnswer s' .next) calls
 
--- ---- second half: completes exactly when, under either rule, with a table well formed or not
+-- ---- second half: completes exactly when, under either rule, with a table well formed or not and any list
 
 -- Legal messages and a change of cipher came in their order, with nothing else before their end but ignored warnings and calls refused to the host; the
 -- identity is listed, and the Finished value is the one under its key.
@@ -69,9 +71,9 @@ pub record CameRight (s : Settings) (v : View) (calls : List Call) : Type 0 wher
   -- with less room it is refused to the host, and counts as not come
   pub room : finishedLength ≤ length out
 
--- Nothing is assumed of the connection's state or of the table: with a table that has to be well formed the statement would leave out R2, and with the
--- state in the assumption it would say nothing of how a server gets there.
+-- Nothing is assumed of the connection's state, of the table or of the list: with a table that has to be well formed the statement would leave out R2, with
+-- a list that has to be its own R10, and with the state in the assumption it would say nothing of how a server gets there.
 abbrev pub CompletesExactly : Type 0
 CompletesExactly =
-    (s : Settings) → acceptable s ≡ true → (table : List ℕ) (calls : List Call)
-    → (run (viewOf table) (startAnswer s .next) calls .phase ≡ Phase.Complete) ↔ CameRight s (viewOf table) calls
+    (s : Settings) → acceptable s ≡ true → (table starts : List ℕ) (count : ℕ) (calls : List Call)
+    → (run (viewOf table starts count) (startAnswer s .next) calls .phase ≡ Phase.Complete) ↔ CameRight s (viewOf table starts count) calls

@@ -6,6 +6,7 @@ use mathlib.Core.Bool.{true}
 use mathlib.Core.List.{List, [], _∷_}
 use lib.IntN.{ℤ, pos}
 use Rattle.keytable.specs.Table.{wellFormed}
+use Rattle.keytable.specs.Starts.{isList}
 use Rattle.keytable.specs.WellFormed.{LineRemoved}
 use Rattle.server.specs.Connection.{Settings, suites}
 use Rattle.server.specs.KeyExchange.{View, viewOf}
@@ -49,13 +50,15 @@ SamenessFromC =
     (random hint standIn : List ℕ) (rule rule' : ℕ) → HidingInC rule → HidingInC rule'
     → (bytes bytes' : List ℕ) → Started random hint standIn rule bytes → Started random hint standIn rule' bytes'
     → (identity table without : List ℕ) → LineRemoved identity table without → wellFormed table ≡ true → wellFormed without ≡ true
-    → (calls : List Call) → NoneJudgedRight (settingsOf random hint standIn rule) (viewOf table) identity calls
-    → (given given' : List Given) (last last' : List ℕ) → Series (viewOf table) bytes calls given last → Series (viewOf without) bytes' calls given' last'
+    → (starts starts' : List ℕ) (count count' : ℕ) → isList table starts count ≡ true → isList without starts' count' ≡ true
+    → (calls : List Call) → NoneJudgedRight (settingsOf random hint standIn rule) (viewOf table starts count) identity calls
+    → (given given' : List Given) (last last' : List ℕ)
+    → Series (viewOf table starts count) bytes calls given last → Series (viewOf without starts' count') bytes' calls given' last'
     → given ≡ given'
 
 -- second half: tn_phase is 5 after the series exactly where the right calls came
 abbrev pub CompletesExactlyFromC : Type 0
 CompletesExactlyFromC =
     (random hint standIn : List ℕ) (rule : ℕ) (bytes : List ℕ) → Started random hint standIn rule bytes
-    → (table : List ℕ) (calls : List Call) (given : List Given) (last : List ℕ) → Series (viewOf table) bytes calls given last
-    → (phaseByte (restored last .phase) ≡ 5) ↔ CameRight (settingsOf random hint standIn rule) (viewOf table) calls
+    → (table starts : List ℕ) (count : ℕ) (calls : List Call) (given : List Given) (last : List ℕ) → Series (viewOf table starts count) bytes calls given last
+    → (phaseByte (restored last .phase) ≡ 5) ↔ CameRight (settingsOf random hint standIn rule) (viewOf table starts count) calls

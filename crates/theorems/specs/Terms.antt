@@ -85,7 +85,7 @@ pub record ShortHello (s : Settings) (x : Call) : Type 0 where
   pub legal : LegalHello (s .suites) hello
   pub short : length out < length (flightTo s legal)
 
--- Where the table refuses, R2 today: the call meets each test that stands before that, the tests on the header.
+-- Where the table or its list refuses, R2 or R10: the call meets each test that stands before that, the tests on the header.
 pub record BadTableCall (v : View) (x : Call) : Type 0 where
   pub exchange : List ℕ
   pub out : List ℕ

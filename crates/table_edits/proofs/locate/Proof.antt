@@ -1,14 +1,17 @@
--- `table_edits::locate`: the first test that fails decides; where all pass, the search does.
+-- `table_edits::locate`: a short memory, what table and list were judged to be, and the search by a list that is the table's own.
 -- Assumes nothing.
-use mathlib.Core.Path.{_≡_, sym, ap, _∙_}
+use mathlib.Core.Path.{_≡_, sym, _∙_}
+use Prim.Native.Nat.{ℕ}
+use mathlib.Core.Bool.{Bool}
+use mathlib.Core.List.{List}
+use mathlib.Core.Option.{none}
 use denote.Ref.{now}
 use lib.ListN.{take}
 use lib.Seq.{length-take-le}
-use borrow.Author.Tests.{le-leb, lt-leb, not-true, not-false}
-use Rattle.lists.proofs.Tests.{failed, passed}
-use Rattle.keytable.specs.Table.{lines, placed}
-use Rattle.table_edits.specs.Inner.{hitPlace, placeIn}
-use Rattle.table_edits.proofs.Outcomes.{all-passed}
+use borrow.Author.Tests.{lt-leb, leb-true}
+use Rattle.keytable.specs.Starts.{listRefusal}
+use Rattle.keytable.proofs.Listed.{own-within, passed-both}
+use Rattle.table_edits.proofs.Outcomes.{judged-good, judged-refused, place-good, place-refused}
 use borrow.Author.Needs.{needs}
 use Rattle.table_edits.proofs.locate.Statement.{statement}
 use Rattle.table_edits.proofs.locate.Tie as tie
@@ -19,61 +22,53 @@ returns c = rw (lt-leb _ _ (c .if1 .taken))
 slice-aggregate-table : tie.Need-slice-aggregate-table
 slice-aggregate-table c = sym (length-take-le _ _ (c .before .if1 .left))
 
+-- where table and list were judged
+module _ (c : tie.After-judge) where
+  abbrev long : tie.Else1
+  long = c .before .before
+
+  abbrev start : tie.Start
+  start = long .before .before .before .before
+
+  abbrev memory : List ℕ
+  memory = now (start .args .memory)
+
+  abbrev n : ℕ
+  n = start .args .length
+
+  abbrev starts : List ℕ
+  starts = now (start .args .starts)
+
+  abbrev count : ℕ
+  count = start .args .count
+
+  abbrev identity : List ℕ
+  identity = now (start .args .identity)
+
+  abbrev secret : Bool
+  secret = start .args .secret
+
+good : (c : tie.After-enum-told) → let j : tie.After-judge = c .before .before in listRefusal (take (n j) (memory j)) (starts j) (count j) ≡ none
+good c = judged-good _ (sym (c .before .before .judge .ensures) ∙ c .enum-told .given .1)
+
+slice-aggregate-seek : tie.Need-slice-aggregate-seek
+slice-aggregate-seek c =
+    let j = c .before .before .before in
+    let t : List ℕ = take (n j) (memory j) in
+    let own = passed-both t (starts j) (count j) (good (c .before)) .1 in
+    sym (length-take-le _ _ (leb-true _ _ (own-within t (starts j) (count j) own)))
+
 returns-2 : tie.Need-returns-2
 returns-2 c =
-    let t = c .before in
-    rw (le-leb _ _ (t .before .before .if1 .left), failed _ _ (t .well-formed .ensures) (c .if2 .taken))
+    let told = c .before .before in
+    let j = told .before .before in
+    c .seek .ensures ∙ sym (place-good (memory j) (n j) (starts j) (count j) (identity j) (secret j) (long j .if1 .left) (good told))
 
 returns-3 : tie.Need-returns-3
 returns-3 c =
-    let t = c .before .before .before in
-    rw (
-      le-leb _ _ (t .before .before .if1 .left),
-      passed _ _ (t .well-formed .ensures) (c .before .before .if2 .left),
-      failed _ _ (c .before .valid-identity .ensures) (c .if3 .taken),
-    )
-
-returns-4 : tie.Need-returns-4
-returns-4 c =
-    let t = c .before .before .before .before in
-    rw (
-      le-leb _ _ (t .before .before .if1 .left),
-      passed _ _ (t .well-formed .ensures) (c .before .before .before .if2 .left),
-      passed _ _ (c .before .before .valid-identity .ensures) (c .before .if3 .left),
-      not-true (t .before .before .before .before .before .args .secret) (c .if4 .taken),
-    )
-
--- where the search has been made: every test passed
-module _ (c : tie.After-first-line) where
-  abbrev identified : tie.After-valid-identity
-  identified = c .before .before .before
-
-  abbrev formed : tie.After-well-formed
-  formed = identified .before .before
-
-  abbrev start : tie.Start
-  start = formed .before .before .before .before .before
-
-  place : placeIn (now (start .args .memory)) (start .args .length) (now (start .args .identity)) (start .args .secret)
-      ≡ hitPlace (placed 0 (now (start .args .identity)) (lines (take (start .args .length) (now (start .args .memory)))))
-  place =
-      all-passed (now (start .args .memory)) (start .args .length) (now (start .args .identity)) (start .args .secret)
-      (record {
-        inside = formed .before .before .if1 .left;
-        formed = passed _ _ (formed .well-formed .ensures) (identified .before .if2 .left);
-        named = passed _ _ (identified .valid-identity .ensures) (c .before .before .if3 .left);
-        keyed = not-false (start .args .secret) (c .before .if4 .left);
-      })
-
-returns-5 : tie.Need-returns-5
-returns-5 c =
-    let h = c .before .before .before in
-    sym (place h ∙ ap hitPlace (sym (h .first-line .ensures) ∙ c .before .hit .given .1))
-
-returns-6 : tie.Need-returns-6
-returns-6 c =
-    let h = c .before .before in
-    sym (place h ∙ ap hitPlace (sym (h .first-line .ensures) ∙ c .enum-told .given .1))
+    let j = c .before .before .before in
+    sym (place-refused (memory j) (n j) (starts j) (count j) (identity j) (secret j) (long j .if1 .left) _
+    (judged-refused _ _ (sym (j .judge .ensures) ∙ c .before .both .given .1)))
 
 pub locate-spec : {M : Type 1} → statement M
 locate-spec =
@@ -82,12 +77,9 @@ locate-spec =
     returns
     slice-aggregate-table
     (λ c κs. search needs)
+    (λ c. search needs)
+    slice-aggregate-seek
+    (λ c κs. search needs)
+    (λ c. search needs)
     returns-2
-    (λ c κs. search needs)
-    returns-3
-    returns-4
-    (λ c κs. search needs)
-    (λ c. search needs)
-    (λ c. search needs)
-    returns-5
-    returns-6)
+    returns-3)

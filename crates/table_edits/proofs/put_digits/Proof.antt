@@ -1,3 +1,5 @@
+-- `table_edits::put_digits`: what stands behind the digits is moved to where the new ones end, and these are put in their place.
+-- Assumes nothing.
 use borrow.Author.Needs.{needs}
 use Rattle.table_edits.proofs.put_digits.Statement.{statement}
 use Rattle.table_edits.proofs.put_digits.Tie as tie

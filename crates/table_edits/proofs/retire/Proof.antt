@@ -7,13 +7,14 @@ use mathlib.Core.Bool.{true}
 use mathlib.Core.List.{List, []}
 use denote.Ref.{now}
 use lib.ListN.{length, take}
-use Rattle.refusal.proofs.Laws.{refuses-answers}
 use Rattle.table_edits.specs.declared.Place.the-variants.{At}
 use Rattle.table_edits.specs.Edits.{retire}
 use Rattle.table_edits.specs.Inner.{spliced, placeIn}
 use Rattle.table_edits.proofs.Writing.{cut-out}
+use Rattle.table_edits.proofs.Both.{both-kept, both-wrote}
 use Rattle.table_edits.proofs.Outcomes.{edit-refused, answered}
-use Rattle.table_edits.proofs.Results.{found-sizes, length-shorter, retire-listed, retire-absent}
+use Rattle.table_edits.proofs.Results.{found-sizes, found-counts, found-starts}
+use Rattle.table_edits.proofs.Results.{length-shorter, retired-list, retired-count, retire-listed, retire-absent}
 use borrow.Author.Needs.{needs}
 use Rattle.table_edits.proofs.retire.Statement.{statement}
 use Rattle.table_edits.proofs.retire.Tie as tie
@@ -21,7 +22,7 @@ use Rattle.table_edits.proofs.retire.Tie as tie
 -- where the place was looked for
 module _ (c : tie.After-locate) where
   abbrev begun : tie.Start
-  begun = c .before .before .before .before
+  begun = c .before .before .before .before .before .before .before
 
   abbrev memory : List ℕ
   memory = now (begun .args .memory)
@@ -29,10 +30,16 @@ module _ (c : tie.After-locate) where
   abbrev n : ℕ
   n = begun .args .length
 
+  abbrev starts : List ℕ
+  starts = now (begun .args .starts)
+
+  abbrev count : ℕ
+  count = now (begun .args .count)
+
   abbrev identity : List ℕ
   identity = now (begun .args .identity)
 
-  place : placeIn memory n identity true ≡ c .locate .result
+  place : placeIn memory n starts count identity true ≡ c .locate .result
   place = sym (c .locate .ensures)
 
 -- where it was found
@@ -40,17 +47,26 @@ module _ (c : tie.After-known-told) where
   abbrev looked : tie.After-locate
   looked = c .before .before .before
 
+  abbrev k : ℕ
+  k = c .before .found .given .0 .0
+
   abbrev from : ℕ
-  from = c .before .found .given .0 .0
+  from = c .before .found .given .0 .1 .0
 
   abbrev to : ℕ
-  to = c .before .found .given .0 .1 .0
+  to = c .before .found .given .0 .1 .1 .0
 
-  there : placeIn (memory looked) (n looked) (identity looked) true ≡ At from to
+  abbrev start : ℕ
+  start = from - 1 - length (identity looked)
+
+  there : placeIn (memory looked) (n looked) (starts looked) (count looked) (identity looked) true ≡ At k from to
   there = place looked ∙ c .before .found .given .1
 
   sizes : (n looked ≤ length (memory looked)) × (n looked ≤ 65536) × (length (identity looked) + 1 ≤ from) × (from ≤ to) × (to < n looked)
-  sizes = found-sizes (memory looked) (n looked) (identity looked) true from to there
+  sizes = found-sizes (memory looked) (n looked) (starts looked) (count looked) (identity looked) true k from to there
+
+  counts : (k + 1 ≤ count looked) × (count looked ≤ length (starts looked))
+  counts = found-counts (memory looked) (n looked) (starts looked) (count looked) (identity looked) true k from to there
 
 sub-start : tie.Need-sub-start
 sub-start c = omega (arith, sizes c .2)
@@ -66,33 +82,63 @@ shift-requires c κs =
     let s = sizes (c .before) in
     (omega (arith, s .4), (s .0, omega (arith, s .0, s .2, s .3, s .4)))
 
-sub-t13 : tie.Need-sub-t13
-sub-t13 c = omega (arith, sizes (c .before .before .before .before) .4)
+add-follow : tie.Need-add-follow
+add-follow c = let s = counts (c .before .before .before .before .before) in search needs
 
-add-t14 : tie.Need-add-t14
-add-t14 c = let s = sizes (c .before .before .before .before) in search needs
+follow-requires : tie.Need-follow-requires
+follow-requires c κs =
+    let f = c .before .before .before .before .before in
+    let l = looked f in
+    let s = sizes f in
+    let behind = found-starts (memory l) (n l) (starts l) (count l) (identity l) true (k f) (from f) (to f) (there f) in
+    (omega arith, (counts f .0, (counts f .1, (omega (arith, s .1, s .4), (omega (arith, s .1, s .3, s .4), behind _ (omega arith))))))
+
+-- where the starts were, too
+module _ (c : tie.After-slice-known4) where
+  abbrev followed : tie.After-follow
+  followed = c .before .before
+
+  abbrev shifted : tie.After-shift
+  shifted = followed .before .before .before .before
+
+  abbrev found : tie.After-known-told
+  found = shifted .before .before
+
+sub-count : tie.Need-sub-count
+sub-count c = let s = counts (found c) in search needs
+
+sub-t19 : tie.Need-sub-t19
+sub-t19 c = omega (arith, sizes (found c) .4)
+
+add-t20 : tie.Need-add-t20
+add-t20 c = let s = sizes (found c) in search needs
 
 returns : tie.Need-returns
 returns c =
-    let m = c .before .before in
-    let k = m .before .before in
-    let l = looked k in
-    let s = sizes k in
-    let start : ℕ = from k - 1 - length (identity l) in
-    rw (retire-listed (memory l) (n l) (identity l) (from k) (to k) start (there k) refl)
-    (answered (spliced start (to k + 1) [] (take (n l) (memory l))) (memory l) _ (start + (n l - (to k + 1)))
-    (length-shorter (memory l) (n l) (identity l) (from k) (to k) start (there k) refl) (omega arith)
-    (m .shift .ensures ∙ cut-out (memory l) start (to k + 1) (n l) (omega arith) (omega arith) (omega arith)))
+    let f = found c in
+    let l = looked f in
+    let s = sizes f in
+    let t : List ℕ = spliced (start f) (to f + 1) [] (take (n l) (memory l)) in
+    rw (retire-listed (memory l) (n l) (starts l) (count l) (identity l) (k f) (from f) (to f) (start f) (there f) refl)
+    (both-wrote (memory l) (starts l) (count l) t _ _ _ (start f + (n l - (to f + 1)))
+    (followed c .follow .ensures
+    ∙ retired-list (memory l) (n l) (starts l) (count l) (identity l) (k f) (from f) (to f) (start f) (there f) refl)
+    (retired-count (memory l) (n l) (starts l) (count l) (identity l) (k f) (from f) (to f) (start f) (there f) refl)
+    (answered t (memory l) _ (start f + (n l - (to f + 1)))
+    (length-shorter (memory l) (n l) (starts l) (count l) (identity l) (k f) (from f) (to f) (start f) (there f) refl) (omega arith)
+    (shifted c .shift .ensures ∙ cut-out (memory l) (start f) (to f + 1) (n l) (omega arith) (omega arith) (omega arith))))
 
 returns-2 : tie.Need-returns-2
 returns-2 c =
     let l = c .before .before in
-    rw (retire-absent (memory l) (n l) (identity l) (place l ∙ c .enum-told .given .1)) (refuses-answers _ _)
+    rw (retire-absent (memory l) (n l) (starts l) (count l) (identity l) (place l ∙ c .enum-told .given .1))
+    (both-kept (memory l) (starts l) (count l) _)
 
 returns-3 : tie.Need-returns-3
 returns-3 c =
     let l = c .before .before .before in
-    rw (edit-refused (memory l) (n l) (retire (identity l)) _ (place l ∙ c .before .found2 .given .1)) (refuses-answers _ _)
+    rw (edit-refused (memory l) (n l) (starts l) (count l) (retire (identity l)) _ (place l ∙ c .before .found2 .given .1))
+    (both-kept (memory l) (starts l) (count l) _)
 
 pub retire-spec : {M : Type 1} → statement M
 retire-spec =
@@ -104,13 +150,19 @@ retire-spec =
     sub-start-2
     add-next
     shift-requires
-    sub-t13
-    add-t14
+    add-follow
+    follow-requires
+    sub-count
+    sub-t19
+    add-t20
+    (λ c. search needs)
     (λ c. search needs)
     (λ c. search needs)
     (λ c. search needs)
     returns
     (λ c. search needs)
+    (λ c. search needs)
     returns-2
+    (λ c. search needs)
     (λ c. search needs)
     returns-3)

@@ -18,12 +18,12 @@ use Rattle.c_interface.proofs.connection.tn_message.Tie as tie
 
 -- the entry, seen from the server's reply
 abbrev entry : tie.After-message → tie.Start
-entry c = c .before .before .before .before .before .before .before
+entry c = c .before .before .before .before .before .before .before .before
 
 -- the server's reply to the message, on the connection that was restored
 module _ (c : tie.After-message) where
   abbrev view : View
-  view = viewOf (entry c .args .table .now)
+  view = viewOf (entry c .args .table .now) (entry c .args .starts .now) (entry c .args .count)
 
   abbrev stepOn : Connection → Step
   stepOn x = messageStep view x (entry c .args .message .now) (x .phase)

@@ -15,11 +15,11 @@ use Rattle.c_interface.proofs.record_connection.tn_take_record.Tie as t
 
 -- the entry, seen from what was taken
 abbrev entry : tie.After-take → tie.Start
-entry c = c .before .before .before .before .before .before .before .before .before
+entry c = c .before .before .before .before .before .before .before .before .before .before
 
 module _ (c : tie.After-take) where
   abbrev view : View
-  view = viewOf (entry c .args .table .now)
+  view = viewOf (entry c .args .table .now) (entry c .args .starts .now) (entry c .args .count)
 
   abbrev takenOn : RecordConnection → Settled
   takenOn x = takeCall view x (entry c .args .received .now) (entry c .args .memory .now) (entry c .args .out .now)

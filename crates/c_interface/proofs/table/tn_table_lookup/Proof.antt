@@ -7,7 +7,7 @@ use Rattle.c_interface.proofs.table.tn_table_lookup.Statement.{statemen
 use Rattle.c_interface.proofs.table.tn_table_lookup.Tie as tie
 
 of-answer-requires : tie.Need-of-answer-requires
-of-answer-requires c κs = answer-count-small (c .before .before .lookup .ensures) (lookup-small _ _)
+of-answer-requires c κs = answer-count-small (c .before .before .lookup .ensures) (lookup-small _ _ _ _)
 
 returns : tie.Need-returns
 returns c = codes-answer (c .before .before .before .lookup .ensures) (c .of-answer .ok) (c .of-answer .ensures)

@@ -8,7 +8,7 @@ returns : tie.Need-returns
 returns c = rw (c .before .enum-told .given .1) (c .plain .ensures)
 
 returns-2 : tie.Need-returns-2
-returns-2 c = rw (c .before .enum-told2 .given .1, c .digit .ensures)
+returns-2 c = rw (c .before .enum-told2 .given .1) (c .hex-digit .ensures)
 
 pub belongs-spec : {M : Type 1} → statement M
 belongs-spec =

@@ -1,30 +1,32 @@
--- `keytable::distinct::repeated`: none of the lines passed has the identity: its number is another, or its bytes are.
+-- `keytable::distinct::repeated`: none of the lines passed has the identity: its bucket is another, or its bytes are.
 -- Assumes nothing.
 use borrow.Author.Needs.{needs}
-use mathlib.Core.Path.{_≡_, sym, _∙_, ap}
-use mathlib.Core.Logic.{⊎-elim}
-use Prim.Native.Nat.{ℕ, _-_, _≤_}
+use mathlib.Core.Path.{_≡_, sym, _∙_}
+use Prim.Native.Nat.{ℕ, suc, _-_, _<_}
 use native.Mathlib.Omega.{arith}
-use mathlib.Core.Bool.{false}
-use denote.Ref.{now}
 use mathlib.Core.List.{List}
+use denote.Ref.{now}
 use lib.ListN.{length, getD}
-use Rattle.keytable.specs.Inner.{identityAt, earlier, fingerprint}
-use Rattle.lists.specs.Lists.{any, same}
-use Rattle.keytable.proofs.Apart.{none-on, one-hit, fingerprint-other}
+use Rattle.lists.specs.Lists.{same}
+use Rattle.keytable.specs.Inner.{identityAt, Linked}
+use Rattle.keytable.proofs.Apart.{one-hit}
+use Rattle.keytable.proofs.Chains.{Walked, begins-own, walk-begins, walk-on, walk-ends}
 use Rattle.keytable.proofs.distinct.repeated.Statement.{statement}
 use Rattle.keytable.proofs.distinct.repeated.Tie as tie
 
 abbrev Inv-loop : tie.InvT-loop
-Inv-loop table starts fingerprints n identity p k₀ k = (k ≤ n) × (any (same identity) (earlier table starts k) ≡ false)
+Inv-loop table starts links n latest identity c₀ c = Walked table starts identity n c
 
 abbrev μ-loop : tie.MeasureT-loop
-μ-loop table starts fingerprints n identity p k₀ k = n - k
+μ-loop table starts links n latest identity c₀ c = c
 
--- what the loop is given, and what was kept of the line that a turn looks at
-module _ (c : tie.At-loop Inv-loop μ-loop) where
+loop-holds : tie.Need-loop-holds Inv-loop μ-loop
+loop-holds c = let s = c .before .before in walk-begins _ _ _ _ _ (s .pre .1 .1 .1 .1)
+
+-- a turn of the loop: the line that it looks at
+module _ (c : tie.In-loop Inv-loop μ-loop) where
   abbrev start : tie.Start Inv-loop μ-loop
-  start = c .before .before .before
+  start = c .before .before .before .before
 
   abbrev table : List ℕ
   table = now (start .args .table)
@@ -35,42 +37,68 @@ module _ (c : tie.At-loop Inv-loop μ-loop) where
   abbrev identity : List ℕ
   identity = now (start .args .identity)
 
-module _ (c : tie.In-loop Inv-loop μ-loop) where
-  abbrev there : ℕ
-  there = getD (starts (c .before)) (c .before .loop .k) 0
+  abbrev line : ℕ
+  line = c .before .loop .c - 1
 
-  line-kept : (there ≤ length (table (c .before)))
-      × (getD (now (start (c .before) .args .fingerprints)) (c .before .loop .k) 0 ≡ fingerprint 0 (identityAt (table (c .before)) there))
-  line-kept = start (c .before) .pre .1 .1 .1 (c .before .loop .k) (c .loop-test .taken)
+  below : line < start .args .n
+  below = omega (arith, c .loop-test .taken, c .before .loop .inv .few)
 
-cast-same-identity : tie.Need-cast-same-identity Inv-loop μ-loop
-cast-same-identity c = let k = line-kept (c .before .before .before) in search needs
+  inside : line < 256
+  inside = omega (arith, below, start .pre .0)
 
-same-identity-requires : tie.Need-same-identity-requires Inv-loop μ-loop
-same-identity-requires c κs = line-kept (c .before .before .before) .0
+  room : line < length starts
+  room = omega (arith, below, start .pre .1 .0)
+
+  linked : Linked table starts (now (start .args .links)) line
+  linked = start .pre .1 .1 .1 .0 line below
+
+-- where the line has been compared
+module _ (c : tie.After-begins Inv-loop μ-loop) where
+  abbrev turn : tie.In-loop Inv-loop μ-loop
+  turn = c .before .before
+
+  judged : same (identity turn) (identityAt (table turn) (getD (starts turn) (line turn) 0)) ≡ c .begins .result
+  judged = sym (begins-own (identity turn) _ (start turn .pre .1 .1 .0) (linked turn .valid)) ∙ sym (c .begins .ensures)
+
+element-copy-out-begins : tie.Need-element-copy-out-begins Inv-loop μ-loop
+element-copy-out-begins c = inside c
+
+cast-begins : tie.Need-cast-begins Inv-loop μ-loop
+cast-begins c = let h = linked (c .before) .inside in search needs
+
+begins-requires : tie.Need-begins-requires Inv-loop μ-loop
+begins-requires c κs = let h = linked (c .before) .inside in search needs
 
 returns : tie.Need-returns Inv-loop μ-loop
 returns c =
-    let turn = c .before .before .before .before .before in
-    let l = turn .before in
-    one-hit (table l) (starts l) (identity l) (l .loop .k) (search needs) (start l .args .n) (turn .loop-test .taken)
-    (sym (c .before .same-identity .ensures) ∙ c .if2 .taken)
+    let t = turn (c .before) in
+    one-hit (table t) (starts t) (identity t) (line t) (room t) _ (below t) (judged (c .before) ∙ c .if1 .taken)
+
+element-copy-out-c : tie.Need-element-copy-out-c Inv-loop μ-loop
+element-copy-out-c c = inside (turn (c .before))
+
+cast-c : tie.Need-cast-c Inv-loop μ-loop
+cast-c c =
+    let t = turn (c .before .before) in
+    let small = linked t .link .few in
+    let few = inside t in
+    search needs
+
+loop-less : tie.Need-loop-less Inv-loop μ-loop
+loop-less c = let t = turn (c .before .before) in omega (arith, linked t .link .few, t .loop-test .taken)
 
 loop-again : tie.Need-loop-again Inv-loop μ-loop
 loop-again c =
-    let turn = c .before .before in
-    let l = turn .before in
-    let on = none-on (table l) (starts l) (identity l) (l .loop .k) (search needs) in
-    let other = fingerprint-other (identity l) (identityAt (table l) (there turn)) _ _ (start l .pre .1 .1 .0) (line-kept turn .1) in (
-      search needs,
-      ⊎-elim (λ o. on (sym (o .2 .ensures) ∙ o .3 .left) (l .loop .inv .1)) (λ o. on (other (o .left)) (l .loop .inv .1)) (c .if1 .came),
-    )
+    let t = turn (c .before .before) in
+    let here : t .before .loop .c ≡ suc (line t) = omega (arith, t .loop-test .taken) in
+    walk-on (table t) (starts t) (identity t) _ (line t) _ _ here (linked t .link) (judged (c .before .before) ∙ c .before .if1 .left)
+    (t .before .loop .inv)
 
 returns-2 : tie.Need-returns-2 Inv-loop μ-loop
 returns-2 c =
-    let l = c .before in
-    let end : start l .args .n ≡ l .loop .k = omega arith in
-    sym (ap (λ (m : ℕ). any (same (identity l)) (earlier (table l) (starts l) m)) end ∙ l .loop .inv .1)
+    let s = c .before .before .before .before in
+    let done : c .before .loop .c ≡ 0 = omega (arith, c .loop-test .left) in
+    sym (walk-ends _ _ _ _ _ done (s .pre .1 .0) (c .before .loop .inv))
 
 pub repeated-spec : {M : Type 1} → statement M
 repeated-spec =
@@ -78,15 +106,17 @@ repeated-spec =
     (tie.spec
     Inv-loop
     μ-loop
+    loop-holds
     (λ c. search needs)
     (λ c. search needs)
-    (λ c. search needs)
-    (λ c. search needs)
-    (λ c. search needs)
-    cast-same-identity
-    same-identity-requires
+    element-copy-out-begins
+    cast-begins
+    begins-requires
     returns
     (λ c. search needs)
     (λ c. search needs)
+    element-copy-out-c
+    cast-c
+    loop-less
     loop-again
     returns-2)

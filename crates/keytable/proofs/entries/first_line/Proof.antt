@@ -1,5 +1,5 @@
--- `keytable::entries::first_line`: the lines that are left give what the whole table gives, and within a line so does what is left of it and of the
--- identity. A line that does not match leaves the lookup to the lines after it; the first that does ends the search.
+-- `keytable::entries::first_line`: the starts that are left give what the whole list gives, and at a start so does what is left of the line and of the
+-- identity. A line that does not match leaves the search to the starts after it; the first that does ends it.
 -- Assumes nothing.
 use borrow.Author.Needs.{needs}
 use mathlib.Core.Path.{_≡_, sym, ap, _∙_}
@@ -10,118 +10,98 @@ use native.Mathlib.Omega.{arith}
 use mathlib.Core.List.{List}
 use mathlib.Core.Option.{none}
 use denote.Ref.{now}
-use lib.ListN.{length, drop, drop-of-length-le}
-use Rattle.keytable.specs.Table.{lines, keyText, placed}
-use Rattle.lists.specs.Lists.{part}
-use Rattle.keytable.proofs.Lines.{line-within}
-use Rattle.keytable.proofs.Matching.{Matched, match-more, match-other, match-colon, match-longer, match-end, search-on, search-hit}
+use lib.ListN.{length, drop, getD, drop-of-length-le}
+use Rattle.keytable.specs.Table.{keyText}
+use Rattle.keytable.specs.Starts.{lineAt, placed}
+use Rattle.keytable.proofs.Matching.{Matched, match-more, match-other, match-ended, match-colon, match-longer, match-end, search-on, search-hit}
 use Rattle.keytable.proofs.entries.first_line.Statement.{statement}
 use Rattle.keytable.proofs.entries.first_line.Tie as tie
 
 abbrev Inv-loop : tie.InvT-loop
-Inv-loop table identity at end k₀ k = (at + k ≤ end) × (k ≤ length identity) × Matched table identity at k end
+Inv-loop table starts identity k at i₀ i = (i ≤ length identity) × Matched table identity at i
 
 abbrev μ-loop : tie.MeasureT-loop
-μ-loop table identity at end k₀ k = end - (at + k)
+μ-loop table starts identity k at i₀ i = length table - (at + i)
 
 abbrev Inv-lines : tie.InvT-lines
-Inv-lines table identity at₀ at = (at ≤ length table + 1) × (placed 0 identity (lines table) ≡ placed at identity (lines (drop at table)))
+Inv-lines table starts identity k₀ k = (k ≤ length starts) × (placed 0 identity table starts ≡ placed k identity table (drop k starts))
 
 abbrev μ-lines : tie.MeasureT-lines
-μ-lines table identity at₀ at = length table + 1 - at
+μ-lines table starts identity k₀ k = length starts - k
 
--- where the end of a line has been found
-module _ (c : tie.After-line-end Inv-loop μ-loop Inv-lines μ-lines) where
+below : {i n : ℕ} → i ≤ n → (i ≡ n → ⊥) → i < n
+below h other = omega arith
+
+-- where a start has been read
+module _ (c : tie.After-shared-slice-known4 Inv-loop μ-loop Inv-lines μ-lines) where
+  abbrev at-lines : tie.At-lines Inv-loop μ-loop Inv-lines μ-lines
+  at-lines = c .before .before
+
   abbrev start : tie.Start Inv-loop μ-loop Inv-lines μ-lines
-  start = c .before .before .before .before .before
+  start = at-lines .before .before .before .before
 
   abbrev table : List ℕ
   table = now (start .args .table)
+
+  abbrev starts : List ℕ
+  starts = now (start .args .starts)
 
   abbrev identity : List ℕ
   identity = now (start .args .identity)
 
   abbrev place : ℕ
-  place = c .before .before .lines .at
+  place = getD starts (at-lines .lines .k) 0
 
-  within : c .line-end .result ≤ length table
-  within = line-within table _ _ (search needs) (c .line-end .ensures)
+  small : place < 4294967296
+  small = omega (arith, c .shared-slice-known4 .given (at-lines .lines .k))
 
-  on : keyText identity (part place (c .line-end .result - place) table) ≡ none
-      → placed 0 identity (lines table) ≡ placed (c .line-end .result + 1) identity (lines (drop (c .line-end .result + 1) table))
-  on = search-on table identity _ _ (c .before .if1 .left) (c .line-end .ensures) (c .before .before .lines .inv .1)
+  on : keyText identity (lineAt table place) ≡ none
+      → placed 0 identity table starts ≡ placed (at-lines .lines .k + 1) identity table (drop (at-lines .lines .k + 1) starts)
+  on = search-on _ _ _ _ (c .before .if1 .left) (at-lines .lines .inv .1)
+
+cast-at : tie.Need-cast-at Inv-loop μ-loop Inv-lines μ-lines
+cast-at c = let b = small c in search needs
 
 loop-holds : tie.Need-loop-holds Inv-loop μ-loop Inv-lines μ-lines
-loop-holds c = (search needs, search needs, rw add-zero)
+loop-holds c = (search needs, rw add-zero)
 
 add-loop : tie.Need-add-loop Inv-loop μ-loop Inv-lines μ-lines
-add-loop c = let w = within (c .before) in search needs
-
-add-if3 : tie.Need-add-if3 Inv-loop μ-loop Inv-lines μ-lines
-add-if3 c = let w = within (c .before .before .before) in search needs
-
-shared-slice-read-if3 : tie.Need-shared-slice-read-if3 Inv-loop μ-loop Inv-lines μ-lines
-shared-slice-read-if3 c = omega (arith, within (c .before .before .before .before))
-
-add-from : tie.Need-add-from Inv-loop μ-loop Inv-lines μ-lines
-add-from c = let w = within (c .before .before .before .before .before) in search needs
-
-add-from-2 : tie.Need-add-from-2 Inv-loop μ-loop Inv-lines μ-lines
-add-from-2 c = let w = within (c .before .before .before .before .before) in search needs
-
-add-if4 : tie.Need-add-if4 Inv-loop μ-loop Inv-lines μ-lines
-add-if4 c = let w = within (c .before .before .before) in search needs
-
-shared-slice-read-if4 : tie.Need-shared-slice-read-if4 Inv-loop μ-loop Inv-lines μ-lines
-shared-slice-read-if4 c = omega (arith, within (c .before .before .before .before))
-
-add-k : tie.Need-add-k Inv-loop μ-loop Inv-lines μ-lines
-add-k c = let w = within (c .before .before .before .before .before .before) in search needs
+add-loop c = let b = small (c .before) in search needs
 
 loop-again : tie.Need-loop-again Inv-loop μ-loop Inv-lines μ-lines
 loop-again c =
-    let i = c .before .before .before .before in (
-      search needs,
-      search needs,
-      match-more _ _ _ _ _ (i .loop-test .taken) (within (i .before .before)) (search needs) (c .if4 .left) (i .before .loop .inv .2),
-    )
+    let turn = c .before .before .before .before .before in
+    let more = below (turn .before .loop .inv .0) (c .before .before .before .if2 .left) in
+    (search needs, match-more _ _ _ _ (turn .loop-test .taken) (turn .before .loop .inv .1) more (c .before .if4 .left) (c .if5 .left))
 
 -- every way out of the comparison but the hit: the line does not match
 missed : (c : tie.Left-loop Inv-loop μ-loop Inv-lines μ-lines) → let f = c .before .before in
-    keyText (identity f) (part (place f) (f .line-end .result - place f) (table f)) ≡ none
+    keyText (identity f) (lineAt (table f) (place f)) ≡ none
 missed c =
-    let m = c .before .loop .inv .2 in
-    let w = within (c .before .before) in
-    ⊎-elim (λ o. match-end _ _ _ _ _ (o .left) m)
-    (⊎-elim (λ o. match-longer _ _ _ _ _ (o .0 .taken) w (o .1 .taken) (o .3 .left) m)
-    (λ o. match-other _ _ _ _ _ (o .0 .taken) w (below (c .before .loop .inv .1) (o .1 .left)) (o .4 .taken) m))
+    let m = c .before .loop .inv .1 in
+    let few = c .before .loop .inv .0 in
+    ⊎-elim (λ o. match-end _ _ _ _ (o .left) m)
+    (⊎-elim (λ o. match-longer _ _ _ _ (o .0 .taken) m (o .2 .taken) (o .3 .left))
+    (⊎-elim (λ o. match-other _ _ _ _ (o .0 .taken) m (below few (o .2 .left)) (o .4 .taken))
+    (λ o. match-ended _ _ _ _ (o .0 .taken) m (below few (o .2 .left)) (o .5 .taken))))
     (c .loop-test .came)
-  where
-    below : {k n : ℕ} → k ≤ n → (k ≡ n → ⊥) → k < n
-    below h other = omega arith
-
-add-at : tie.Need-add-at Inv-loop μ-loop Inv-lines μ-lines
-add-at c = let w = within (c .before .before) in search needs
-
-lines-less : tie.Need-lines-less Inv-loop μ-loop Inv-lines μ-lines
-lines-less c = omega (arith, within (c .before .before))
 
 lines-again : tie.Need-lines-again Inv-loop μ-loop Inv-lines μ-lines
-lines-again c = (omega (arith, within (c .before .before)), on (c .before .before) (missed c))
+lines-again c = (search needs, on (c .before .before) (missed c))
 
 returns : tie.Need-returns Inv-loop μ-loop Inv-lines μ-lines
 returns c =
-    let args = c .before .before .before .before .args in
-    let none-left = ap (λ (l : List ℕ). placed (c .before .lines .at) (now (args .identity)) (lines l)) (drop-of-length-le _ (c .if1 .taken)) in
+    let a = c .before .before .before .before .before .args in
+    let none-left = ap (λ (l : List ℕ). placed (c .before .lines .k) (now (a .identity)) (now (a .table)) l) (drop-of-length-le _ (c .if1 .taken)) in
     sym (c .before .lines .inv .1 ∙ none-left)
 
 returns-2 : tie.Need-returns-2 Inv-loop μ-loop Inv-lines μ-lines
 returns-2 c =
-    let i = c .before .before .before in
-    let f = i .before .before in
-    let text = match-colon _ _ _ _ _ (i .loop-test .taken) (within f) (c .before .before .if2 .taken) (c .if3 .taken) (i .before .loop .inv .2) in
-    rw (c .before .before .if2 .taken)
-    (search-hit (table f) (identity f) _ _ (f .before .if1 .left) (f .line-end .ensures) (f .before .before .lines .inv .1) _ text)
+    let turn = c .before .before .before .before in
+    let f = turn .before .before in
+    let whole = c .before .before .if2 .taken in
+    let text = match-colon _ _ _ _ (turn .loop-test .taken) (turn .before .loop .inv .1) whole (c .before .if3 .taken) in
+    search-hit _ _ _ _ (f .before .if1 .left) (at-lines f .lines .inv .1) _ _ (rw whole) (c .line-end .ensures) text
 
 pub first-line-spec : {M : Type 1} → statement M
 first-line-spec =
@@ -132,21 +112,22 @@ first-line-spec =
     Inv-lines
     μ-lines
     (λ c. search needs)
-    (λ c κs. search needs)
+    (λ c. search needs)
+    (λ c. search needs)
+    cast-at
     loop-holds
     add-loop
-    add-if3
-    shared-slice-read-if3
-    add-from
-    add-from-2
-    add-if4
-    shared-slice-read-if4
     (λ c. search needs)
-    add-k
+    (λ c. search needs)
+    (λ c. search needs)
+    (λ c. search needs)
+    (λ c κs. search needs)
+    (λ c. search needs)
+    (λ c. search needs)
     (λ c. search needs)
     loop-again
-    add-at
-    lines-less
+    (λ c. search needs)
+    (λ c. search needs)
     lines-again
     returns
     returns-2)

@@ -1,24 +1,15 @@
--- `keytable::hex::valid_key`: each return is what its tests leave of the definition.
+-- `keytable::hex::valid_key`: the number of digits is tested first, and then each.
 -- Assumes nothing.
 use borrow.Author.Needs.{needs}
-use borrow.Author.Tests.{le-leb, lt-leb, eq-eqb, ne-eqb}
+use Rattle.lists.proofs.Tests.{failed, passed}
 use Rattle.keytable.proofs.hex.valid_key.Statement.{statement}
 use Rattle.keytable.proofs.hex.valid_key.Tie as tie
 
 returns : tie.Need-returns
-returns c = simp (lt-leb _ _ (c .if1 .taken))
+returns c = rw (failed _ _ (c .before .sized-key .ensures) (c .if1 .taken))
 
 returns-2 : tie.Need-returns-2
-returns-2 c = simp (le-leb _ _ (c .before .if1 .left), lt-leb _ _ (c .if2 .taken))
-
-returns-3 : tie.Need-returns-3
-returns-3 c = simp (le-leb _ _ (c .before .before .if1 .left), le-leb _ _ (c .before .if2 .left), ne-eqb _ _ (c .if3 .taken))
-
-returns-4 : tie.Need-returns-4
-returns-4 c =
-    let tests = c .before in
-    simp (le-leb _ _ (tests .before .before .if1 .left), le-leb _ _ (tests .before .if2 .left), eq-eqb _ _ (tests .if3 .left))
-    (c .all .ensures)
+returns-2 c = rw (passed _ _ (c .before .before .sized-key .ensures) (c .before .if1 .left)) (c .all .ensures)
 
 pub valid-key-spec : {M : Type 1} → statement M
-valid-key-spec = tie.close (tie.spec returns returns-2 returns-3 (λ c κs. search needs) returns-4)
+valid-key-spec = tie.close (tie.spec (λ c κs. search needs) returns (λ c κs. search needs) returns-2)

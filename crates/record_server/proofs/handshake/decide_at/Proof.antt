@@ -20,8 +20,8 @@ use Rattle.record_server.proofs.handshake.decide_at.Tie as tie
 
 returns : tie.Need-returns
 returns c =
-    let a = c .before .before .before .before .before .before .args in
-    same-step (ap (λ (m : List ℕ). messageStep (viewOf (a .table .now)) (a .c) m (a .c .phase))
+    let a = c .before .before .before .before .before .before .before .args in
+    same-step (ap (λ (m : List ℕ). messageStep (viewOf (a .table .now) (a .starts .now) (a .count)) (a .c) m (a .c .phase))
     (behind-held (a .held .now) (a .content .now) (a .at) (a .end) (omega arith) (omega arith)))
     (c .decide .ensures)
 
@@ -29,7 +29,7 @@ returns c =
 
 -- the entry, seen from where it is known to be the first
 abbrev entry : tie.Else1 → tie.Start
-entry c = c .before .before .before .before
+entry c = c .before .before .before .before .before
 
 -- what is held is no message but the first
 first-alone : (c : tie.Else1) → let a = entry c .args in (a .at ≡ 0) × (length (a .held .now) ≤ a .end)
@@ -94,7 +94,7 @@ returns-2 c =
     let else1 = at-second .before .before .before .before .before .before in
     let a = entry else1 .args in
     let alone = first-alone else1 in
-    same-step (ap (λ (m : List ℕ). messageStep (viewOf (a .table .now)) (a .c) m (a .c .phase))
+    same-step (ap (λ (m : List ℕ). messageStep (viewOf (a .table .now) (a .starts .now) (a .count)) (a .c) m (a .c .phase))
     (over-seam (a .held .now) (a .content .now) (a .at) (a .end) (alone .0) (alone .1)))
     (rw (← message-in at-second) (c .decide2 .ensures))
 

@@ -10,21 +10,22 @@ use Rattle.record_server.proofs.handshake.judge.Statement.{statement}
 use Rattle.record_server.proofs.handshake.judge.Tie as tie
 
 abbrev Inv-loop : tie.InvT-loop
-Inv-loop table held content p₀ going₀ p going =
-    Running (viewOf table) (length held) (held ++ content) (judged (viewOf table) (p₀ .connection) (held ++ content)) p going
+Inv-loop table starts count held content p₀ going₀ p going =
+    Running (viewOf table starts count) (length held) (held ++ content) (judged (viewOf table starts count) (p₀ .connection) (held ++ content)) p going
 
 abbrev μ-loop : tie.MeasureT-loop
-μ-loop table held content p₀ going₀ p going = leftOver (held ++ content) p going
+μ-loop table starts count held content p₀ going₀ p going = leftOver (held ++ content) p going
 
 loop-holds : tie.Need-loop-holds Inv-loop μ-loop
 loop-holds c =
-    let a = c .before .before .before .before .args in
+    let a = c .before .before .before .before .before .args in
+    let v = viewOf (a .table .now) (a .starts .now) (a .count) in
     let e = c .begin .ensures in
-    begins (viewOf (a .table .now)) (length (a .held .now)) (a .held .now ++ a .content .now) (c .begin .result) (e .1) (e .2) (e .3) (e .4) (e .5)
+    begins v (length (a .held .now)) (a .held .now ++ a .content .now) (c .begin .result) (e .1) (e .2) (e .3) (e .4) (e .5)
 
 judge-first-requires : tie.Need-judge-first-requires Inv-loop μ-loop
 judge-first-requires c κs =
-    let start = c .before .before .before .before .before .before in
+    let start = c .before .before .before .before .before .before .before in
     (c .before .loop .inv .sound, start .pre)
 
 loop-less : tie.Need-loop-less Inv-loop μ-loop

@@ -22,10 +22,10 @@ use Rattle.record_server.proofs.handshake.judge_first.Statement.{statem
 use Rattle.record_server.proofs.handshake.judge_first.Tie as tie
 
 abbrev entry : tie.After-c → tie.Start
-entry c = c .before .before .before .before
+entry c = c .before .before .before .before .before
 
 abbrev view : tie.Start → View
-view s = viewOf (s .args .table .now)
+view s = viewOf (s .args .table .now) (s .args .starts .now) (s .args .count)
 
 abbrev bytes : tie.Start → List ℕ
 bytes s = s .args .held .now ++ s .args .content .now

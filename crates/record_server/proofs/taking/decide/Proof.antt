@@ -18,22 +18,23 @@ use Rattle.record_server.proofs.taking.decide.Tie as tie
 
 -- behind the two tests
 behind : (c : tie.After-test-over) {verdict : Verdict} → c .test-over .result ≡ verdict →
-    let args = c .before .before .before .before .before .before .args in
-    let v = viewOf (args .table .now) in
+    let args = c .before .before .before .before .before .before .before .args in
+    let v = viewOf (args .table .now) (args .starts .now) (args .count) in
     takeStep v (args .c) (args .memory .now) (args .received .now)
     ≡ afterTest verdict
     (openedStep v (args .c) (heldIn (args .memory .now) (args .c .held)) (args .received .now) (opened (args .c .reading) (args .received .now)))
 behind c e =
-    let args = c .before .before .before .before .before .before .args in
+    let args = c .before .before .before .before .before .before .before .args in
     let memory = args .memory .now in
     let bytes = args .received .now in
-    let step = openedStep (viewOf (args .table .now)) (args .c) (heldIn memory (args .c .held)) bytes (opened (args .c .reading) bytes) in
-    ap (λ (v : Verdict). afterTest v step) (sym (c .test-over .ensures) ∙ e)
+    let v = viewOf (args .table .now) (args .starts .now) (args .count) in
+    let step = openedStep v (args .c) (heldIn memory (args .c .held)) bytes (opened (args .c .reading) bytes) in
+    ap (λ (t : Verdict). afterTest t step) (sym (c .test-over .ensures) ∙ e)
 
 decide-opened-requires : tie.Need-decide-opened-requires
 decide-opened-requires c κs =
     let kept = c .held in
-    let args = c .before .before .before .before .before .before .before .before .before .before .args in
+    let args = c .before .before .before .before .before .before .before .before .before .before .before .args in
     let memory = args .memory .now in
     let n = args .c .held in
     let size : length (heldIn memory n) ≡ kept .result = rw (← kept .ensures .1) (length-take-le (kept .result) memory (kept .ensures .0)) in

@@ -20,7 +20,7 @@ use Rattle.record_server.proofs.taking.decide_content.Tie as tie
 
 -- the entry, seen from where the content was tested
 abbrev entry : tie.After-test-content → tie.Start
-entry c = c .before .before .before .before .before .before .before
+entry c = c .before .before .before .before .before .before .before .before
 
 tested : (c : tie.After-test-content) →
     let args = entry c .args in
@@ -35,13 +35,14 @@ tested c =
 -- behind the tests, by the type
 behind : (c : tie.After-test-content) {verdict : Verdict} {kind : ContentType} → c .test-content .result ≡ verdict → entry c .args .kind ≡ kind →
     let args = entry c .args in
-    let v = viewOf (args .table .now) in
+    let v = viewOf (args .table .now) (args .starts .now) (args .count) in
     let held = take (args .kept) (args .memory .now) in
     let content = part 5 (args .n) (args .received .now) in
     contentDecided v (args .c) held content (args .kind) ≡ afterTest verdict (contentStep v (args .c) held content kind)
 behind c {verdict} e k =
     let args = entry c .args in
-    let step = contentStep (viewOf (args .table .now)) (args .c) (take (args .kept) (args .memory .now)) (part 5 (args .n) (args .received .now)) in
+    let v = viewOf (args .table .now) (args .starts .now) (args .count) in
+    let step = contentStep v (args .c) (take (args .kept) (args .memory .now)) (part 5 (args .n) (args .received .now)) in
     ap (λ (t : Verdict). afterTest t (step (args .kind))) (sym (tested c) ∙ e) ∙ ap (λ (t : ContentType). afterTest verdict (step t)) k
 
 hear-requires : tie.Need-hear-requires

@@ -18,7 +18,7 @@ use Rattle.record_server.proofs.taking.decide_opened.Tie as tie
 
 -- the entry, seen from where the record was opened
 abbrev entry : tie.After-open → tie.Start
-entry c = c .before .before .before .before .before .before .before
+entry c = c .before .before .before .before .before .before .before .before
 
 -- the record passed its tests
 passed : (c : tie.After-kind) →
@@ -28,14 +28,14 @@ passed c = sym (c .before .before .«open» .ensures) ∙ c .kind .given .1
 
 step : (c : tie.After-kind) →
     let args = entry (c .before .before) .args in
-    let v = viewOf (args .table .now) in
+    let v = viewOf (args .table .now) (args .starts .now) (args .count) in
     let held = take (args .kept) (args .memory .now) in
     openedStep v (args .c) held (args .received .now) (opened (args .c .reading) (args .received .now))
     ≡ cond (unlistedFirst (args .c)) (refuse DecryptError)
     (contentDecided v (args .c) held (part 5 (c .kind .given .0 .1 .0) (args .received .now)) (c .kind .given .0 .0))
 step c =
     let args = entry (c .before .before) .args in
-    let v = viewOf (args .table .now) in
+    let v = viewOf (args .table .now) (args .starts .now) (args .count) in
     ap (openedStep v (args .c) (take (args .kept) (args .memory .now)) (args .received .now)) (passed c)
     ∙ rw (opened-inside (args .c .reading) (args .received .now) (passed c) .3)
 
@@ -67,9 +67,10 @@ returns-3 : tie.Need-returns-3
 returns-3 c =
     let r = c .before .before .before .before in
     let args = entry (r .before .before) .args in
+    let v = viewOf (args .table .now) (args .starts .now) (args .count) in
     let told = sym (r .before .before .«open» .ensures) ∙ r .r .given .1 in
     same-step
-    (ap (openedStep (viewOf (args .table .now)) (args .c) (take (args .kept) (args .memory .now)) (args .received .now)) told
+    (ap (openedStep v (args .c) (take (args .kept) (args .memory .now)) (args .received .now)) told
     ∙ rw (c .before .refused-as .ensures, c .before .before .is-first2 .ensures))
     (c .refused2 .ensures _ _ _)
 

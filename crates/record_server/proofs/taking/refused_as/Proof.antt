@@ -15,5 +15,8 @@ returns-2 c =
     let n = c .before .number in
     rw (c .before .before .if1 .taken, ← n .ensures, ne-eqb (n .result) 20 (c .if2 .left))
 
+returns-3 : tie.Need-returns-3
+returns-3 c = rw (c .if1 .left)
+
 pub refused-as-spec : {M : Type 1} → statement M
-refused-as-spec = tie.close (tie.spec (λ c κs. search needs) returns returns-2 (λ c. search needs))
+refused-as-spec = tie.close (tie.spec (λ c κs. search needs) returns returns-2 returns-3)

@@ -16,11 +16,11 @@ use Rattle.record_server.proofs.taking.shake.Statement.{statement}
 use Rattle.record_server.proofs.taking.shake.Tie as tie
 
 slice-aggregate-judge : tie.Need-slice-aggregate-judge
-slice-aggregate-judge c = sym (length-held (c .before .before .before .before .before .pre))
+slice-aggregate-judge c = sym (length-held (c .before .before .before .before .before .before .pre))
 
 judge-requires : tie.Need-judge-requires
 judge-requires c κs =
-    let start = c .before .before .before .before .before .before in (
+    let start = c .before .before .before .before .before .before .before in (
       start .pre .going,
       rw (length-held (start .pre), as-lent (start .args .n), length-content (start .pre))
           (omega (arith, start .pre .kept-few, start .pre .few)),
@@ -28,12 +28,12 @@ judge-requires c κs =
 
 -- the entry, seen from where the bytes were judged
 abbrev entry : tie.After-judge → tie.Start
-entry c = c .before .before .before .before .before .before .before
+entry c = c .before .before .before .before .before .before .before .before
 
 ends : (c : tie.After-judge) →
     let args = entry c .args in
     let all = take (args .kept) (args .memory .now) ++ part 5 (args .n) (args .received .now) in
-    Ends (args .kept) all (judged (viewOf (args .table .now)) (args .c .handshake) all) (c .judge .result)
+    Ends (args .kept) all (judged (viewOf (args .table .now) (args .starts .now) (args .count)) (args .c .handshake) all) (c .judge .result)
 ends c = rw (length-held (entry c .pre), as-lent (entry c .args .n)) at (c .judge .ensures)
 
 progressed-requires : tie.Need-progressed-requires
@@ -48,13 +48,13 @@ returns c =
     all-decides (entry judge .pre) (ends judge) (then .before .enum-told2 .given .1) (then .if1 .taken) (c .progressed .ensures)
 
 -- a message was judged
-add-t25 : tie.Need-add-t25
-add-t25 c =
+add-t27 : tie.Need-add-t27
+add-t27 c =
     let judge = c .before .before .before in
     omega (arith, from-few (entry judge .pre) (ends judge) (c .if1 .left), entry judge .pre .few)
 
-sub-t26 : tie.Need-sub-t26
-sub-t26 c = let judge = c .before .before .before in from-few (entry judge .pre) (ends judge) (c .if1 .left)
+sub-t28 : tie.Need-sub-t28
+sub-t28 c = let judge = c .before .before .before in from-few (entry judge .pre) (ends judge) (c .if1 .left)
 
 progressed-requires-2 : tie.Need-progressed-requires-2
 progressed-requires-2 c κs =
@@ -92,9 +92,9 @@ shake-spec =
     (λ c. search needs)
     progressed-requires
     returns
-    add-t25
-    sub-t26
-    sub-t26
+    add-t27
+    sub-t28
+    sub-t28
     progressed-requires-2
     (λ c. search needs)
     (λ c κs. search needs)

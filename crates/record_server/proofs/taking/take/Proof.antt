@@ -11,7 +11,7 @@ returns : tie.Need-returns
 returns c =
     let settled = c .before .before .before .before in
     let decided = settled .before .before .before in
-    let args = decided .before .before .before .before .before .before .args in
+    let args = decided .before .before .before .before .before .before .before .args in
     let memory = args .memory .now in
     let held = heldIn memory (args .c .held) in
     let does = settled .settle .ensures held (held-front memory (args .c .held)) in (

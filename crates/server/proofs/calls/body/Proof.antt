@@ -12,32 +12,32 @@ use Rattle.server.proofs.calls.body.Tie as tie
 
 body-requires-2 : tie.Need-body-requires-2
 body-requires-2 c κs =
-    let start = c .before .before .before .before in
+    let start = c .before .before .before .before .before in
     subst (λ (p : Phase). headerTest (awaited p) (start .args .m .now) ≡ Accepted) (c .enum-told2 .given .1) (start .pre)
 
 -- the step in the phase that was found
 step-in : (c : tie.Start) {p : Phase} → c .args .c .phase ≡ p →
-    let v = viewOf (c .args .table .now) in
+    let v = viewOf (c .args .table .now) (c .args .starts .now) (c .args .count) in
     bodyStep v (c .args .c) (c .args .m .now) (c .args .c .phase) ≡ bodyStep v (c .args .c) (c .args .m .now) p
-step-in c e = ap (bodyStep (viewOf (c .args .table .now)) (c .args .c) (c .args .m .now)) e
+step-in c e = ap (bodyStep (viewOf (c .args .table .now) (c .args .starts .now) (c .args .count)) (c .args .c) (c .args .m .now)) e
 
 returns : tie.Need-returns
-returns c = same-step (step-in (c .before .before .before .before .before) (c .before .enum-told .given .1)) (c .body .ensures)
+returns c = same-step (step-in (c .before .before .before .before .before .before) (c .before .enum-told .given .1)) (c .body .ensures)
 
 returns-2 : tie.Need-returns-2
-returns-2 c = same-step (step-in (c .before .before .before .before .before) (c .before .enum-told2 .given .1)) (c .body2 .ensures)
+returns-2 c = same-step (step-in (c .before .before .before .before .before .before) (c .before .enum-told2 .given .1)) (c .body2 .ensures)
 
 returns-3 : tie.Need-returns-3
-returns-3 c = same-step (step-in (c .before .before .before .before .before) (c .before .enum-told3 .given .1)) (c .refused .ensures)
+returns-3 c = same-step (step-in (c .before .before .before .before .before .before) (c .before .enum-told3 .given .1)) (c .refused .ensures)
 
 returns-4 : tie.Need-returns-4
-returns-4 c = same-step (step-in (c .before .before .before .before .before) (c .before .enum-told4 .given .1)) (c .body3 .ensures)
+returns-4 c = same-step (step-in (c .before .before .before .before .before .before) (c .before .enum-told4 .given .1)) (c .body3 .ensures)
 
 returns-5 : tie.Need-returns-5
-returns-5 c = same-step (step-in (c .before .before .before .before .before) (c .before .enum-told5 .given .1)) (c .refused2 .ensures)
+returns-5 c = same-step (step-in (c .before .before .before .before .before .before) (c .before .enum-told5 .given .1)) (c .refused2 .ensures)
 
 returns-6 : tie.Need-returns-6
-returns-6 c = same-step (step-in (c .before .before .before .before .before) (c .before .enum-told6 .given .1)) (c .refused3 .ensures)
+returns-6 c = same-step (step-in (c .before .before .before .before .before .before) (c .before .enum-told6 .given .1)) (c .refused3 .ensures)
 
 pub body-spec : {M : Type 1} → statement M
 body-spec =

@@ -14,15 +14,15 @@ use Rattle.server.proofs.calls.decide.Tie as tie
 
 -- the order of the tests, as far as the connection being over
 step-after-over : (c : tie.After-is-over) →
-    let args = c .before .before .before .args in
-    let v = viewOf (args .table .now) in
+    let args = c .before .before .before .before .args in
+    let v = viewOf (args .table .now) (args .starts .now) (args .count) in
     let phase = args .c .phase in
     messageStep v (args .c) (args .m .now) phase
     ≡ cond (c .is-over .result) (refuse ConnectionOver)
     (afterTests (headerTest (awaited phase) (args .m .now)) (bodyStep v (args .c) (args .m .now) phase))
 step-after-over c =
-    let args = c .before .before .before .args in
-    let v = viewOf (args .table .now) in
+    let args = c .before .before .before .before .args in
+    let v = viewOf (args .table .now) (args .starts .now) (args .count) in
     let phase = args .c .phase in
     let rest : Step = afterTests (headerTest (awaited phase) (args .m .now)) (bodyStep v (args .c) (args .m .now) phase) in
     ap (λ (over : Bool). cond over (refuse ConnectionOver) rest) (sym (c .is-over .ensures))
@@ -37,12 +37,12 @@ body-requires c κs = sym (c .before .before .test-header .ensures) ∙ c .enum-
 
 -- behind the tests on the header
 behind : (c : tie.After-test-header) {verdict : Verdict} → c .test-header .result ≡ verdict →
-    let args = c .before .before .before .before .before .args in
-    let v = viewOf (args .table .now) in
+    let args = c .before .before .before .before .before .before .args in
+    let v = viewOf (args .table .now) (args .starts .now) (args .count) in
     messageStep v (args .c) (args .m .now) (args .c .phase) ≡ afterTests verdict (bodyStep v (args .c) (args .m .now) (args .c .phase))
 behind c e =
-    let args = c .before .before .before .before .before .args in
-    let step = bodyStep (viewOf (args .table .now)) (args .c) (args .m .now) (args .c .phase) in
+    let args = c .before .before .before .before .before .before .args in
+    let step = bodyStep (viewOf (args .table .now) (args .starts .now) (args .count)) (args .c) (args .m .now) (args .c .phase) in
     step-after-over (c .before .before) ∙ rw (c .before .if1 .left) (ap (λ (v : Verdict). afterTests v step) (sym (c .test-header .ensures) ∙ e))
 
 returns-2 : tie.Need-returns-2

@@ -25,7 +25,7 @@ returns : tie.Need-returns
 returns c =
     let at-settle = c .before .before .before in
     let at-decide = at-settle .before .before in
-    let args = at-decide .before .before .before .before .args in
+    let args = at-decide .before .before .before .before .before .args in
     let does = at-settle .settle .ensures in
     let step = at-decide .decide .ensures .means in
     let out = args .out .now in

@@ -9,9 +9,9 @@ use Rattle.server.proofs.key_exchange.identified.Tie as tie
 returns : tie.Need-returns
 returns c =
     let read = c .before .before .before .before in
-    let start = read .before .before .before in
+    let start = read .before .before .before .before in
     let there = sym (read .read-identity-body .ensures) ∙ c .before .before .enum-told .given .1 in
-    rw (identity-there (start .args .m .now) (start .pre) there, ← c .before .identity .ensures) (c .look-up .ensures)
+    rw (identity-there (start .args .m .now) (start .pre .0) there, ← c .before .identity .ensures) (c .look-up .ensures)
 
 returns-2 : tie.Need-returns-2
 returns-2 c = rw (← c .before .before .before .read-identity-body .ensures, c .before .enum-told2 .given .1) (c .refused .ensures)

@@ -7,7 +7,7 @@ use native.Mathlib.Omega.{arith}
 use denote.Ref.{now}
 use mathlib.Core.List.{List}
 use lib.ListN.{length, drop, getD, length-drop, length-set}
-use lib.Seq.{paste, paste-zero, paste-suc}
+use lib.Seq.{paste, paste-zero, paste-suc, getD-drop}
 use Rattle.table_edits.proofs.Moving.{lower-read}
 use borrow.Author.Needs.{needs}
 use Rattle.table_edits.proofs.moves.lower.Statement.{statement}
@@ -32,7 +32,10 @@ loop-again c =
     let s = now (a .memory) in
     let i = t .loop .i in
     let copied : t .loop .memory ≡ paste s (a .to) (drop (a .from) s) i = t .loop .inv .2 in
-    let read = ap (λ (m : List ℕ). getD m (a .from + i) 0) copied ∙ lower-read s (a .from) (a .to) i (omega arith) (omega arith) in (
+    let read : getD (t .loop .memory) (a .from + i) 0 ≡ getD (drop (a .from) s) i 0 =
+    ap (λ (m : List ℕ). getD m (a .from + i) 0) copied
+    ∙ lower-read s (drop (a .from) s) (a .from) (a .to) i (omega arith) (omega arith) (rw length-drop (omega arith))
+    ∙ sym (getD-drop (a .from) s i 0) in (
       search needs,
       simp length-set (t .loop .inv .1),
       rw read (rw copied (paste-suc s (a .to) (drop (a .from) s) i 0 (omega arith) (rw length-drop (omega arith)))
