@@ -207,7 +207,8 @@ static void note_identity(struct connection *c)
 static void hand_over(struct connection *c, const struct settings *settings)
 {
     uint8_t answer[TN_FLIGHT_SIZE], master[TN_MASTER_SIZE];
-    int32_t result = tn_message(c->login, settings->table, settings->table_len, c->message, c->message_len, answer, sizeof answer, master);
+    int32_t result = tn_message(c->login, settings->table, settings->table_len, settings->starts, TN_TABLE_LINES, settings->lines, c->message, c->message_len,
+                                answer, sizeof answer, master);
     if (!tn_is_count(result))
         refuse_result(c, result);
     else if (!accepted(c, answer, (size_t)result, master))
@@ -435,8 +436,8 @@ static void proved_record_came(struct connection *c, const struct settings *sett
     size_t n = c->in_len;
     c->in_len = 0;
     overhear(c, settings, n);
-    int32_t result = tn_take_record(c->login, settings->table, settings->table_len, c->in, n, c->memory, sizeof c->memory, c->out + c->out_end,
-                                    sizeof c->out - c->out_end, master, told);
+    int32_t result = tn_take_record(c->login, settings->table, settings->table_len, settings->starts, TN_TABLE_LINES, settings->lines, c->in, n, c->memory,
+                                    sizeof c->memory, c->out + c->out_end, sizeof c->out - c->out_end, master, told);
     OPENSSL_cleanse(master, sizeof master);
     if (tn_is_alert(result)) {
         (void)queued(c, tn_closing_alert(c->login, c->out + c->out_end, sizeof c->out - c->out_end));

@@ -26,6 +26,8 @@ struct settings {
     uint8_t stand_in[TN_STAND_IN_SIZE];
     uint8_t table[TN_TABLE_LIMIT];
     size_t table_len;
+    uint32_t starts[TN_TABLE_LINES]; /* where the table's lines start, for the library; gateway/table.c keeps it beside the table */
+    size_t lines;
 };
 
 /* Whether a client is not to learn which gates there are; it is the library's rule where none is named. */

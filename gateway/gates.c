@@ -222,10 +222,9 @@ static int bad_table(struct table_file *f, const char *table)
 
 static void print_names(const struct table_file *f)
 {
-    for (size_t at = 0, end; at < f->n; at = end + 1) {
-        const uint8_t *line = f->bytes + at;
-        end = at + (size_t)((const uint8_t *)memchr(line, '\n', f->n - at) - line);
-        fwrite(line, 1, (size_t)((const uint8_t *)memchr(line, ':', end - at) - line), stdout);
+    for (size_t i = 0; i < f->lines; i++) {
+        const uint8_t *line = f->bytes + f->starts[i];
+        fwrite(line, 1, (size_t)((const uint8_t *)memchr(line, ':', f->n - f->starts[i]) - line), stdout);
         putchar('\n');
     }
 }
@@ -234,27 +233,30 @@ static int look(const struct request *r, struct table_file *f)
 {
     if (!table_file_read(f, r->table))
         return say(FAILED, "%s: %s; %s", r->table, f->why, f->remedy);
-    if (tn_table_test(f->bytes, f->n) != 0)
+    if (!tn_is_count(table_file_list(f)))
         return bad_table(f, r->table);
     if (r->command == LIST)
         print_names(f);
     else
-        printf("well formed, gates: %zu\n", table_lines(f->bytes, f->n));
+        printf("well formed, gates: %zu\n", f->lines);
     bool good = !ferror(stdout);
     return fclose(stdout) == 0 && good ? DONE : say(FAILED, "standard output can't be written: %s; mend that and try again", strerror(errno));
 }
 
 /* ---- editing it */
 
-/* The library's edit of what was read: the new length, or a refusal. */
+/* The library's edit of what was read, and of its list: the new length, or a refusal. */
 static int32_t edited(const struct request *r, const struct key *key, struct table_file *f)
 {
     const uint8_t *name = (const uint8_t *)r->name;
     size_t n = strlen(r->name);
+    int32_t lines = table_file_list(f);
+    if (!tn_is_count(lines))
+        return lines;
     switch (r->command) {
-    case ADD: return tn_table_add(f->bytes, TN_TABLE_LIMIT, f->n, name, n, key->bytes, key->n);
-    case REPLACE: return tn_table_replace(f->bytes, TN_TABLE_LIMIT, f->n, name, n, key->bytes, key->n);
-    default: return tn_table_retire(f->bytes, TN_TABLE_LIMIT, f->n, name, n);
+    case ADD: return tn_table_add(f->bytes, TN_TABLE_LIMIT, f->n, f->starts, TN_TABLE_LINES, &f->lines, name, n, key->bytes, key->n);
+    case REPLACE: return tn_table_replace(f->bytes, TN_TABLE_LIMIT, f->n, f->starts, TN_TABLE_LINES, &f->lines, name, n, key->bytes, key->n);
+    default: return tn_table_retire(f->bytes, TN_TABLE_LIMIT, f->n, f->starts, TN_TABLE_LINES, &f->lines, name, n);
     }
 }
 

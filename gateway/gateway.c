@@ -149,7 +149,7 @@ static bool take_table(bool again)
     if (settings_hide(&settings))
         work_measure(&settings);
     if (again)
-        log_line("%s read again, gates: %zu", options.table, table_gates(&settings));
+        log_line("%s read again, gates: %zu", options.table, settings.lines);
     return true;
 }
 
@@ -307,7 +307,7 @@ static void announce(int listener)
     getsockname(listener, (struct sockaddr *)&at, &size);
     address_text(&at, text, sizeof text);
     log_line("listening on %s,%s rule: %s (%s), places: %zu, gates in %s: %zu", text, records, rules[options.rule], meaning, places, options.table,
-             table_gates(&settings));
+             settings.lines);
 }
 
 int main(int count, char **words)

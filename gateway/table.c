@@ -1,4 +1,4 @@
-/* The key table's file: read whole, tested by the library before it is used. */
+/* The key table's file: read whole, tested by the library before it is used, which makes the list of its line starts then. */
 #include "table.h"
 
 #include <errno.h>
@@ -12,10 +12,11 @@
 
 /* ---- lines of a well-formed table */
 
+/* The library looks the gate up, with room for no key: so it makes none. */
 bool table_lists(const struct settings *settings, const uint8_t *identity, size_t n)
 {
-    size_t digits, number;
-    return table_key_text(settings->table, settings->table_len, identity, n, &digits, &number) != NULL;
+    uint8_t none[1];
+    return tn_table_lookup(settings->table, settings->table_len, settings->starts, TN_TABLE_LINES, settings->lines, identity, n, none, 0) == TN_R1;
 }
 
 bool table_keeps(const struct settings *settings, const struct table *fresh, const uint8_t *identity, size_t n)
@@ -24,11 +25,6 @@ bool table_keeps(const struct settings *settings, const struct table *fresh, con
     const uint8_t *old_key = table_key_text(settings->table, settings->table_len, identity, n, &old_digits, &number);
     const uint8_t *new_key = table_key_text(fresh->bytes, fresh->n, identity, n, &new_digits, &number);
     return old_key && new_key && old_digits == new_digits && strncasecmp((const char *)old_key, (const char *)new_key, new_digits) == 0;
-}
-
-size_t table_gates(const struct settings *settings)
-{
-    return table_lines(settings->table, settings->table_len);
 }
 
 /* ---- reading */
@@ -62,10 +58,12 @@ static bool read_file(struct table *table, const char *file, bool again, char wh
 bool table_read(struct table *table, const char *file, bool again, char why[TABLE_SENTENCE])
 {
     bool good = read_file(table, file, again, why);
-    if (good && tn_table_test(table->bytes, table->n) != 0) {
+    int32_t lines = good ? tn_table_list(table->bytes, table->n, table->starts, TN_TABLE_LINES) : 0;
+    if (!tn_is_count(lines)) {
         (void)table_explain(table->bytes, table->n, why);
         good = false;
     }
+    table->lines = (size_t)lines;
     table->marked = table->n >= 3 && memcmp(table->bytes, "\xef\xbb\xbf", 3) == 0;
     if (!good)
         OPENSSL_cleanse(table, sizeof *table);
@@ -77,5 +75,7 @@ void table_use(struct settings *settings, struct table *table)
     OPENSSL_cleanse(settings->table, sizeof settings->table);
     memcpy(settings->table, table->bytes, table->n);
     settings->table_len = table->n;
+    memcpy(settings->starts, table->starts, sizeof settings->starts);
+    settings->lines = table->lines;
     OPENSSL_cleanse(table, sizeof *table);
 }

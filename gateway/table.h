@@ -12,15 +12,17 @@
 struct table {
     uint8_t bytes[TN_TABLE_LIMIT + 1]; /* one more, to find out that a file is too long */
     size_t n;
+    uint32_t starts[TN_TABLE_LINES]; /* its list */
+    size_t lines;
     bool marked;   /* it begins with a byte order mark */
     bool readable; /* by others than its owner */
 };
 
-/* Reads the file whole and tests it. False where that can't be done; `why` then says what is wrong, and the table is cleared. A table may come through a pipe,
- * but not again: nobody can say how long that takes, and an empty one would retire all gates. */
+/* Reads the file whole, tests it and makes its list. False where that can't be done; `why` then says what is wrong, and the table is cleared. A table may come
+ * through a pipe, but not again: nobody can say how long that takes, and an empty one would retire all gates. */
 bool table_read(struct table *table, const char *file, bool again, char why[TABLE_SENTENCE]);
 
-/* Puts the table into force, and clears the one before and the memory that it was read into. */
+/* Puts the table into force with its list, and clears the one before and the memory that it was read into. */
 void table_use(struct settings *settings, struct table *table);
 
 /* Whether the gate has the same key in the table that is in force and in the one that was read. */
@@ -28,8 +30,5 @@ bool table_keeps(const struct settings *settings, const struct table *fresh, con
 
 /* Whether the table in force lists the gate. */
 bool table_lists(const struct settings *settings, const uint8_t *identity, size_t n);
-
-/* The number of gates in the table in force. */
-size_t table_gates(const struct settings *settings);
 
 #endif

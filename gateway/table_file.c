@@ -78,6 +78,13 @@ bool table_file_read(struct table_file *f, const char *name)
     return take_in(f, false, 0);
 }
 
+int32_t table_file_list(struct table_file *f)
+{
+    int32_t lines = tn_table_list(f->bytes, f->n, f->starts, TN_TABLE_LINES);
+    f->lines = tn_is_count(lines) ? (size_t)lines : 0;
+    return lines;
+}
+
 /* ---- the folder and its lock */
 
 /* Finds the file's folder and its name there, links followed. Of a file that is not there yet the name itself says both. */

@@ -26,6 +26,8 @@ struct table_file {
     const char *remedy;                /* and what can be done about it */
     uint8_t bytes[TN_TABLE_LIMIT + 1]; /* one more, to find out that a file is too long */
     size_t n;
+    uint32_t starts[TN_TABLE_LINES];   /* the list of the table's line starts, once table_file_list has made it */
+    size_t lines;
 };
 
 /* Reads the file whole, to be looked at: without a lock, since it is only ever replaced. False with reason and remedy where that fails, as below. */
@@ -33,6 +35,9 @@ bool table_file_read(struct table_file *f, const char *name);
 
 /* Locks the file's folder and reads the file, for an edit. Links are followed: what they lead to is edited. `make`: there may be no file yet. */
 bool table_file_take(struct table_file *f, const char *name, bool make);
+
+/* Makes the list of the table that was read, which the library tests for that; what the library answers. */
+int32_t table_file_list(struct table_file *f);
 
 /* Puts the first n bytes in the file's place, with the old one's rights. False: the old file is as it was, unless `replaced` says that the new one is
  * there and only the system does not vouch for its lasting. */

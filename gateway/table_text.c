@@ -8,14 +8,6 @@
 
 /* ---- lines of a well-formed table */
 
-size_t table_lines(const uint8_t *table, size_t n)
-{
-    size_t lines = 0;
-    for (size_t i = 0; i < n; i++)
-        lines += table[i] == '\n';
-    return lines;
-}
-
 const uint8_t *table_key_text(const uint8_t *table, size_t size, const uint8_t *identity, size_t n, size_t *digits, size_t *number)
 {
     *number = 0;

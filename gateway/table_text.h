@@ -9,9 +9,6 @@
 
 enum { TABLE_SENTENCE = 160 }; /* longer than any reason for refusing a table, without the file's name */
 
-/* The number of gates in a well-formed table. */
-size_t table_lines(const uint8_t *table, size_t n);
-
 /* The key's digits in the line of this identity, up to the line's end, and the line's number from 1 on; NULL where it is not listed. */
 const uint8_t *table_key_text(const uint8_t *table, size_t size, const uint8_t *identity, size_t n, size_t *digits, size_t *number);
 

@@ -25,11 +25,9 @@ static void hand(struct connection *c, const struct settings *settings, const ui
 /* The table's last name with another last byte, one that is no UTF-8: listed nowhere, and as long in being compared as the last. Its length. */
 static size_t unlisted_name(const struct settings *settings, uint8_t name[TN_IDENTITY_LIMIT])
 {
-    size_t at = settings->table_len, n = 0;
-    while (at > 1 && settings->table[at - 2] != '\n')
-        at--;
-    const uint8_t *line = settings->table + (at > 0 ? at - 1 : 0);
-    while (settings->table_len > 0 && line[n] != ':')
+    const uint8_t *line = settings->table + (settings->lines > 0 ? settings->starts[settings->lines - 1] : 0);
+    size_t n = 0;
+    while (settings->lines > 0 && line[n] != ':')
         n++;
     memcpy(name, line, n);
     n = n > 0 ? n : 1;

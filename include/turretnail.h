@@ -14,11 +14,13 @@
  *
  * POINTERS AND LENGTHS
  *
- * A `const uint8_t *p` with its `size_t p_len` is read and left as it was; a `uint8_t *out` with its `size_t out_len` is lent for the answer. A parameter
- * written as an array, as `uint32_t fields[9]`, is a pointer to so many elements. The caller sees to it that
+ * A `const uint8_t *p` with its `size_t p_len` is read and left as it was; a `uint8_t *out` with its `size_t out_len` is lent for the answer. Of a list,
+ * `uint32_t *starts`, `starts_len` counts the numbers, not their bytes. A parameter written as an array, as `uint32_t fields[9]`, is a pointer to so many
+ * elements, and `size_t *count` to one. The caller sees to it that
  *
  *   - each pointer points to as many bytes or elements as its length or its type says, and is not null, also where the length is 0;
- *   - memory that is lent to be written (`out`, `memory`, `fields`, `connection`, `master`, `told`) overlaps no other argument of the same call;
+ *   - memory that is lent to be written (`out`, `memory`, `fields`, `connection`, `master`, `told`, and `starts` and `count` without `const`) overlaps no
+ *     other argument of the same call;
  *   - nobody else writes to any of it before the call returns.
  *
  * Nothing else is asked: there is no length, no byte and no order of calls that may not be given.
@@ -28,11 +30,11 @@
  * One `int32_t`, of which three kinds never meet:
  *
  *   0 and above   accepted. Of a call that is lent an `out`: so many bytes were written at its front, and the rest of it is as it was.
- *   -1 .. -9      refused to the host: TN_R1 .. TN_R9. Nothing that was lent is changed.
+ *   -1 .. -10     refused to the host: TN_R1 .. TN_R10. Nothing that was lent is changed.
  *   -1000 - a     refused to the client: the host sends the fatal alert a. Nothing that was lent is changed, except that the connection is closed.
  *
- * So a refusal never writes to `out`, `memory`, `fields`, `master` or `told`. The tests `tn_is_count`, `tn_is_host_refusal` and `tn_is_alert` below tell the
- * kinds apart.
+ * So a refusal never writes to `out`, `memory`, `starts`, `count`, `fields`, `master` or `told`. The tests `tn_is_count`, `tn_is_host_refusal` and
+ * `tn_is_alert` below tell the kinds apart.
  */
 #ifndef TURRETNAIL_H
 #define TURRETNAIL_H
@@ -67,7 +69,7 @@ extern "C" {
 #define TN_PRF_INPUT_LIMIT 65536 /* secret and seed of the PRF have at most so many bytes each */
 #define TN_IDENTITY_LIMIT 128   /* a listed identity has 1 to 128 bytes */
 #define TN_TABLE_LIMIT 65536    /* a key table has at most so many bytes */
-#define TN_TABLE_LINES 256      /* and so many lines */
+#define TN_TABLE_LINES 256      /* and so many lines, and the list of their starts so many numbers */
 #define TN_RECORD_HEADER_SIZE 5 /* a record's header: type, version and the fragment's length */
 #define TN_RECORD_CONTENT_LIMIT 16384 /* a record has at most so many bytes of content */
 #define TN_RECORD_MAC_SIZE 32   /* and so many bytes behind it where it is protected */
@@ -89,6 +91,7 @@ extern "C" {
 #define TN_R7 (-7) /* the identity is not listed (tn_table_replace, tn_table_retire) */
 #define TN_R8 (-8) /* the edited table would have a 257th line, or more than 65,536 bytes */
 #define TN_R9 (-9) /* a record to be sent or taken under sequence number 2^64 - 1, the last (record connections) */
+#define TN_R10 (-10) /* the list is not exactly the table's line starts and their count */
 
 /*
  * The alerts that the library gives (RFC 5246 section 7.2, RFC 4279 section 6). The library sends nothing: where a call on a connection gives an alert, the
@@ -133,7 +136,7 @@ static inline bool tn_is_count(int32_t result)
     return result >= 0;
 }
 
-/* Whether it was refused to the host, with one of TN_R1 to TN_R9. */
+/* Whether it was refused to the host, with one of TN_R1 to TN_R10. */
 static inline bool tn_is_host_refusal(int32_t result)
 {
     return result < 0 && result > -1000;
@@ -204,7 +207,7 @@ static inline uint8_t tn_alert_number(int32_t result)
  *   - Bytes may be moved and copied between calls. They hold secrets until the connection is complete or closed; then they hold no secret and no trace of
  *     the client. A host that drops a connection earlier clears them.
  *
- * The way of a login:
+ * The way of a login, for which tn_table_list has made the list of the key table, once when the table was read:
  *
  *   tn_start                                               phase 1
  *   ClientHello            tn_message, send its answer      phase 2
@@ -242,7 +245,8 @@ int32_t tn_start(uint8_t connection[TN_CONNECTION_SIZE], const uint8_t *random, 
 /*
  * Hands over one handshake message, header included, without its record. A refused message is not added to the transcript.
  *
- *   table      the key table (tn_table_test says its form), read where a ClientKeyExchange comes
+ *   table      the key table ("The key table" says its form), read where a ClientKeyExchange comes
+ *   starts     the table's list, as tn_table_list made it: the first `count` numbers, the others do not matter; read with the table
  *   out        room for the answer: TN_FLIGHT_SIZE bytes are always enough
  *
  *   result                 when                                            out                                 master            connection
@@ -254,17 +258,18 @@ int32_t tn_start(uint8_t connection[TN_CONNECTION_SIZE], const uint8_t *random, 
  *   TN_R1                  all is right, and out is shorter than that      as it was                           as it was         as it was
  *   TN_R2                  a ClientKeyExchange, table not well formed      as it was                           as it was         as it was
  *   TN_R4                  the connection is complete or closed            as it was                           as it was         as it was
+ *   TN_R10                 a ClientKeyExchange, list not the table's       as it was                           as it was         as it was
  *   an alert               10, 40, 47, 50, 51, 70, 115 as listed above     as it was                           as it was         closed
  *
- * After TN_R1 or TN_R2 the connection still awaits the same message, and the call may be made again with more room or a better table.
+ * After TN_R1, TN_R2 or TN_R10 the connection still awaits the same message, and the call may be made again with more room, a better table or its list.
  *
  * Order of the tests: TN_R4; fewer than 4 bytes 50; another type than the one awaited 10; the length in the header not that of the rest 50; over
- * TN_MESSAGE_LIMIT bytes 50; TN_R2; the body's; TN_R1. So a header that promises too much can be handed over alone, and is refused with 10 or 50.
+ * TN_MESSAGE_LIMIT bytes 50; TN_R2; TN_R10; the body's; TN_R1. So a header that promises too much can be handed over alone, and is refused with 10 or 50.
  *
  * Where hide applies the master secret after an unlisted identity comes from the stand-in key. It is for the records only.
  */
-int32_t tn_message(uint8_t connection[TN_CONNECTION_SIZE], const uint8_t *table, size_t table_len, const uint8_t *message, size_t message_len,
-                   uint8_t *out, size_t out_len, uint8_t master[TN_MASTER_SIZE]);
+int32_t tn_message(uint8_t connection[TN_CONNECTION_SIZE], const uint8_t *table, size_t table_len, const uint32_t *starts, size_t starts_len, size_t count,
+                   const uint8_t *message, size_t message_len, uint8_t *out, size_t out_len, uint8_t master[TN_MASTER_SIZE]);
 
 /*
  * A change of cipher came from the client.
@@ -311,7 +316,7 @@ int32_t tn_suite(const uint8_t connection[TN_CONNECTION_SIZE]);
  *     other bytes counts as if the client had sent those. TN_RECORD_MEMORY bytes are always enough; with less, TN_R1 comes where they are too few. Only
  *     when a connection is new, complete or closed may the memory be another's.
  *
- * The way of a session:
+ * The way of a session, for which tn_table_list has made the list of the key table, once when the table was read:
  *
  *   tn_record_start                       phase 1
  *   for each record of the client         read TN_RECORD_HEADER_SIZE bytes, then as many as the last two of them say (the first is the high one);
@@ -320,7 +325,7 @@ int32_t tn_suite(const uint8_t connection[TN_CONNECTION_SIZE]);
  *                                         then ask tn_record_phase: 0, the client has closed, and the host closes the transport;
  *                                         5, the handshake is complete: the client knows the key of the identity that it named
  *     an alert                            tn_closing_alert, send its bytes, close the transport
- *     TN_R1, TN_R2, TN_R9                 as said at tn_take_record
+ *     TN_R1, TN_R2, TN_R9, TN_R10         as said at tn_take_record
  *   data for the client                   tn_send_data in phase 5, send its bytes
  *   the end                               tn_send_close, send its bytes, close the transport
  *
@@ -352,6 +357,7 @@ int32_t tn_record_start(uint8_t connection[TN_RECORD_CONNECTION_SIZE], const uin
  * Takes one whole record of the client, header included.
  *
  *   table      the key table, read where a ClientKeyExchange is finished
+ *   starts     the table's list, as tn_table_list made it: the first `count` numbers, the others do not matter; read with the table
  *   received   the record
  *   memory     the connection's memory, see above
  *   out        room for the answer: TN_RECORD_ANSWER bytes are enough on a connection that calls have made; on other bytes an answer has at most 336
@@ -380,13 +386,15 @@ int32_t tn_record_start(uint8_t connection[TN_RECORD_CONNECTION_SIZE], const uin
  *                          the table is not well formed
  *   TN_R4                  the connection is closed                as it was            as it was          as it was          as it was        as it was
  *   TN_R9                  2^64 - 1 records were taken             as it was            as it was          as it was          as it was        as it was
+ *   TN_R10                 a ClientKeyExchange was finished, and   as it was            as it was          as it was          as it was        as it was
+ *                          the list is not the table's
  *   an alert               10, 20, 22, 40, 47, 50, 51, 70, 115     as it was            as it was          as it was          as it was        closed, with the
  *                                                                                                                                              alert's record
  *
  * What is held stands at the front of the memory; the rest of the memory is as it was. Each message of the answer has a record of its own.
  *
- * After TN_R1 or TN_R2 the record counts as not come, with all its messages: the call may be made again with more room, more memory (the same bytes at its
- * front) or a better table. After TN_R9 nothing can be taken any more: tn_send_close, and a new connection.
+ * After TN_R1, TN_R2 or TN_R10 the record counts as not come, with all its messages: the call may be made again with more room, more memory (the same bytes
+ * at its front), a better table or its list. After TN_R9 nothing can be taken any more: tn_send_close, and a new connection.
  *
  * Order of the tests: TN_R4; TN_R9; bytes that are not one whole record 50; an unknown content type 10; a fragment over 16,384 bytes, under protection 32
  * more, 22; a wrong MAC, also under 32 bytes of fragment, 20, but 51 in the first protected record, and there 51 with any MAC where the identity is not
@@ -397,8 +405,9 @@ int32_t tn_record_start(uint8_t connection[TN_RECORD_CONNECTION_SIZE], const uin
  *
  * Where hide applies the master secret after an unlisted identity comes from the stand-in key; the connection never gets to phase 5.
  */
-int32_t tn_take_record(uint8_t connection[TN_RECORD_CONNECTION_SIZE], const uint8_t *table, size_t table_len, const uint8_t *received, size_t received_len,
-                       uint8_t *memory, size_t memory_len, uint8_t *out, size_t out_len, uint8_t master[TN_MASTER_SIZE], uint32_t told[4]);
+int32_t tn_take_record(uint8_t connection[TN_RECORD_CONNECTION_SIZE], const uint8_t *table, size_t table_len, const uint32_t *starts, size_t starts_len,
+                       size_t count, const uint8_t *received, size_t received_len, uint8_t *memory, size_t memory_len, uint8_t *out, size_t out_len,
+                       uint8_t master[TN_MASTER_SIZE], uint32_t told[4]);
 
 /*
  * Application data for the client, as one record: at most TN_RECORD_CONTENT_LIMIT bytes, or none.
@@ -599,19 +608,46 @@ int32_t tn_message_end(const uint8_t header[4]);
  * The text of a psk.passwd file: lines `identity:key`, each ended by one byte 0A, the last one too. An identity has 1 to 128 bytes of UTF-8 without control
  * characters and colons; a key has 1 to 64 bytes as pairs of hex digits. At most TN_TABLE_LINES lines and TN_TABLE_LIMIT bytes; no identity twice. No bytes
  * at all are a table without gates.
+ *
+ * THE LIST. Beside its table a host keeps the list of its lines' starts: where each line starts, counted in bytes from the table's first one, in order, and
+ * how many lines there are. With it a lookup goes straight to each line, without searching for the end of the one before. `a:00` 0A `gate7:abcd` 0A has the
+ * list 0, 5 and the count 2; a table without gates has the count 0. The list is the first `count` numbers of the memory that is lent for it, and what stands
+ * behind them does not matter.
+ *
+ *   a table is read      tn_table_list makes its list, and tests the table: TN_TABLE_LINES numbers are always enough
+ *   it is edited         tn_table_add, tn_table_replace and tn_table_retire keep the list true
+ *   gates log in         tn_message and tn_take_record are given both, and test both
+ *
+ * A list that is not exactly the table's, in its numbers or their count, is TN_R10 there and at an edit, directly behind TN_R2. Making it again mends that.
  */
 
 /* 0 where the table is well formed, else TN_R2. */
 int32_t tn_table_test(const uint8_t *table, size_t table_len);
 
-/* The identity's key at the front of `out`, and its length, 1 to 64. Alert 115: not listed. TN_R1: `out` is shorter than the key.
- * The table is not tested: in one that is not well formed the first line that begins with the identity and a colon decides, bytes behind the last 0A being
- * a line too. Where that line's key is no valid one the answer is 115, whatever later lines hold. */
-int32_t tn_table_lookup(const uint8_t *table, size_t table_len, const uint8_t *identity, size_t identity_len, uint8_t *out, size_t out_len);
+/*
+ * Makes the table's list.
+ *
+ *   a count    the table's lines; so many numbers were written at the front of `starts`, and the rest of it is as it was
+ *   TN_R2      the table is not well formed
+ *   TN_R1      `starts` has room for fewer numbers than the table has lines
+ *
+ * The tests stand in this order. Refused, `starts` stays as it was.
+ */
+int32_t tn_table_list(const uint8_t *table, size_t table_len, uint32_t *starts, size_t starts_len);
+
+/* The identity's key at the front of `out`, and its length, 1 to 64. TN_R10: `count` is past starts_len. Alert 115: not listed. TN_R1: `out` is shorter than
+ * the key. The tests stand in this order.
+ * Neither table nor list is tested further. Any numbers may be given: of the first `count`, in their order, the first one decides at which the identity and a
+ * colon stand, without a byte 0A. The key's digits go from there to the next 0A, or to the table's end; where they are no valid key the answer is 115,
+ * whatever stands at later numbers. At a number past the table stands nothing. */
+int32_t tn_table_lookup(const uint8_t *table, size_t table_len, const uint32_t *starts, size_t starts_len, size_t count, const uint8_t *identity,
+                        size_t identity_len, uint8_t *out, size_t out_len);
 
 /*
- * Edits of a table where it stands: its bytes are the first `length` of the lent `memory`. Each gives the length of the edited table, which stands at the
- * front of the memory then; the bytes behind it are as they were, whatever they hold. Every other line keeps its bytes and its place in the order.
+ * Edits of a table and its list where they stand: the table's bytes are the first `length` of the lent `memory`, the list's numbers the first `*count` of
+ * the lent `starts`. Each gives the length of the edited table, which stands at the front of the memory then; the bytes behind it are as they were, whatever
+ * they hold. Every other line keeps its bytes and its place in the order. `starts` and `*count` are then the edited table's list, and the numbers behind it
+ * are as they were: after a retire that is the old last one.
  *
  *   tn_table_add       adds the line of the identity and the key, as the last one
  *   tn_table_replace   gives the identity that key, in its line's place
@@ -624,19 +660,22 @@ int32_t tn_table_lookup(const uint8_t *table, size_t table_len, const uint8_t *i
  *
  * Order of the tests:
  *
- *   TN_R2   the first `length` bytes are no well-formed table (a last line without its 0A too), or `length` is past memory_len
- *   TN_R5   an identity that no table may have, listed or not; a key of no bytes or over TN_PSK_LIMIT
- *   TN_R6   add: the identity is listed already
- *   TN_R7   replace, retire: the identity is not listed
- *   TN_R8   the edited table would have more than TN_TABLE_LINES lines or TN_TABLE_LIMIT bytes
- *   TN_R1   the memory is shorter than the edited table
+ *   TN_R2    the first `length` bytes are no well-formed table (a last line without its 0A too), or `length` is past memory_len
+ *   TN_R10   the first `*count` numbers are not exactly that table's list, or `*count` is past starts_len
+ *   TN_R5    an identity that no table may have, listed or not; a key of no bytes or over TN_PSK_LIMIT
+ *   TN_R6    add: the identity is listed already
+ *   TN_R7    replace, retire: the identity is not listed
+ *   TN_R8    the edited table would have more than TN_TABLE_LINES lines or TN_TABLE_LIMIT bytes
+ *   TN_R1    the memory is shorter than the edited table, or `starts` has room for fewer numbers than it has lines
  *
- * TN_TABLE_LIMIT bytes of memory are always enough. An added line takes identity_len + 2 * key_len + 2 bytes.
+ * TN_TABLE_LIMIT bytes and TN_TABLE_LINES numbers are always enough. An added line takes identity_len + 2 * key_len + 2 bytes and a number.
  */
-int32_t tn_table_add(uint8_t *memory, size_t memory_len, size_t length, const uint8_t *identity, size_t identity_len, const uint8_t *key, size_t key_len);
-int32_t tn_table_replace(uint8_t *memory, size_t memory_len, size_t length, const uint8_t *identity, size_t identity_len, const uint8_t *key,
-                         size_t key_len);
-int32_t tn_table_retire(uint8_t *memory, size_t memory_len, size_t length, const uint8_t *identity, size_t identity_len);
+int32_t tn_table_add(uint8_t *memory, size_t memory_len, size_t length, uint32_t *starts, size_t starts_len, size_t *count, const uint8_t *identity,
+                     size_t identity_len, const uint8_t *key, size_t key_len);
+int32_t tn_table_replace(uint8_t *memory, size_t memory_len, size_t length, uint32_t *starts, size_t starts_len, size_t *count, const uint8_t *identity,
+                         size_t identity_len, const uint8_t *key, size_t key_len);
+int32_t tn_table_retire(uint8_t *memory, size_t memory_len, size_t length, uint32_t *starts, size_t starts_len, size_t *count, const uint8_t *identity,
+                        size_t identity_len);
 
 /* 1 where the bytes are valid UTF-8 (RFC 3629), else 0. */
 int32_t tn_valid_utf8(const uint8_t *bytes, size_t bytes_len);
@@ -652,7 +691,7 @@ int32_t tn_valid_utf8(const uint8_t *bytes, size_t bytes_len);
  * the call or in one above it, with more depth for the frames between; and clears its own copies. gateway/wipe.c and gateway/connection.c show it.
  *
  * Both limits are measured, not proved (`make bench`, bench/frames). TN_STACK_LIMIT is for all calls but one: the deepest of them, tn_message with a
- * ClientKeyExchange, reaches less than 8,000 bytes below its caller. TN_RECORD_STACK_LIMIT is for tn_take_record, which has room on the stack to join a
+ * ClientKeyExchange, reaches less than 8,200 bytes below its caller. TN_RECORD_STACK_LIMIT is for tn_take_record, which has room on the stack to join a
  * message that came in several records, and reaches less than 26 KiB.
  */
 #define TN_STACK_LIMIT 16384

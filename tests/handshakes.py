@@ -5,7 +5,8 @@
 
 The server follows RFC 5246, RFC 4279 and document 01 with Python's hashlib and hmac and shares
 nothing with the library. Whole handshakes for each suite, hint and rule come first, then every
-refusal of document 01's table, replayed messages, and series of calls drawn from a fixed seed.
+refusal of document 01's table, lists of line starts that are not the table's (document 02, P6), replayed
+messages, and series of calls drawn from a fixed seed.
 """
 import hashlib, hmac, sys
 
@@ -15,6 +16,7 @@ KEYS = {b"gate7": bytes.fromhex("abcd"), b"gate": bytes(range(64)), "Küche".enc
 TABLE = b"".join(name + b":" + key.hex().encode() + b"\n" for name, key in KEYS.items())
 STAND_IN = hashlib.sha256(b"stand-in").digest()
 NOTHING, TELL, HIDE = 0, 1, 2
+LIST = 257  # numbers in the list's memory
 
 
 # ---- messages and secrets
@@ -148,9 +150,10 @@ class Server:
             self.awaits = "closed"
         return "wrote 0"
 
-    def message(self, m, room, table, good):
+    def message(self, m, room, table, good, matches=True):
+        """`good` tells whether the table is well formed, `matches` whether the list is its own."""
         try:
-            answer, after, master = self.step(m, table, good)
+            answer, after, master = self.step(m, table, good, matches)
             if len(answer) > room:
                 raise Refuse("R1")
         except Refuse as refusal:
@@ -158,7 +161,7 @@ class Server:
         after()
         return "wrote %d" % len(answer), answer, master
 
-    def step(self, m, table, good):
+    def step(self, m, table, good, matches=True):
         if self.over():
             raise Refuse("R4")
         if len(m) < 4:
@@ -168,9 +171,9 @@ class Server:
             raise Refuse("alert 10")
         if int.from_bytes(m[1:4], "big") != len(m) - 4 or len(m) > 16384:
             raise Refuse("alert 50")
-        return {1: self.hello, 16: self.exchange, 20: self.finished}[kind](m, m[4:], table, good)
+        return {1: self.hello, 16: self.exchange, 20: self.finished}[kind](m, m[4:], table, good, matches)
 
-    def hello(self, m, body, table, good):
+    def hello(self, m, body, table, good, matches):
         version, client, offered, methods = read_hello(body)
         if version < 0x0303:
             raise Refuse("alert 70")
@@ -188,9 +191,11 @@ class Server:
             self.awaits, self.client, self.transcript = "exchange", client, m + flight
         return flight, after, b""
 
-    def exchange(self, m, body, table, good):
+    def exchange(self, m, body, table, good, matches):
         if not good:
             raise Refuse("R2")
+        if not matches:
+            raise Refuse("R10")
         identity, rest = take_vector(body, 2)
         if rest:
             raise Refuse("alert 50")
@@ -204,7 +209,7 @@ class Server:
             self.transcript += m
         return b"", after, master
 
-    def finished(self, m, body, table, good):
+    def finished(self, m, body, table, good, matches):
         if len(body) != 12:
             raise Refuse("alert 50")
         if not self.listed or body != verify_data(self.master, b"client finished", self.transcript):
@@ -218,17 +223,40 @@ class Server:
 
 # ---- the calls, as the program reads them, with what it has to print
 
+def starts_of(text):
+    """Where a table's lines start."""
+    starts = [0]
+    for line in text.split(b"\n")[:-1]:
+        starts.append(starts[-1] + len(line) + 1)
+    return starts[:-1]
+
+
 class Calls:
     """What every series begins with, on this server."""
 
     def __init__(self, server):
         self.calls, self.lines = [], []
         self.server = server
+        self.starts, self.count = [0] * LIST, 0
         self.set_table(TABLE, KEYS)
 
     def set_table(self, text, keys, good=True):
+        """The list is its own then; if it is not well formed the list stays."""
         self.calls.append(b"\x02" + vector(3, text))
-        self.table, self.good = keys, good
+        self.table, self.good, self.own = keys, good, starts_of(text)
+        if good:
+            self.count = len(self.own)
+            self.starts[:self.count] = self.own
+
+    def set_list(self, count, place, start):
+        """Another count, and another number at a place of the list."""
+        self.calls.append(b"\x07" + count.to_bytes(3, "big") + place.to_bytes(2, "big") + start.to_bytes(3, "big"))
+        self.count = count
+        if place < LIST:
+            self.starts[place] = start
+
+    def matches(self):
+        return self.count <= LIST and self.starts[:self.count] == self.own
 
     def start(self, random, hint=b"", rule=NOTHING, stand_in=STAND_IN):
         self.calls.append(bytes([1, rule]) + vector(1, random) + vector(1, hint) + vector(1, stand_in))
@@ -245,7 +273,7 @@ class Calls:
 class Script(Calls):
     def message(self, m, room=60):
         self.calls.append(bytes([3, room]) + vector(3, m))
-        said, answer, master = self.server.message(m, room, self.table, self.good)
+        said, answer, master = self.server.message(m, room, self.table, self.good, self.matches())
         line = "message " + said + " " + (answer + b"\xee" * (room - len(answer))).hex()
         self.lines.append(line + (" master " + master.hex() if master else ""))
         if master:
@@ -414,6 +442,81 @@ def tables(s):
     s.set_table(TABLE, KEYS)
 
 
+def wrong_lists(own):
+    """Lists that are not `own`, a count and a number at a place, and what makes each right again."""
+    count, last = len(own), len(own) - 1
+    for wrong in sorted({count - 1, count + 1, 0, LIST, LIST + 1, 0xFFFFFF}):
+        yield (wrong, 0, own[0]), (count, 0, own[0])
+    for place in sorted({0, last}):
+        for more in (1, 0x100, 0x10000):
+            yield (count, place, own[place] + more), (count, place, own[place])
+    if last:
+        yield (count, last, own[last] - 1), (count, last, own[last])
+        yield (count, last, own[last - 1]), (count, last, own[last])
+    yield (count + 1, count, own[last]), (count, LIST, 0)
+
+
+def lists(s):
+    """Lists that are not the table's: R10, and the same connection completes with the right one."""
+    one, many = {b"gate7": KEYS[b"gate7"]}, {b"gate%d" % i: bytes([i]) for i in range(256)}
+    for keys in (KEYS, one, many):
+        text = b"".join(name + b":" + key.hex().encode() + b"\n" for name, key in keys.items())
+        for wrong, right in wrong_lists(starts_of(text)):
+            s.set_table(text, keys)
+            s.set_list(*wrong)
+            at(s, 1, HIDE)  # a hello needs no list
+            for m in (exchange(b"gate7"), exchange(b"gate7"), exchange(b"nobody"), message(16, b"\0")):
+                s.message(m)
+            s.set_list(*right)
+            s.message(exchange(b"gate7"), 0)
+            s.set_list(*wrong)  # nor do a change of cipher and a Finished
+            s.change()
+            s.message(s.finished())
+            s.message(exchange(b"gate7"))  # R4 comes before R10
+    s.set_table(TABLE, KEYS)
+    for m in (b"\x10\0\0\x01", b"\x10\0", message(20, bytes(12)), hello(drawn("client"))):  # and so do the tests on the header
+        at(s, 1)
+        s.set_list(2, 0, 0)
+        s.message(m)
+        s.message(exchange(b"gate7"))
+    for rule in (NOTHING, TELL, HIDE):  # an unlisted identity, told or hidden, comes after R10
+        s.set_table(TABLE, KEYS)
+        at(s, 1, rule)
+        s.set_list(3, 2, 0)
+        s.message(exchange(b"nobody"))
+        s.set_table(TABLE, KEYS)
+        s.message(exchange(b"nobody"))
+    for bad in (TABLE[:-1], b"\n", TABLE + b"gate7:00\n", b"gate7:abc\n"):  # table and list both bad: R2; then one of them, then none
+        for wrong, right in (((2, 0, 0), (3, 0, 0)), ((4, 3, len(TABLE)), (3, 0, 0)), ((LIST + 1, 0, 0), (3, 0, 0)), ((3, 0, 1), (3, 0, 0))):
+            at(s, 1)
+            s.set_table(bad, {}, good=False)
+            s.set_list(*wrong)
+            s.message(exchange(b"gate7"))
+            s.set_list(*right)
+            s.message(exchange(b"gate7"))
+            s.set_table(TABLE, KEYS)
+            s.set_list(*wrong)
+            s.message(exchange(b"gate7"))
+            s.set_list(*right)
+            s.message(exchange(b"gate7"))
+            s.change()
+            s.message(s.finished())
+    at(s, 1)
+    s.set_table(TABLE, KEYS)
+    s.set_list(3, 1, starts_of(TABLE)[2])  # two numbers exchanged, in two calls
+    s.set_list(3, 2, starts_of(TABLE)[1])
+    s.message(exchange(b"gate7"))
+    at(s, 1)
+    s.set_table(b"", {})  # a table of no bytes has no starts, whatever stands in the memory
+    s.set_list(1, 0, 0)
+    s.message(exchange(b"gate7"))
+    s.set_list(0, 0, 7)
+    s.message(exchange(b"gate7"))
+    s.change()
+    s.message(s.finished())
+    s.set_table(TABLE, KEYS)
+
+
 def alerts(s):
     for place in range(4):
         for level, description in ((1, 90), (1, 255), (1, 0), (2, 40), (2, 0), (0, 0), (3, 90), (255, 255)):
@@ -473,7 +576,7 @@ def series(s, count):
 
 def script():
     s = Script(Server())
-    for part in (handshakes, unlisted, settings, headers, hellos, rooms, tables, alerts, replays):
+    for part in (handshakes, unlisted, settings, headers, hellos, rooms, tables, lists, alerts, replays):
         part(s)
     series(s, 200)
     return s

@@ -1,6 +1,6 @@
 /*
  * A first program over the installed library, valid as C and as C++: document 01's worked bytes (V1 to V12) through the C interface, edits of its key
- * table, a session on a record connection, and the way that the three kinds of results are told apart. Run by tests/installed.
+ * table and the list beside it, a session on a record connection, and the way that the three kinds of results are told apart. Run by tests/installed.
  */
 #include <stdio.h>
 #include <stdlib.h>
@@ -66,36 +66,87 @@ static void messages(void)
     expect("V8", wrote(tn_write_new_session_ticket(3600, bytes("\xAA\xBB"), 2, out, sizeof out), out, "\x04\x00\x00\x08\x00\x00\x0E\x10\x00\x02\xAA\xBB", 12));
 }
 
+/* The list of V9's table: one line, which starts at 0. */
+static const uint32_t first[1] = {0};
+
 static void table(void)
 {
     uint8_t out[8];
     const uint8_t *text = bytes("gate7:abcd\n");
+    const int32_t unlisted = TN_ALERT_RESULT(TN_ALERT_UNKNOWN_PSK_IDENTITY);
     memset(out, 0xEE, sizeof out);
-    expect("V9", tn_table_test(text, 11) == 0 && wrote(tn_table_lookup(text, 11, bytes("gate7"), 5, out, sizeof out), out, "\xAB\xCD", 2));
-    expect("V9, not listed", tn_table_lookup(text, 11, bytes("gate"), 4, out, sizeof out) == TN_ALERT_RESULT(TN_ALERT_UNKNOWN_PSK_IDENTITY)
-                                 && tn_table_lookup(text, 11, bytes("gate71"), 6, out, sizeof out) == TN_ALERT_RESULT(TN_ALERT_UNKNOWN_PSK_IDENTITY));
+    expect("V9", tn_table_test(text, 11) == 0 && wrote(tn_table_lookup(text, 11, first, 1, 1, bytes("gate7"), 5, out, sizeof out), out, "\xAB\xCD", 2));
+    expect("V9, not listed", tn_table_lookup(text, 11, first, 1, 1, bytes("gate"), 4, out, sizeof out) == unlisted
+                                 && tn_table_lookup(text, 11, first, 1, 1, bytes("gate71"), 6, out, sizeof out) == unlisted);
     expect("V10", tn_table_test(text, 10) == TN_R2 && tn_table_test(bytes("gate7:abc\n"), 10) == TN_R2);
     expect("V11", tn_valid_utf8(bytes("\xC0\x80"), 2) == 0 && tn_valid_utf8(bytes("\xED\xA0\x80"), 3) == 0 && tn_valid_utf8(bytes("\xF4\x90\x80\x80"), 4) == 0
                       && tn_valid_utf8(bytes("\xF4\x8F\xBF\xBF"), 4) == 1);
 }
 
+/* The header's example of a list, and lookups by it. */
+static void list(void)
+{
+    uint8_t out[8];
+    uint32_t starts[3] = {7, 7, 7};
+    const uint8_t *text = bytes("a:00\ngate7:abcd\n"), *name = bytes("gate7");
+    memset(out, 0xEE, sizeof out);
+    expect("a list, R2", tn_table_list(text, 15, starts, 0) == TN_R2);
+    expect("a list, R1", tn_table_list(text, 16, starts, 1) == TN_R1 && starts[0] == 7);
+    expect("a list", tn_table_list(text, 16, starts, 3) == 2 && starts[0] == 0 && starts[1] == 5 && starts[2] == 7);
+    expect("the list of no lines", tn_table_list(text, 0, starts, 0) == 0);
+    expect("lookup, R10", tn_table_lookup(text, 16, starts, 3, 4, name, 5, out, sizeof out) == TN_R10 && out[0] == 0xEE);
+    expect("lookup by one start", tn_table_lookup(text, 16, starts, 3, 1, name, 5, out, sizeof out) == TN_ALERT_RESULT(TN_ALERT_UNKNOWN_PSK_IDENTITY));
+    expect("lookup, R1", tn_table_lookup(text, 16, starts, 3, 2, name, 5, out, 1) == TN_R1);
+    expect("lookup by both", wrote(tn_table_lookup(text, 16, starts, 3, 2, name, 5, out, sizeof out), out, "\xAB\xCD", 2));
+}
+
+/* V9's table, and a list of it in memory for two numbers. */
+struct edited {
+    uint8_t memory[32];
+    uint32_t starts[2];
+    size_t count;
+};
+
+static int32_t add_gate8(struct edited *e, size_t memory_len, size_t length, size_t starts_len)
+{
+    return tn_table_add(e->memory, memory_len, length, e->starts, starts_len, &e->count, bytes("gate8"), 5, bytes("\xAB\xCD"), 2);
+}
+
+static int32_t replace(struct edited *e, size_t length, const char *name, const char *key, size_t key_len)
+{
+    return tn_table_replace(e->memory, sizeof e->memory, length, e->starts, 2, &e->count, bytes(name), 5, bytes(key), key_len);
+}
+
+static int32_t retire(struct edited *e, size_t length, const char *name)
+{
+    return tn_table_retire(e->memory, sizeof e->memory, length, e->starts, 2, &e->count, bytes(name), 5);
+}
+
+static bool listed(const struct edited *e, size_t count, uint32_t one, uint32_t two)
+{
+    return e->count == count && e->starts[0] == one && e->starts[1] == two;
+}
+
 /* V9's table with a second gate and without it again. */
 static void edits(void)
 {
-    uint8_t memory[32];
-    memset(memory, 0xEE, sizeof memory);
-    memcpy(memory, "gate7:abcd\n", 11);
-    expect("add, R1", tn_table_add(memory, 21, 11, bytes("gate8"), 5, bytes("\xAB\xCD"), 2) == TN_R1);
-    expect("add", wrote(tn_table_add(memory, sizeof memory, 11, bytes("gate8"), 5, bytes("\xAB\xCD"), 2), memory, "gate7:abcd\ngate8:abcd\n", 22));
-    expect("add, R6", tn_table_add(memory, sizeof memory, 22, bytes("gate8"), 5, bytes("\xAB\xCD"), 2) == TN_R6);
-    expect("replace", wrote(tn_table_replace(memory, sizeof memory, 22, bytes("gate7"), 5, bytes("\x0A\x1B\x2C"), 3), memory,
-                            "gate7:0a1b2c\ngate8:abcd\n", 24));
-    expect("replace, R7", tn_table_replace(memory, sizeof memory, 24, bytes("gate9"), 5, bytes("\xAB\xCD"), 2) == TN_R7);
-    expect("the table again", tn_table_replace(memory, sizeof memory, 24, bytes("gate7"), 5, bytes("\xAB\xCD"), 2) == 22
-                                  && tn_table_retire(memory, sizeof memory, 22, bytes("gate8"), 5) == 11);
-    expect("what stays behind it", memcmp(memory, "gate7:abcd\ngate8:abcd\nd\n", 24) == 0 && memory[24] == 0xEE);
-    expect("retire, R2", tn_table_retire(memory, sizeof memory, 10, bytes("gate7"), 5) == TN_R2);
-    expect("retire, R5", tn_table_retire(memory, sizeof memory, 11, bytes("gate:"), 5) == TN_R5);
+    struct edited e;
+    memset(&e, 0xEE, sizeof e);
+    memcpy(e.memory, "gate7:abcd\n", 11);
+    e.starts[0] = 0;
+    e.starts[1] = 99;
+    e.count = 1;
+    expect("add, R1", add_gate8(&e, 21, 11, 2) == TN_R1 && add_gate8(&e, sizeof e.memory, 11, 1) == TN_R1 && listed(&e, 1, 0, 99));
+    expect("add", wrote(add_gate8(&e, sizeof e.memory, 11, 2), e.memory, "gate7:abcd\ngate8:abcd\n", 22) && listed(&e, 2, 0, 11));
+    expect("add, R6", add_gate8(&e, sizeof e.memory, 22, 2) == TN_R6);
+    expect("replace", wrote(replace(&e, 22, "gate7", "\x0A\x1B\x2C", 3), e.memory, "gate7:0a1b2c\ngate8:abcd\n", 24) && listed(&e, 2, 0, 13));
+    expect("replace, R7", replace(&e, 24, "gate9", "\xAB\xCD", 2) == TN_R7);
+    expect("the table again", replace(&e, 24, "gate7", "\xAB\xCD", 2) == 22 && listed(&e, 2, 0, 11) && retire(&e, 22, "gate8") == 11);
+    expect("what stays behind it", memcmp(e.memory, "gate7:abcd\ngate8:abcd\nd\n", 24) == 0 && e.memory[24] == 0xEE && listed(&e, 1, 0, 11));
+    expect("retire, R2", retire(&e, 10, "gate7") == TN_R2);
+    expect("retire, R5", retire(&e, 11, "gate:") == TN_R5);
+    e.starts[0] = 1;
+    expect("retire, R10", retire(&e, 11, "gate:") == TN_R10 && tn_is_host_refusal(TN_R10) && !tn_is_alert(TN_R10));
 }
 
 /* V7 and V12: the smallest ClientHello of a version, and the server's answer to it. */
@@ -109,7 +160,7 @@ static int32_t hello(uint32_t version, uint8_t *answer)
     expect("phase 1", tn_phase(connection) == TN_PHASE_CLIENT_HELLO);
     expect("no suite yet", tn_suite(connection) == 0);
     expect("another rule is R3", tn_start(connection, random, sizeof random, random, 0, random, sizeof random, 3) == TN_R3);
-    int32_t result = tn_message(connection, bytes(""), 0, message, sizeof message, answer, TN_FLIGHT_SIZE, master);
+    int32_t result = tn_message(connection, bytes(""), 0, first, 0, 0, message, sizeof message, answer, TN_FLIGHT_SIZE, master);
     expect("phase 2 or closed", tn_phase(connection) == (tn_is_count(result) ? TN_PHASE_CLIENT_KEY_EXCHANGE : TN_PHASE_CLOSED));
     expect("the suite told", tn_suite(connection) == (tn_is_count(result) ? TN_SUITE_PSK_NULL_SHA256 : 0));
     expect("a change of cipher here", tn_change_of_cipher(connection) == (tn_is_count(result) ? TN_ALERT_RESULT(TN_ALERT_UNEXPECTED_MESSAGE) : TN_R4));
@@ -141,9 +192,16 @@ static void add(struct session *s, const uint8_t *message, size_t n)
     s->transcript_len += n;
 }
 
+/* With so many of the list's one number. */
+static int32_t take_by(struct session *s, size_t count, const uint8_t *record, int32_t n)
+{
+    return tn_take_record(s->connection, bytes("gate7:abcd\n"), 11, first, 1, count, record, (size_t)n, s->memory, sizeof s->memory, s->out, sizeof s->out,
+                          s->master, s->told);
+}
+
 static int32_t take(struct session *s, const uint8_t *record, int32_t n)
 {
-    return tn_take_record(s->connection, bytes("gate7:abcd\n"), 11, record, (size_t)n, s->memory, sizeof s->memory, s->out, sizeof s->out, s->master, s->told);
+    return take_by(s, 1, record, n);
 }
 
 static int32_t take_plain(struct session *s, uint8_t kind, const uint8_t *content, size_t n)
@@ -161,7 +219,7 @@ static int32_t take_sealed(struct session *s, uint8_t kind, const uint8_t *conte
 /* Hello, key exchange in two records, change of cipher and Finished. */
 static void record_login(struct session *s)
 {
-    uint8_t random[TN_RANDOM_SIZE] = {1}, message[48], hash[TN_HASH_SIZE], value[TN_VERIFY_DATA_SIZE];
+    uint8_t random[TN_RANDOM_SIZE] = {1}, message[48], record[16], hash[TN_HASH_SIZE], value[TN_VERIFY_DATA_SIZE];
     uint32_t fields[3];
     expect("a record connection", tn_record_start(s->connection, random, sizeof random, random, 0, random, sizeof random, TN_RULE_HIDE) == 0
                                       && tn_record_phase(s->connection) == TN_PHASE_CLIENT_HELLO);
@@ -175,6 +233,7 @@ static void record_login(struct session *s)
     tn_write_client_key_exchange(bytes("gate7"), 5, message, sizeof message);
     add(s, message, 11);
     expect("a part of a message", take_plain(s, TN_TYPE_HANDSHAKE, message, 6) == 0 && s->told[0] == 0 && memcmp(s->memory, message, 6) == 0);
+    expect("the rest of it, R10", take_by(s, 0, record, tn_write_record(TN_TYPE_HANDSHAKE, message + 6, 5, record, sizeof record)) == TN_R10);
     expect("the rest of it", take_plain(s, TN_TYPE_HANDSHAKE, message + 6, 5) == 0 && s->told[0] == 1);
     tn_key_block(s->master, sizeof s->master, random, sizeof random, random, sizeof random, TN_SUITE_PSK_NULL_SHA256, s->keys, sizeof s->keys);
     expect("data too soon", tn_send_data(s->connection, bytes("cow"), 3, s->out, sizeof s->out) == TN_R5);
@@ -209,6 +268,7 @@ int main(void)
     tn_clear_stack(TN_STACK_LIMIT);
     messages();
     table();
+    list();
     edits();
     tn_clear_stack(TN_STACK_LIMIT);
     expect("V12, 0x0302", hello(0x0302, answer) == TN_ALERT_RESULT(TN_ALERT_PROTOCOL_VERSION));

@@ -5,13 +5,13 @@
 
 The record layer follows RFC 5246, section 6, and document 02's P5 over the server of tests/handshakes.py; neither shares
 anything with the library. Whole sessions come first, however their bytes are cut into records, then each refusal of P5's
-list at each place, then a session that OpenSSL's client had (tests/recorded/openssl-null-records.txt), and series drawn
-from a fixed seed.
+list at each place, tables that are not well formed and lists of line starts that are not the table's (P6), then a session
+that OpenSSL's client had (tests/recorded/openssl-null-records.txt), and series drawn from a fixed seed.
 """
 import copy, hashlib, os
 
 from handshakes import HIDE, KEYS, NOTHING, STAND_IN, TABLE, TELL, Calls, Refuse, Server
-from handshakes import drawn, exchange, hello, mac, master_secret, message, prf, vector, verify_data
+from handshakes import drawn, exchange, hello, mac, master_secret, message, prf, starts_of, vector, verify_data, wrong_lists
 
 CHANGE, ALERT, HANDSHAKE, DATA = 20, 21, 22, 23
 LIMIT = 16384
@@ -78,12 +78,12 @@ class RecordServer:
             self.close(self.writing.seal(ALERT, bytes([2, int(said[6:])])))
         return said, b"", b"", None
 
-    def take(self, record, room, table, good):
+    def take(self, record, room, table, good, matches=True):
         """What is said, the answer, the master secret handed over, application data."""
         if self.server.awaits == "closed":
             return "R4", b"", b"", None
         try:
-            done = self.judge(record, table, good)
+            done = self.judge(record, table, good, matches)
             if len(done["answer"]) > room:
                 raise Refuse("R1")
         except Refuse as refusal:
@@ -95,7 +95,7 @@ class RecordServer:
             self.memory = self.held + self.memory[len(self.held):]
         return "wrote %d" % len(done["answer"]), done["answer"], done["master"], done["data"]
 
-    def judge(self, record, table, good):
+    def judge(self, record, table, good, matches):
         kind, content = self.reading.open(record)
         if self.reading.key is not None and self.reading.number == 0 and not self.server.listed:
             raise Refuse("alert 51")
@@ -108,7 +108,7 @@ class RecordServer:
                 "keys": self.keys, "answer": b"", "master": b"", "data": content if kind == DATA else None}
         done["reading"].number += 1
         if kind == HANDSHAKE:
-            self.handshake(done, content, table, good)
+            self.handshake(done, content, table, good, matches)
         elif kind == CHANGE:
             said = done["server"].change()
             if said != "wrote 0":
@@ -120,7 +120,7 @@ class RecordServer:
             done["over"] = content[0] == 2 or content[1] == 0
         return done
 
-    def handshake(self, done, content, table, good):
+    def handshake(self, done, content, table, good, matches):
         stream, server = self.held + content, done["server"]
         while True:
             if server.awaits == "complete" and stream:
@@ -134,7 +134,7 @@ class RecordServer:
                 raise Refuse("alert 50")
             if len(stream) < size:
                 break
-            flight, after, master = server.step(stream[:size], table, good)
+            flight, after, master = server.step(stream[:size], table, good, matches)
             after()
             stream = stream[size:]
             if master:
@@ -184,7 +184,7 @@ class Script(Calls):
 
     def take(self, record, room=72):
         self.calls.append(bytes([3, room]) + vector(3, record))
-        said, answer, master, data = self.server.take(record, room, self.table, self.good)
+        said, answer, master, data = self.server.take(record, room, self.table, self.good, self.matches())
         more = [shown(self.server.memory)]
         more += ["data " + shown(data)] if data is not None else []
         more += ["master " + master.hex()] if master else []
@@ -480,6 +480,55 @@ def tables(s):
     s.set_table(TABLE, KEYS)
 
 
+def lists(s):
+    own = starts_of(TABLE)
+    for i, (wrong, right) in enumerate(wrong_lists(own)):
+        s.set_table(TABLE, KEYS)
+        for rest in (0, 1, 5):  # R10 leaves the hello of its record, and the part of the message before
+            c = Client(s, "wrong list %d, %d" % (i, rest), rule=HIDE)
+            both = c.hello() + c.exchange()
+            s.set_list(*wrong)
+            if rest:
+                c.take(HANDSHAKE, both[:len(both) - rest])
+            for room in (72, 0):
+                c.take(HANDSHAKE, both[len(both) - rest:] if rest else both, room=room)
+            s.set_list(*right)
+            c.take(HANDSHAKE, both[len(both) - rest:] if rest else both)
+            s.set_list(*wrong)  # nothing but a key exchange needs it
+            c.change()
+            c.take(HANDSHAKE, c.finished())
+            c.take(DATA, b"cow 212\n")
+            s.send(b"enrolled cow 212\n")
+    for m in (exchange(b"nobody"), b"\x10\0\0\x01\0", exchange(b"gate7") + b"\x14\0\0\0"):  # R10 comes before the body's tests and later messages
+        for rule in (TELL, HIDE):
+            s.set_table(TABLE, KEYS)
+            c = Client(s, "wrong list, others", rule=rule).until(1)
+            s.set_list(2, 0, 0)
+            c.take(HANDSHAKE, m)
+            s.set_list(3, 0, 0)
+            c.take(HANDSHAKE, m)
+            ends(s)
+    for m in (b"\x14\0\0\x0c", b"\x10\xff\xff\xff", b"\x01\0\0\0"):  # what is judged of a header comes before it
+        s.set_table(TABLE, KEYS)
+        c = Client(s, "wrong list, header").until(1)
+        s.set_list(4, 3, len(TABLE))
+        c.take(HANDSHAKE, m)
+        ends(s)
+    for wrong, right in (((2, 0, 0), (3, 0, 0)), ((3, 1, 1), (3, 1, own[1])), ((0xFFFFFF, 0, 0), (3, 0, 0))):  # table and list both bad: R2
+        c = Client(s, "both bad").until(1)
+        s.set_table(TABLE[:-1], {}, good=False)
+        s.set_list(*wrong)
+        c.take(HANDSHAKE, c.exchange())
+        s.set_table(TABLE, KEYS)
+        s.set_list(*wrong)
+        c.take(HANDSHAKE, c.exchange())
+        s.set_list(*right)
+        c.take(HANDSHAKE, c.exchange())
+        c.change()
+        c.take(HANDSHAKE, c.finished())
+    s.set_table(TABLE, KEYS)
+
+
 def recorded(s):
     """A session of `openssl s_client` with TLS_PSK_WITH_NULL_SHA256: settings, then its records as they came."""
     fields = dict(line.split(" ", 1) for line in open(RECORDED, encoding="ascii").read().splitlines() if not line.startswith(("#", "record ")))
@@ -527,7 +576,7 @@ def series(s, count):
 
 def script():
     s = Script(RecordServer())
-    for part in (sessions, cuttings, early, bad_records, long_records, macs, rooms, tables, recorded):
+    for part in (sessions, cuttings, early, bad_records, long_records, macs, rooms, tables, lists, recorded):
         part(s)
     series(s, 120)
     return s

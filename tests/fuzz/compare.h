@@ -18,6 +18,11 @@ struct bytes drawn_hello(struct hello *h, bool of_client);    /* fields and the 
 struct bytes drawn_login(void);                               /* mostly a hello that the server accepts */
 struct bytes drawn_table(size_t slot);
 struct bytes drawn_identity(size_t slot, struct bytes table); /* mostly one that the table has */
+struct starts starts_in(struct bytes text, size_t more);      /* of its lines, in memory for so many numbers more */
+void damage_list(struct starts *l, size_t size);              /* of a table of so many bytes, in one of several ways; now and then it stays its list */
+struct keys keys_of(struct bytes text);                       /* with its own list */
+struct keys drawn_keys(size_t slot);                          /* mostly with its own list */
+const struct keys *keys_of_call(const struct keys *own);      /* mostly these, until it is called again */
 size_t key_in_line(size_t size);                              /* how long a key may be in a line of 8 to 258 bytes, its 0A among them */
 struct bytes damaged(struct bytes b);                         /* a copy, changed in a few places; its length may be another */
 struct bytes copied(size_t slot, struct bytes b);
@@ -40,23 +45,24 @@ struct bytes full_table(size_t slot, size_t lines, size_t size, size_t odd, size
 
 void compare_readers(struct bytes message);
 void compare_extensions(struct bytes block);
-void compare_table(struct bytes table, struct bytes identity);
+void compare_table(const struct keys *keys, struct bytes identity);
 void compare_utf8(struct bytes text);
 void compare_record(const uint8_t key[32], uint64_t number, struct bytes record); /* read with and without protection, and opened */
 
-/* ---- a table in memory, and its edits */
+/* ---- a table and its list in memory, and edits of them */
 
 #define MEMORY_LIMIT 70000
 
 struct memory {
     uint8_t bytes[MEMORY_LIMIT];
     size_t n, length; /* the table is the first `length` bytes; a length past the memory may be given too */
+    struct starts list;
 };
 
-/* The text in memory of n bytes, as much of it as has room there, with drawn bytes behind it; the table is the whole text. */
-void memory_set(struct memory *m, struct bytes text, size_t n);
+/* The text in memory of n bytes, as much of it as has room there, with drawn bytes behind it; the table is the whole text, and the list is this one. */
+void memory_set(struct memory *m, struct bytes text, size_t n, const struct starts *list);
 
-/* One edit, compared; the memory is as the call left it, and what the call gave comes back. */
+/* One edit, compared; memory and list are as the call left them, and what the call gave comes back. */
 int32_t memory_edit(struct memory *m, enum edit kind, struct bytes identity, struct bytes key);
 
 /* ---- a connection and its model */
@@ -67,12 +73,12 @@ struct pair {
 };
 
 void pair_start(struct pair *p, struct bytes random, struct bytes hint, struct bytes stand_in, uint8_t rule);
-void pair_message(struct pair *p, struct bytes table, struct bytes message, size_t room);
+void pair_message(struct pair *p, const struct keys *keys, struct bytes message, size_t room);
 void pair_change(struct pair *p);
 void pair_alert(struct pair *p, uint8_t level, uint8_t description);
 
 /* Bytes of any kind as a connection: one call of each kind, of which no more is known than the header says. */
-void probe(const uint8_t connection[TN_CONNECTION_SIZE], struct bytes table, struct bytes message, size_t room);
+void probe(const uint8_t connection[TN_CONNECTION_SIZE], const struct keys *keys, struct bytes message, size_t room);
 
 /* ---- what a call tells of a connection, and leaves in one, of either kind: a record connection begins with one of the server's */
 
@@ -88,16 +94,17 @@ struct record_pair {
 };
 
 void record_start(struct record_pair *p, struct settings s);
-void record_take(struct record_pair *p, struct bytes table, struct bytes record, size_t memory, size_t room); /* memory for what is held at least */
+void record_take(struct record_pair *p, const struct keys *keys, struct bytes record, size_t memory, size_t room); /* memory for what is held at least */
 void record_send(struct record_pair *p, struct bytes content, size_t room);
 void record_close(struct record_pair *p, size_t room);
 void record_renumber(struct record_pair *p, bool sending, uint64_t number); /* as if so many records had been sent or taken */
 
 /* Bytes of any kind as a record connection, and any memory: as `probe`. */
-void record_probe(const uint8_t connection[TN_RECORD_CONNECTION_SIZE], struct bytes table, struct bytes record, struct bytes memory, size_t room);
+void record_probe(const uint8_t connection[TN_RECORD_CONNECTION_SIZE], const struct keys *keys, struct bytes record, struct bytes memory, size_t room);
 
 /* The same with another byte for a `protected`, and with another count of held bytes. */
-void record_probe_unwritten(const uint8_t connection[TN_RECORD_CONNECTION_SIZE], struct bytes table, struct bytes record, struct bytes memory, size_t room);
+void record_probe_unwritten(const uint8_t connection[TN_RECORD_CONNECTION_SIZE], const struct keys *keys, struct bytes record, struct bytes memory,
+                            size_t room);
 
 /* ---- one round of drawn calls each */
 
@@ -114,6 +121,7 @@ void every_suite(void);
 void every_character(void);
 void every_odd_table(void);
 void every_edit(void);
+void every_list(void);
 void every_alert(void);
 void every_bit(void);
 void every_content(void);

@@ -332,5 +332,65 @@ struct bytes drawn_identity(size_t slot, struct bytes table)
         b.n--;
     else if (once_in(10))
         slots[slot][b.n++] = ':';
+    else if (once_in(20) && n > 0)
+        b = (struct bytes){b.at + 1, b.n - 1}; /* what stands one place behind a line's start */
     return b;
+}
+
+/* ---- lists of line starts */
+
+struct starts starts_in(struct bytes text, size_t more)
+{
+    struct starts l = {.n = 0};
+    for (size_t i = 0; i < text.n && l.count < STARTS_LIMIT; i++)
+        if (i == 0 || text.at[i - 1] == '\n')
+            l.at[l.count++] = (uint32_t)i;
+    l.n = l.count + more < STARTS_LIMIT ? l.count + more : STARTS_LIMIT;
+    for (size_t i = l.count; i < l.n; i++)
+        l.at[i] = (uint32_t)(i == l.count ? text.n : draw()); /* what would be the next line's, and anything */
+    return l;
+}
+
+void damage_list(struct starts *l, size_t size)
+{
+    size_t i = l->count > 0 ? below(l->count) : 0;
+    switch (l->count == 0 || l->count > l->n ? between(6, 9) : below(10)) {
+    case 0: l->at[i] += once_in(2) ? 1 : UINT32_MAX; break;
+    case 1: l->at[i] ^= 1u << below(32); break;
+    case 2: l->at[i] = (uint32_t)(once_in(2) ? below(size + 3) : draw()); break;
+    case 3: l->at[i] = l->at[below(l->count)]; break; /* another line's */
+    case 4: l->count = once_in(2) ? l->count - 1 : i; break; /* the first lines alone */
+    case 5: /* a line left out */
+        memmove(l->at + i, l->at + i + 1, (l->count - i - 1) * sizeof l->at[0]);
+        l->count--;
+        break;
+    case 6: l->count++; break;
+    case 7: l->n = below(l->n + 1); break;
+    case 8: l->count = once_in(2) ? SIZE_MAX - below(3) : l->n + between(1, 70000); break;
+    default:
+        for (size_t k = 0; k < l->n; k++)
+            l->at[k] = (uint32_t)(once_in(8) ? draw() : below(size + 3));
+    }
+}
+
+struct keys keys_of(struct bytes text)
+{
+    return (struct keys){text, starts_in(text, once_in(3) ? below(20) : 0)};
+}
+
+struct keys drawn_keys(size_t slot)
+{
+    struct keys k = keys_of(drawn_table(slot));
+    if (once_in(10))
+        damage_list(&k.list, k.text.n);
+    return k;
+}
+
+const struct keys *keys_of_call(const struct keys *own)
+{
+    static struct keys k;
+    k = once_in(20) ? drawn_keys(5) : *own;
+    if (once_in(10))
+        damage_list(&k.list, k.text.n);
+    return &k;
 }

@@ -188,6 +188,16 @@ struct lent *lend(struct bytes contents)
     return l;
 }
 
+struct lent *lend_numbers(const uint32_t *numbers, size_t n)
+{
+    return lend((struct bytes){(const uint8_t *)numbers, n * sizeof *numbers});
+}
+
+uint32_t *numbers_of(const struct lent *l)
+{
+    return (uint32_t *)(void *)l->bytes; /* both ends of a piece lie at a page's edge, and it has whole numbers */
+}
+
 struct lent *lend_room(size_t n)
 {
     struct lent *l = piece(n);

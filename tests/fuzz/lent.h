@@ -48,6 +48,8 @@ struct lent {
 
 void begin(const char *call);                                 /* nothing is lent yet */
 struct lent *lend(struct bytes contents);
+struct lent *lend_numbers(const uint32_t *numbers, size_t n); /* of numbers, for `numbers_of` */
+uint32_t *numbers_of(const struct lent *l);
 struct lent *lend_room(size_t n);                             /* of drawn bytes, for an answer */
 void becomes(struct lent *l, const uint8_t *now, size_t n);   /* the call is to leave these at the front */
 void finish(void);                                            /* all that was lent is as it was, or what it was to become */

@@ -22,7 +22,7 @@ static const struct {
 } expected[] = {
     {"tn_start", {0, TN_R3, 99}},
     {"tn_message", {0, 16, 46, 2, TN_R1, TN_R2, TN_R4, ALERT(10), ALERT(50), ALERT(51), ALERT(115), 99}},
-    {"tn_message", {ALERT(40), ALERT(47), ALERT(70), 99}},
+    {"tn_message", {TN_R10, ALERT(40), ALERT(47), ALERT(70), 99}},
     {"tn_change_of_cipher", {0, TN_R4, ALERT(10), 99}},
     {"tn_alert", {0, TN_R4, ALERT(47), 99}},
     {"tn_phase", {0, 1, 2, 99}},
@@ -53,14 +53,15 @@ static const struct {
     {"tn_read_new_session_ticket", {0, ALERT(50), 99}},
     {"tn_next_extension", {0, 1, ALERT(50), 99}},
     {"tn_table_test", {0, TN_R2, 99}},
-    {"tn_table_lookup", {1, 2, TN_R1, ALERT(115), 99}},
-    {"tn_table_add", {2, TN_R1, TN_R2, TN_R5, TN_R6, TN_R8, 99}},
-    {"tn_table_replace", {2, TN_R1, TN_R2, TN_R5, TN_R7, TN_R8, 99}},
-    {"tn_table_retire", {0, 2, TN_R2, TN_R5, TN_R7, 99}},
+    {"tn_table_list", {0, 1, 2, TN_R1, TN_R2, 99}},
+    {"tn_table_lookup", {1, 2, TN_R1, TN_R10, ALERT(115), 99}},
+    {"tn_table_add", {2, TN_R1, TN_R2, TN_R5, TN_R6, TN_R8, TN_R10, 99}},
+    {"tn_table_replace", {2, TN_R1, TN_R2, TN_R5, TN_R7, TN_R8, TN_R10, 99}},
+    {"tn_table_retire", {0, 2, TN_R2, TN_R5, TN_R7, TN_R10, 99}},
     {"tn_valid_utf8", {0, 1, 99}},
     {"tn_record_start", {0, TN_R3, 99}},
     {"tn_take_record", {0, 2, TN_R1, TN_R2, TN_R4, TN_R9, ALERT(10), ALERT(20), ALERT(22), ALERT(40), ALERT(47), 99}},
-    {"tn_take_record", {ALERT(50), ALERT(51), ALERT(70), ALERT(115), 99}},
+    {"tn_take_record", {TN_R10, ALERT(50), ALERT(51), ALERT(70), ALERT(115), 99}},
     {"tn_send_data", {2, TN_R1, TN_R4, TN_R5, TN_R9, 99}},
     {"tn_send_close", {2, TN_R1, TN_R4, TN_R9, 99}},
     {"tn_closing_alert", {0, 2, TN_R1, 99}},
@@ -104,6 +105,7 @@ int main(int count, char **arguments)
     every_character();
     every_odd_table();
     every_edit();
+    every_list();
     every_alert();
     every_bit();
     every_content();

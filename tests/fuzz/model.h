@@ -1,5 +1,6 @@
 /*
- * The library's functions a second time, written from document 01, the requests for the table's edits and for records and the RFCs alone, over libcrypto.
+ * The library's functions a second time, written from document 01, the requests for the table's edits, for its list and for records and the RFCs alone, over
+ * libcrypto.
  * Nothing here was taken from the library; each gives what the export of its name has to come to, the test of the room (R1) left out where it says "answer".
  */
 #ifndef MODEL_H
@@ -56,14 +57,36 @@ int32_t model_next_extension(struct bytes block, size_t at, uint32_t fields[3]);
 
 /* ---- the key table (model_table.c) */
 
+#define STARTS_LIMIT 300 /* more than a table may have lines */
+
+/* A list of line starts in memory for n numbers, of which the first `count` are the list; a count past the memory may be given too. */
+struct starts {
+    uint32_t at[STARTS_LIMIT];
+    size_t n, count;
+};
+
+/* A key table and the list that is given beside it. */
+struct keys {
+    struct bytes text;
+    struct starts list;
+};
+
 bool model_utf8(struct bytes text);
 bool model_table_test(struct bytes table);
-void model_lookup(struct bytes table, struct bytes identity, struct answer *a);
+bool model_list(struct bytes table, struct starts *list); /* the table's own, in memory for just so many numbers; false: R2 */
+int32_t model_keys(const struct keys *keys);              /* R2, R10, or 0 where the list is the table's */
+void model_lookup(const struct keys *keys, struct bytes identity, struct answer *a);
 
 enum edit { ADD, REPLACE, RETIRE };
 
-/* The edited table, of the one that is the first `length` bytes of the memory. To retire an identity takes no key: any may be given. */
-void model_edit(struct bytes memory, size_t length, enum edit kind, struct bytes identity, struct bytes key, struct answer *a);
+/* What an edit comes to: the edited table, R1 where it is the list's room, and the list's memory and count then. */
+struct edited {
+    struct answer table;
+    struct starts list;
+};
+
+/* Of the table that is the first `length` bytes of the memory. To retire an identity takes no key: any may be given. */
+void model_edit(struct bytes memory, size_t length, const struct starts *list, enum edit kind, struct bytes identity, struct bytes key, struct edited *e);
 
 /* ---- the server (model_server.c) */
 
@@ -83,7 +106,7 @@ struct server {
 };
 
 int32_t model_start(struct server *s, struct bytes random, struct bytes hint, struct bytes stand_in, uint8_t rule);
-void model_message(struct server *s, struct bytes table, struct bytes message, size_t room, struct answer *a); /* R1 included */
+void model_message(struct server *s, const struct keys *keys, struct bytes message, size_t room, struct answer *a); /* R1 included */
 int32_t model_change(struct server *s);
 int32_t model_alert(struct server *s, uint8_t level, uint8_t description);
 int32_t model_suite(const struct server *s);
@@ -130,7 +153,7 @@ struct taken {
 };
 
 int32_t model_record_start(struct record_model *m, struct bytes random, struct bytes hint, struct bytes stand_in, uint8_t rule);
-void model_take(struct record_model *m, struct bytes table, struct bytes record, size_t memory, size_t room, struct taken *t); /* R1 included, as below */
+void model_take(struct record_model *m, const struct keys *keys, struct bytes record, size_t memory, size_t room, struct taken *t); /* R1 too, as below */
 void model_send(struct record_model *m, struct bytes content, size_t room, struct answer *a);
 void model_close(struct record_model *m, size_t room, struct answer *a);
 void model_closing_alert(const struct record_model *m, struct answer *a); /* R1 left out */

@@ -211,7 +211,7 @@ static int32_t early(const struct record_model *m, const uint8_t header[4])
 }
 
 /* The first message of the bytes: how many they are, 0 where more has to come, or a refusal. */
-static int32_t take_message(struct record_model *m, struct bytes table, struct bytes bytes, struct taken *t)
+static int32_t take_message(struct record_model *m, const struct keys *keys, struct bytes bytes, struct taken *t)
 {
     static struct answer flight;
     if (complete(m) && bytes.n > 0)
@@ -221,7 +221,7 @@ static int32_t take_message(struct record_model *m, struct bytes table, struct b
     int32_t refusal = early(m, bytes.at), end = model_message_end(bytes.at);
     if (refusal != 0 || (size_t)end > bytes.n)
         return refusal;
-    model_message(&m->server, table, (struct bytes){bytes.at, (size_t)end}, ANSWER_LIMIT, &flight);
+    model_message(&m->server, keys, (struct bytes){bytes.at, (size_t)end}, ANSWER_LIMIT, &flight);
     if (flight.said < 0)
         return flight.said;
     if (bytes.at[0] == 16)
@@ -230,13 +230,13 @@ static int32_t take_message(struct record_model *m, struct bytes table, struct b
     return end;
 }
 
-static int32_t take_handshake(struct record_model *m, struct bytes table, struct bytes content, struct taken *t)
+static int32_t take_handshake(struct record_model *m, const struct keys *keys, struct bytes content, struct taken *t)
 {
     static uint8_t joined[2 * CONTENT_LIMIT];
     struct bytes rest = {joined, m->held_n + content.n};
     memcpy(joined, m->held, m->held_n);
     memcpy(joined + m->held_n, content.at, content.n);
-    for (int32_t n; (n = take_message(m, table, rest, t)) != 0;) {
+    for (int32_t n; (n = take_message(m, keys, rest, t)) != 0;) {
         if (n < 0)
             return n;
         rest.at += n;
@@ -275,14 +275,14 @@ static int32_t misplaced(const struct record_model *m, uint8_t type, struct byte
     return 0;
 }
 
-static int32_t take_content(struct record_model *m, struct bytes table, uint8_t type, struct bytes content, struct taken *t)
+static int32_t take_content(struct record_model *m, const struct keys *keys, uint8_t type, struct bytes content, struct taken *t)
 {
     int32_t said = misplaced(m, type, content);
     if (said != 0)
         return said;
     count(&m->reading);
     switch (type) {
-    case HANDSHAKE: return take_handshake(m, table, content, t);
+    case HANDSHAKE: return take_handshake(m, keys, content, t);
     case CHANGE: return take_change(m);
     case ALERT: return take_alert(m, content.at[0], content.at[1]);
     default:
@@ -301,21 +301,21 @@ static int32_t opened(const struct record_model *m, struct bytes record)
     return first && (wrong || (n >= 0 && !m->server.listed)) ? TN_ALERT_RESULT(51) : n;
 }
 
-static int32_t judge(struct record_model *m, struct bytes table, struct bytes record, struct taken *t)
+static int32_t judge(struct record_model *m, const struct keys *keys, struct bytes record, struct taken *t)
 {
     int32_t n = spent(m, &m->reading);
     if (n == 0)
         n = opened(m, record);
-    return n < 0 ? n : take_content(m, table, record.at[0], (struct bytes){record.at + 5, (size_t)n}, t);
+    return n < 0 ? n : take_content(m, keys, record.at[0], (struct bytes){record.at + 5, (size_t)n}, t);
 }
 
-void model_take(struct record_model *m, struct bytes table, struct bytes record, size_t memory, size_t room, struct taken *t)
+void model_take(struct record_model *m, const struct keys *keys, struct bytes record, size_t memory, size_t room, struct taken *t)
 {
     static struct record_model next;
     next = *m;
     memset(t->told, 0, sizeof t->told);
     t->answer.said = 0;
-    int32_t refusal = judge(&next, table, record, t);
+    int32_t refusal = judge(&next, keys, record, t);
     if (refusal == 0 && ((size_t)t->answer.said > room || next.held_n > memory))
         refusal = TN_R1;
     if (refusal == 0)

@@ -98,19 +98,18 @@ static void hello_step(struct server *s, struct bytes m, size_t room, struct ans
     }
 }
 
-static void key_exchange_step(struct server *s, struct bytes table, struct bytes m, struct answer *a)
+static void key_exchange_step(struct server *s, const struct keys *keys, struct bytes m, struct answer *a)
 {
     static struct answer key, premaster;
     uint32_t f[2];
-    if (!model_table_test(table)) {
-        a->said = TN_R2;
+    a->said = model_keys(keys);
+    if (a->said != 0)
         return;
-    }
     if (!model_read_key_exchange(16, m, f)) {
         a->said = closing(s, 50);
         return;
     }
-    model_lookup(table, (struct bytes){m.at + f[0], f[1]}, &key);
+    model_lookup(keys, (struct bytes){m.at + f[0], f[1]}, &key);
     s->listed = key.said > 0;
     if (!s->listed && !s->hides) {
         a->said = closing(s, 115);
@@ -160,7 +159,7 @@ int model_awaited(const struct server *s)
     return s->phase == TN_PHASE_CLIENT_HELLO ? 1 : s->phase == TN_PHASE_CLIENT_KEY_EXCHANGE ? 16 : s->phase == TN_PHASE_FINISHED ? 20 : -1;
 }
 
-void model_message(struct server *s, struct bytes table, struct bytes m, size_t room, struct answer *a)
+void model_message(struct server *s, const struct keys *keys, struct bytes m, size_t room, struct answer *a)
 {
     if (over(s))
         a->said = TN_R4;
@@ -173,7 +172,7 @@ void model_message(struct server *s, struct bytes table, struct bytes m, size_t 
     else if (m.at[0] == 1)
         hello_step(s, m, room, a);
     else if (m.at[0] == 16)
-        key_exchange_step(s, table, m, a);
+        key_exchange_step(s, keys, m, a);
     else
         finished_step(s, m, room, a);
 }

@@ -1,4 +1,4 @@
-/* The key table a second time, written from document 01, "The key table", the grammar of RFC 3629 section 4, and the request for the edits. */
+/* The key table a second time, written from document 01, "The key table", the grammar of RFC 3629 section 4, and the requests for the edits and the list. */
 #include "model.h"
 
 #include <stdio.h>
@@ -143,13 +143,62 @@ bool model_table_test(struct bytes table)
     return take_apart(table, &list);
 }
 
-/* The first line that begins with the identity and a colon decides; bytes after the last 0A are a line too. */
-void model_lookup(struct bytes table, struct bytes identity, struct answer *a)
+/* ---- the list of line starts */
+
+/* The list of a table that was taken apart: each line has its start where its text stands. */
+static void starts_of(struct bytes table, const struct list *list, struct starts *starts)
 {
-    a->said = TN_ALERT_RESULT(115);
-    while (table.n > 0) {
-        struct bytes line;
-        take_line(&table, &line);
+    starts->n = starts->count = list->n;
+    for (size_t i = 0; i < list->n; i++)
+        starts->at[i] = (uint32_t)(list->lines[i].text.at - table.at);
+}
+
+bool model_list(struct bytes table, struct starts *starts)
+{
+    static struct list list;
+    bool formed = take_apart(table, &list);
+    if (formed)
+        starts_of(table, &list, starts);
+    return formed;
+}
+
+/* Whether a list that is given is this one. */
+static bool same_list(const struct starts *given, const struct starts *own)
+{
+    return given->count <= given->n && given->count == own->count && memcmp(given->at, own->at, own->count * sizeof own->at[0]) == 0;
+}
+
+/* R2 and R10, with which everything begins that is given a table and a list; 0 and the table's lines where neither is due. */
+static int32_t unusable(struct bytes table, const struct starts *given, struct list *list)
+{
+    static struct starts own;
+    if (!take_apart(table, list))
+        return TN_R2;
+    starts_of(table, list, &own);
+    return same_list(given, &own) ? 0 : TN_R10;
+}
+
+int32_t model_keys(const struct keys *keys)
+{
+    static struct list list;
+    return unusable(keys->text, &keys->list, &list);
+}
+
+/* The line that stands at a place, as far as the next 0A or the table's end; an empty one where the place is past the table. */
+static struct bytes line_at(struct bytes table, size_t at)
+{
+    struct bytes line, rest = at < table.n ? (struct bytes){table.at + at, table.n - at} : (struct bytes){table.at, 0};
+    take_line(&rest, &line);
+    return line;
+}
+
+/* The first start decides whose line begins with the identity and a colon. */
+void model_lookup(const struct keys *keys, struct bytes identity, struct answer *a)
+{
+    bool within = keys->list.count <= keys->list.n;
+    a->said = within ? TN_ALERT_RESULT(115) : TN_R10;
+    for (size_t k = 0; within && k < keys->list.count; k++) {
+        struct bytes line = line_at(keys->text, keys->list.at[k]);
         if (line.n <= identity.n || line.at[identity.n] != ':' || !same((struct bytes){line.at, identity.n}, identity))
             continue;
         struct bytes key = {line.at + identity.n + 1, line.n - identity.n - 1};
@@ -162,7 +211,7 @@ void model_lookup(struct bytes table, struct bytes identity, struct answer *a)
     }
 }
 
-/* ---- edits: the table is taken apart into its lines, one of them is put in or taken out, and a table is put together of them anew */
+/* ---- edits: the table is taken apart into its lines, one of them is put in or taken out, and table and list are put together of them anew */
 
 /* The line of an identity and a key, without its 0A. */
 static struct bytes line_of(struct bytes identity, struct bytes key)
@@ -187,36 +236,44 @@ static void change_list(struct list *list, enum edit kind, size_t place, struct 
     }
 }
 
-static void put_together(const struct list *list, struct answer *a)
+/* The table of these lines, and its list at the front of the list's memory, as far as that goes. */
+static void put_together(const struct list *list, struct edited *e)
 {
     size_t n = 0;
     for (size_t i = 0; i < list->n; i++) {
         struct bytes text = list->lines[i].text;
-        memcpy(a->bytes + n, text.at, text.n);
+        if (i < e->list.n)
+            e->list.at[i] = (uint32_t)n;
+        memcpy(e->table.bytes + n, text.at, text.n);
         n += text.n;
-        a->bytes[n++] = '\n';
+        e->table.bytes[n++] = '\n';
     }
-    a->said = (int32_t)n;
+    e->table.said = (int32_t)n;
+    e->list.count = list->n;
 }
 
-void model_edit(struct bytes memory, size_t length, enum edit kind, struct bytes identity, struct bytes key, struct answer *a)
+void model_edit(struct bytes memory, size_t length, const struct starts *given, enum edit kind, struct bytes identity, struct bytes key, struct edited *e)
 {
     static struct list list;
-    bool formed = length <= memory.n && take_apart((struct bytes){memory.at, length}, &list);
     bool bad_key = kind != RETIRE && (key.n < 1 || key.n > 64);
-    size_t place = formed ? place_of(&list, identity) : 0;
-    if (!formed) {
-        a->said = TN_R2;
-    } else if (!is_identity(identity) || bad_key) {
-        a->said = TN_R5;
+    int32_t *said = &e->table.said;
+    e->list = *given;
+    *said = length > memory.n ? TN_R2 : unusable((struct bytes){memory.at, length}, given, &list);
+    if (*said != 0)
+        return;
+    size_t place = place_of(&list, identity);
+    if (!is_identity(identity) || bad_key) {
+        *said = TN_R5;
     } else if (kind == ADD && place < list.n) {
-        a->said = TN_R6;
+        *said = TN_R6;
     } else if (kind != ADD && place == list.n) {
-        a->said = TN_R7;
+        *said = TN_R7;
     } else {
         change_list(&list, kind, place, kind == RETIRE ? identity : line_of(identity, key));
-        put_together(&list, a);
-        if (list.n > 256 || a->said > 65536)
-            a->said = TN_R8;
+        put_together(&list, e);
+        if (list.n > 256 || *said > 65536)
+            *said = TN_R8;
+        else if (list.n > given->n)
+            *said = TN_R1;
     }
 }

@@ -19,10 +19,15 @@ INCLUDES = [f"-I{HERE}", f"-I{HERE.parent.parent / 'include'}"]
 
 # the places in server.c where tn_message has just been called, on a connection and on damaged bytes
 PROBE_MADE = "    expect_result_of_message(result, room);\n    size_t written"
-MESSAGE_MADE = "m->bytes, m->n, out->bytes, out->n, master->bytes);\n    settle_connection(c, result, false);\n"
+MESSAGE_MADE = "message_lent(c, keys, m, out, master);\n    settle_connection(c, result, false);\n"
 
-# the place in table.c where an edit has just been made
-EDIT_MADE = "    settle(result, l, &wanted);\n"
+# the places in table.c where an edit has just been made, and a list
+EDIT_MADE = "    settle(result, l, &wanted.table);\n"
+LIST_MADE = "    if (said > 0 && (size_t)said > room)\n"
+
+# the places in model_table.c where an edit has had the tests of table and list, and where table and list are put together
+EDIT_BEGUN = "    if (*said != 0)\n        return;\n"
+PUT_TOGETHER = "        put_together(&list, e);\n"
 
 # the places in records.c where tn_take_record has just been called, on a connection and on bytes that no call has written
 RECORD_MADE = "out, master, numbers);\n    settle_connection(c, result, false);\n    if (taken"
@@ -49,6 +54,16 @@ def ticket_refused(name, hello, data):
     }}
     return true;
 """
+
+
+def edit_made(name, lines):
+    """A fault of what the library might do with memory that is lent to an edit."""
+    return name, "table.c", EDIT_MADE, f"    {lines}\n{EDIT_MADE}"
+
+
+def list_kept(name, lines):
+    """A fault in the list that an edit leaves."""
+    return name, "model_table.c", PUT_TOGETHER, f"{PUT_TOGETHER}        {lines}\n"
 
 
 def record_made(name, line):
@@ -118,6 +133,38 @@ PLANTED = [
      "if (!is_key(key))\n            return;",
      "if (!is_key(key))\n            continue;"),
     ("lookup of a prefix", "model_table.c", "line.n <= identity.n || line.at[identity.n] != ':' ||", "line.n <= identity.n ||"),
+    # its list
+    ("a start one too far", "model_table.c", "(list->lines[i].text.at - table.at)", "(list->lines[i].text.at - table.at + (i > 0))"),
+    ("R10 before R2", "model_table.c",
+     "    if (!take_apart(table, list))\n        return TN_R2;\n",
+     "    if (given->count > given->n)\n        return TN_R10;\n    if (!take_apart(table, list))\n        return TN_R2;\n"),
+    ("a list of the first lines alone", "model_table.c",
+     "given->count == own->count && memcmp(given->at, own->at, own->count *",
+     "given->count <= own->count && memcmp(given->at, own->at, given->count *"),
+    ("a list that goes on behind the lines", "model_table.c", "given->count == own->count &&", "given->count >= own->count &&"),
+    ("a list's last number not compared", "model_table.c",
+     "own->at, own->count * sizeof",
+     "own->at, (own->count - (own->count > 0)) * sizeof"),
+    ("a list's first number not compared", "model_table.c",
+     "memcmp(given->at, own->at, own->count * sizeof own->at[0]) == 0",
+     "(own->count == 0 || memcmp(given->at + 1, own->at + 1, (own->count - 1) * sizeof own->at[0]) == 0)"),
+    ("a list compared in 16 bits", "model_table.c",
+     "    return given->count <= given->n && given->count == own->count && memcmp(given->at, own->at, own->count * sizeof own->at[0]) == 0;\n",
+     "    bool good = given->count <= given->n && given->count == own->count;\n    for (size_t i = 0; good && i < own->count; i++)\n"
+     "        good = (uint16_t)given->at[i] == (uint16_t)own->at[i];\n    return good;\n"),
+    ("a count past the list's memory believed", "model_table.c", "given->count <= given->n && ", ""),
+    ("a count past the list's memory believed by lookup", "model_table.c", "keys->list.count <= keys->list.n;", "keys->list.count <= STARTS_LIMIT;"),
+    ("115 for a count past the list's memory", "model_table.c", "within ? TN_ALERT_RESULT(115) : TN_R10", "TN_ALERT_RESULT(115)"),
+    ("lookup by all that the list's memory has", "model_table.c", "within && k < keys->list.count;", "within && k < keys->list.n;"),
+    ("lookup without the last start", "model_table.c", "within && k < keys->list.count;", "within && k + 1 < keys->list.count;"),
+    ("lookup by the last start that matches", "model_table.c",
+     "        a->said = (int32_t)(key.n / 2);\n        return;\n",
+     "        a->said = (int32_t)(key.n / 2);\n"),
+    ("lookup over a line's end", "model_table.c",
+     "keys->list.at[k]);\n",
+     "keys->list.at[k]);\n        size_t end = keys->list.at[k] + identity.n;\n"
+     "        if (end < keys->text.n)\n            line.n = identity.n + line_at(keys->text, end).n;\n"),
+    ("a start past the table taken as its front", "model_table.c", ": (struct bytes){table.at, 0};", ": table;"),
     # edits of the table
     ("a key in upper case", "model_table.c", '"%02x"', '"%02X"'),
     ("an added line in front", "model_table.c",
@@ -133,24 +180,47 @@ PLANTED = [
     ("the line before the named one retired", "model_table.c", "for (list->n--; place", "for (list->n--, place -= place > 0; place"),
     ("the end of a retired line left behind", "model_table.c", "for (list->n--; place < list->n;", "for (list->lines[place].text.n = 0; false;"),
     ("R6 after R8", "model_table.c", "kind == ADD && place < list.n)", "kind == ADD && place < list.n && list.n < 256)"),
-    ("R1 before R8", "model_table.c", "a->said = TN_R8", "a->said = (size_t)a->said > memory.n ? TN_R1 : TN_R8"),
-    ("R5 before R2", "model_table.c", "if (!formed) {", "if (!formed && is_identity(identity) && !bad_key) {"),
+    ("R1 before R8", "model_table.c", "*said = TN_R8", "*said = (size_t)*said > memory.n ? TN_R1 : TN_R8"),
+    ("R5 before R2", "model_table.c", EDIT_BEGUN, "    if (*said == TN_R2 && (!is_identity(identity) || bad_key))\n        *said = TN_R5;\n" + EDIT_BEGUN),
     ("R6 before R5", "model_table.c", "|| bad_key) {", "|| (bad_key && !(kind == ADD && place < list.n))) {"),
     ("R7 before R5", "model_table.c", "|| bad_key) {", "|| (bad_key && !(kind == REPLACE && place == list.n))) {"),
     ("R7 for a bad identity", "model_table.c", "!is_identity(identity) ||", "(kind != RETIRE && !is_identity(identity)) ||"),
     ("257 lines after an edit", "model_table.c", "list.n > 256 ||", "list.n > 257 ||"),
     ("255 lines after an edit at most", "model_table.c", "list.n > 256 ||", "list.n > 255 ||"),
-    ("65,537 bytes after an edit", "model_table.c", "a->said > 65536)", "a->said > 65537)"),
-    ("65,535 bytes after an edit at most", "model_table.c", "a->said > 65536)", "a->said > 65535)"),
-    ("65,537 bytes after a replaced key", "model_table.c", "a->said > 65536)", "a->said > (kind == REPLACE ? 65537 : 65536))"),
+    ("65,537 bytes after an edit", "model_table.c", "*said > 65536)", "*said > 65537)"),
+    ("65,535 bytes after an edit at most", "model_table.c", "*said > 65536)", "*said > 65535)"),
+    ("65,537 bytes after a replaced key", "model_table.c", "*said > 65536)", "*said > (kind == REPLACE ? 65537 : 65536))"),
     ("a length past the memory as the memory's", "model_table.c",
-     "bool formed = length <= memory.n &&",
-     "length = length < memory.n ? length : memory.n;\n    bool formed ="),
-    ("a length one past the memory", "model_table.c", "length <= memory.n &&", "(length == memory.n + 1 ? --length : length) <= memory.n &&"),
-    ("the memory's bytes for the table's", "model_table.c", "(struct bytes){memory.at, length}, &list", "(struct bytes){memory.at, memory.n}, &list"),
+     "*said = length > memory.n ? TN_R2 : ",
+     "length = length < memory.n ? length : memory.n;\n    *said = "),
+    ("a length one past the memory", "model_table.c", "length > memory.n ? TN_R2", "(length == memory.n + 1 ? --length : length) > memory.n ? TN_R2"),
+    ("the memory's bytes for the table's", "model_table.c", "(struct bytes){memory.at, length}, given", "(struct bytes){memory.at, memory.n}, given"),
     ("a new key of 65 bytes", "model_table.c", "key.n > 64)", "key.n > 65)"),
     ("a new key of 63 bytes at most", "model_table.c", "key.n > 64)", "key.n > 63)"),
     ("a new key of no bytes", "model_table.c", "(key.n < 1 ||", "("),
+    # and of its list
+    ("R10 after R5", "model_table.c", EDIT_BEGUN, "    if (*said == TN_R10 && (!is_identity(identity) || bad_key))\n        *said = TN_R5;\n" + EDIT_BEGUN),
+    ("R10 after R6", "model_table.c",
+     EDIT_BEGUN,
+     "    if (*said == TN_R10 && kind == ADD && !bad_key && place_of(&list, identity) < list.n)\n        *said = TN_R6;\n" + EDIT_BEGUN),
+    ("R10 after R7", "model_table.c",
+     EDIT_BEGUN,
+     "    if (*said == TN_R10 && kind == RETIRE && is_identity(identity) && place_of(&list, identity) == list.n)\n        *said = TN_R7;\n" + EDIT_BEGUN),
+    ("R10 left out of an edit", "model_table.c", EDIT_BEGUN, "    *said = *said == TN_R10 ? 0 : *said;\n" + EDIT_BEGUN),
+    ("R1 for the table's memory alone", "model_table.c", "        else if (list.n > given->n)\n            *said = TN_R1;\n", ""),
+    ("R1 for a list that is just full", "model_table.c", "else if (list.n > given->n)", "else if (list.n >= given->n)"),
+    ("R1 for the list before R8", "model_table.c", "*said = TN_R8", "*said = list.n > given->n ? TN_R1 : TN_R8"),
+    list_kept("an added line's start left out", "if (kind == ADD && list.n <= given->n)\n            e->list.at[list.n - 1] = given->at[list.n - 1];"),
+    list_kept("an added line's start at its end", "if (kind == ADD)\n            e->list.at[list.n - 1] = (uint32_t)e->table.said;"),
+    list_kept("a replaced key that moves no start", "if (kind == REPLACE)\n            e->list = *given;"),
+    list_kept("a replaced key that moves its own line's start",
+              "if (kind == REPLACE && e->table.said != (int32_t)length)\n            e->list.at[place] += (uint32_t)e->table.said - (uint32_t)length;"),
+    list_kept("starts moved by a retired line without its 0A", "for (size_t i = place; kind == RETIRE && i < list.n; i++)\n            e->list.at[i]++;"),
+    list_kept("starts that a retired line does not move",
+              "for (size_t i = place; kind == RETIRE && i < list.n; i++)\n            e->list.at[i] = given->at[i + 1];"),
+    list_kept("a retired line that is counted", "if (kind == RETIRE)\n            e->list.count++;"),
+    list_kept("a count that an added line leaves", "if (kind == ADD)\n            e->list.count = given->count;"),
+    list_kept("the old last start cleared", "if (kind == RETIRE)\n            e->list.at[list.n] = 0;"),
     # server
     ("51 for an identity that is not listed", "model_server.c", "closing(s, 115)", "closing(s, 51)"),
     ("a Finished right under the stand-in key", "model_server.c", "!s->listed || memcmp", "memcmp"),
@@ -165,8 +235,22 @@ PLANTED = [
     ("TLS 1.1", "model_server.c", "f[0] < 0x0303", "f[0] < 0x0302"),
     ("40 before 47", "model_server.c", "else if (!memchr(m.at + f[4], 0, f[5]))", "else if (suite != 0 && !memchr(m.at + f[4], 0, f[5]))"),
     ("R2 after the layout", "model_server.c",
-     "if (!model_table_test(table)) {",
-     "if (model_read_key_exchange(16, m, f) && !model_table_test(table)) {"),
+     "    a->said = model_keys(keys);\n",
+     "    a->said = model_keys(keys);\n    if (a->said == TN_R2 && !model_read_key_exchange(16, m, f))\n        a->said = 0;\n"),
+    ("R10 after the layout", "model_server.c",
+     "    a->said = model_keys(keys);\n",
+     "    a->said = model_keys(keys);\n    if (a->said == TN_R10 && !model_read_key_exchange(16, m, f))\n        a->said = 0;\n"),
+    ("R10 left out of a login", "model_server.c", "    a->said = model_keys(keys);\n", "    a->said = model_keys(keys) == TN_R2 ? TN_R2 : 0;\n"),
+    ("R10 that closes", "model_server.c",
+     "    a->said = model_keys(keys);\n",
+     "    a->said = model_keys(keys);\n    if (a->said == TN_R10)\n        closing(s, 50);\n"),
+    ("a list that is looked at before it is needed", "model_server.c",
+     "    else if (m.n < 4)\n",
+     "    else if (model_keys(keys) == TN_R10)\n        a->said = TN_R10;\n    else if (m.n < 4)\n"),
+    ("another identity's key by a list with two starts exchanged", "model_server.c",
+     "    model_lookup(keys, (struct bytes){m.at + f[0], f[1]}, &key);\n",
+     "    struct keys other = *keys;\n    if (other.list.count > 1)\n        other.list.at[0] = other.list.at[1];\n"
+     "    model_lookup(&other, (struct bytes){m.at + f[0], f[1]}, &key);\n"),
     ("50 before 10", "model_server.c", "m.at[0] != model_awaited(s)", "m.n < 6 ? false : m.at[0] != model_awaited(s)"),
     ("rules exchanged", "model_server.c", "rule != TN_RULE_TELL", "rule != TN_RULE_HIDE"),
     ("no rule tells", "model_server.c", "rule != TN_RULE_TELL", "rule == TN_RULE_HIDE"),
@@ -198,6 +282,9 @@ PLANTED = [
     ("R2 that keeps the hello of its record", "model_records.c",
      "    if (refusal == 0)\n        *m = next",
      "    if (refusal == 0 || refusal == TN_R2)\n        *m = next"),
+    ("R10 that keeps the hello of its record", "model_records.c",
+     "    if (refusal == 0)\n        *m = next",
+     "    if (refusal == 0 || refusal == TN_R10)\n        *m = next"),
     ("R1 that keeps what came", "model_records.c", "    if (refusal == 0)\n        *m = next", "    if (refusal == 0 || refusal == TN_R1)\n        *m = next"),
     ("R1 for the output alone", "model_records.c", " || next.held_n > memory", ""),
     ("memory for all that came", "model_records.c", "next.held_n > memory", "m->held_n + record.n - 5 > memory"),
@@ -270,32 +357,39 @@ PLANTED = [
     ("a byte of what was lent to be read", "table.c",
      "    expect_number(tn_valid_utf8(",
      "    if (t->n > 2)\n        t->bytes[2] ^= 1;\n    expect_number(tn_valid_utf8("),
-    ("a byte of the memory changed by a refused edit", "table.c",
-     EDIT_MADE,
-     "    if (result < 0 && l->n > 0)\n        l->bytes[l->n / 2] ^= 1;\n" + EDIT_MADE),
-    ("bytes moved before R1", "table.c",
-     EDIT_MADE,
-     "    if (result == TN_R1 && m->length > 1)\n        memmove(l->bytes + 1, l->bytes, m->length - 1);\n" + EDIT_MADE),
-    ("a byte behind the edited table", "table.c",
-     EDIT_MADE,
-     "    if (result >= 0 && (size_t)result < l->n)\n        l->bytes[result] ^= 1;\n" + EDIT_MADE),
-    ("the last byte of the memory", "table.c",
-     EDIT_MADE,
-     "    if (result >= 0 && (size_t)result < l->n)\n        l->bytes[l->n - 1] ^= 1;\n" + EDIT_MADE),
-    ("what a shorter table leaves behind it cleared", "table.c",
-     EDIT_MADE,
-     "    if (result >= 0 && (size_t)result < m->length)\n        memset(l->bytes + result, 0, m->length - (size_t)result);\n" + EDIT_MADE),
-    ("a digit of another line made small", "table.c",
-     EDIT_MADE,
-     "    for (int32_t b = 1; b < result; b++)\n        if (l->bytes[b] == 'A' && l->bytes[b - 1] == ':')\n            l->bytes[b] = 'a';\n"
-     + EDIT_MADE),
+    edit_made("a byte of the memory changed by a refused edit", "if (result < 0 && l->n > 0)\n        l->bytes[l->n / 2] ^= 1;"),
+    edit_made("bytes moved before R1", "if (result == TN_R1 && m->length > 1)\n        memmove(l->bytes + 1, l->bytes, m->length - 1);"),
+    edit_made("a byte behind the edited table", "if (result >= 0 && (size_t)result < l->n)\n        l->bytes[result] ^= 1;"),
+    edit_made("the last byte of the memory", "if (result >= 0 && (size_t)result < l->n)\n        l->bytes[l->n - 1] ^= 1;"),
+    edit_made("what a shorter table leaves behind it cleared",
+              "if (result >= 0 && (size_t)result < m->length)\n        memset(l->bytes + result, 0, m->length - (size_t)result);"),
+    edit_made("a digit of another line made small",
+              "for (int32_t b = 1; b < result; b++)\n        if (l->bytes[b] == 'A' && l->bytes[b - 1] == ':')\n            l->bytes[b] = 'a';"),
     ("a table read past the memory", "table.c", "tn_table_retire(l->bytes, l->n, m->length,", "tn_table_retire(l->bytes, l->n + 1, m->length,"),
-    ("a byte of the key lent to be read", "table.c", EDIT_MADE, "    if (k->n == 64)\n        k->bytes[63] ^= 1;\n" + EDIT_MADE),
+    edit_made("a byte of the key lent to be read", "if (k->n == 64)\n        k->bytes[63] ^= 1;"),
+    edit_made("a number of the list changed by a refused edit", "if (result < 0 && room > 0)\n        starts[room / 2] ^= 1;"),
+    edit_made("the list's count changed by a refused edit", "if (result == TN_R7)\n        ++*count;"),
+    edit_made("an added line's start written though the table's memory is short",
+              "if (result == TN_R1 && *count < room)\n        starts[*count] = (uint32_t)m->length;"),
+    edit_made("a line counted though the list's memory is short", "if (result == TN_R1 && *count == room)\n        ++*count;"),
+    edit_made("a number behind the list written on retire", "if (kind == RETIRE && result >= 0)\n        starts[*count] = 0;"),
+    edit_made("the last number of the list's memory", "if (result >= 0 && *count < room)\n        starts[room - 1] ^= 1;"),
+    ("a list edited past its memory", "table.c", "size_t room = m->list.n,", "size_t room = m->list.n + 1,"),
+    ("a list read past its memory", "table.c", "numbers_of(s), keys->list.n, keys->list.count", "numbers_of(s), keys->list.n + 1, keys->list.count"),
+    ("a list made past its memory", "table.c", "tn_table_list(t->bytes, t->n, numbers_of(s), room)", "tn_table_list(t->bytes, t->n, numbers_of(s), room + 1)"),
+    ("a number behind a list that was made", "table.c",
+     LIST_MADE,
+     "    if (result >= 0 && (size_t)result < room)\n        numbers_of(s)[result] ^= 1;\n" + LIST_MADE),
+    ("a list begun before R1", "table.c", LIST_MADE, "    if (result == TN_R1 && room > 0)\n        numbers_of(s)[0] ^= 1;\n" + LIST_MADE),
+    ("a list written by R2", "table.c", LIST_MADE, "    if (result == TN_R2 && room > 0)\n        numbers_of(s)[0] ^= 1;\n" + LIST_MADE),
+    ("a list in a login read past its memory", "server.c", "keys->list.n, keys->list.count,", "keys->list.n + 1, keys->list.count,"),
+    ("a list beside records read past its memory", "records.c", "keys->list.n, keys->list.count,", "keys->list.n + 1, keys->list.count,"),
     ("a byte read past the end", "secrets.c", "tn_hmac(k->bytes, k->n, m->bytes, m->n,", "tn_hmac(k->bytes, k->n, m->bytes, m->n + 1,"),
     ("the fields written by a refusal", "layouts.c",
      "    if (said >= 0 && model)\n",
      "    if (said < 0 && fields->n > 0)\n        fields->bytes[0] ^= 1;\n    if (said >= 0 && model)\n"),
     ("the master written beside a flight", "server.c", MESSAGE_MADE, MESSAGE_MADE + "    if (result > 0)\n        master->bytes[0] ^= 1;\n"),
+    ("a connection changed by R10", "server.c", MESSAGE_MADE, MESSAGE_MADE + "    if (result == TN_R10)\n        c->bytes[381] ^= 1;\n"),
     ("a connection changed by R1", "server.c", MESSAGE_MADE, MESSAGE_MADE + "    if (result == TN_R1)\n        c->bytes[381] ^= 1;\n"),
     ("a trace in a closed connection", "server.c",
      MESSAGE_MADE,
@@ -312,6 +406,7 @@ PLANTED = [
     record_made("no numbers told of a part of a message", "if (result == 0 && p->model.held_n > 0)\n        numbers->bytes[4] ^= 1;"),
     record_made("a master secret beside none that is told", "if (result == 0 && taken.told[0] == 0)\n        master->bytes[0] ^= 1;"),
     record_made("a record connection changed by R1", "if (result == TN_R1)\n        c->bytes[500] ^= 1;"),
+    record_made("a record connection changed by R10", "if (result == TN_R10)\n        c->bytes[500] ^= 1;"),
     record_made("a record connection changed by R9", "if (result == TN_R9)\n        c->bytes[396] ^= 1;"),
     record_made("a key in a closed record connection", "if (tn_is_alert(result))\n        c->bytes[400] = 7;"),
     record_made("a byte of the record", "if (result == 59)\n        r->bytes[0] ^= 1;"),

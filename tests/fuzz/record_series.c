@@ -144,14 +144,14 @@ static size_t drawn_answer_room(const struct record_model *m)
     return once_in(8) ? below(TN_RECORD_ANSWER + 2) : once_in(3) ? drawn_room((int32_t)flight) : TN_RECORD_ANSWER;
 }
 
-static void take_drawn(struct record_pair *p, struct bytes table)
+static void take_drawn(struct record_pair *p, const struct keys *keys)
 {
-    struct content c = drawn_content(&p->model, table);
+    struct content c = drawn_content(&p->model, keys->text);
     struct bytes record = drawn_record(&p->model, &c);
     size_t held = p->model.held_n, memory = once_in(4) ? TN_RECORD_MEMORY : between(once_in(6) ? held : held + c.bytes.n, held + c.bytes.n + 9);
     uint64_t number = p->model.reading.number;
     int32_t phase = p->model.server.phase;
-    record_take(p, table, record, memory, drawn_answer_room(&p->model));
+    record_take(p, keys, record, memory, drawn_answer_room(&p->model));
     if (c.streamed && (p->model.reading.number != number || p->model.server.phase != phase))
         stream.taken += c.bytes.n;
 }
@@ -162,25 +162,25 @@ static void send_drawn(struct record_pair *p)
     record_send(p, content, drawn_room((int32_t)content.n + 37));
 }
 
-static void probe_drawn(const struct record_pair *p, const struct record_pair *other, struct bytes table)
+static void probe_drawn(const struct record_pair *p, const struct record_pair *other, const struct keys *keys)
 {
     uint8_t c[TN_RECORD_CONNECTION_SIZE];
-    struct content content = drawn_content(&p->model, table);
+    struct content content = drawn_content(&p->model, keys->text);
     struct bytes record = drawn_record(&p->model, &content), memory = drawn(0, once_in(4) ? TN_RECORD_MEMORY : below(60));
     memcpy(c, p->connection, sizeof c);
     damage_connection(c, other->connection, sizeof c);
-    record_probe(c, table, record, memory, drawn_answer_room(&p->model));
-    record_probe_unwritten(p->connection, table, record, memory, drawn_answer_room(&p->model));
+    record_probe(c, keys, record, memory, drawn_answer_room(&p->model));
+    record_probe_unwritten(p->connection, keys, record, memory, drawn_answer_room(&p->model));
 }
 
-static void call_drawn(struct record_pair *p, struct bytes table)
+static void call_drawn(struct record_pair *p, const struct keys *keys)
 {
     if (once_in(p->model.server.phase == TN_PHASE_COMPLETE ? 3 : 20))
         send_drawn(p);
     else if (once_in(60))
         record_close(p, drawn_room(p->model.writing.protected ? 39 : 7));
     else
-        take_drawn(p, table);
+        take_drawn(p, keys);
     if (once_in(60))
         record_renumber(p, once_in(2), LAST_NUMBER - below(3));
 }
@@ -194,32 +194,33 @@ static void start_drawn(struct record_pair *p)
 void records_round(void)
 {
     static struct record_pair p, other;
-    struct bytes table = drawn_table(6);
+    struct keys keys = keys_of(drawn_table(6));
     memset(&p, 0, sizeof p); /* cleared bytes are a closed connection */
     memset(&other, 0, sizeof other);
     start_drawn(&other);
     stream_clear();
     wildness = once_in(3) ? 8 : 100;
     if (once_in(8))
-        call_drawn(&p, table);
+        call_drawn(&p, &keys);
     for (size_t i = between(4, 16); i > 0; i--) {
         if (p.model.server.phase == TN_PHASE_CLOSED)
             start_drawn(&p);
-        call_drawn(&p, once_in(20) ? drawn_table(5) : table);
+        call_drawn(&p, keys_of_call(&keys));
         if (once_in(8))
-            probe_drawn(&p, &other, table);
+            probe_drawn(&p, &other, keys_of_call(&keys));
     }
 }
 
 /* ---- sweeps */
 
 static const uint8_t gate[] = "gate7:abcd\n";
-static const struct bytes gates = {gate, sizeof gate - 1}, gate7 = {gate, 5};
+static const struct keys gates = {{gate, sizeof gate - 1}, {.n = 1, .count = 1}};
+static const struct bytes gate7 = {gate, 5};
 
 static void take(struct record_pair *p, uint8_t type, struct bytes content)
 {
     compose_record(&p->model.reading, type, 0x0303, content, &made);
-    record_take(p, gates, copied(RECORD, made_bytes()), TN_RECORD_MEMORY, TN_RECORD_ANSWER);
+    record_take(p, &gates, copied(RECORD, made_bytes()), TN_RECORD_MEMORY, TN_RECORD_ANSWER);
 }
 
 static void start_plain(struct record_pair *p)
@@ -327,12 +328,12 @@ void every_record_bit(void)
             p = there;
             memcpy(bytes, record.at, record.n);
             bytes[bit / 8] ^= (uint8_t)(1u << bit % 8);
-            record_take(&p, gates, (struct bytes){bytes, record.n}, 20, TN_RECORD_ANSWER);
+            record_take(&p, &gates, (struct bytes){bytes, record.n}, 20, TN_RECORD_ANSWER);
         }
         for (size_t bit = 0; bit < 8 * sizeof c; bit++) {
             memcpy(c, there.connection, sizeof c);
             c[bit / 8] ^= (uint8_t)(1u << bit % 8);
-            record_probe(c, gates, record, drawn(0, 20), TN_RECORD_ANSWER);
+            record_probe(c, &gates, record, drawn(0, 20), TN_RECORD_ANSWER);
         }
     }
 }
@@ -348,9 +349,9 @@ void every_record_room(void)
             p = there;
             compose_record(&p.model.reading, HANDSHAKE, 0x0303, (struct bytes){content.at, content.n - n % 2}, &made);
             struct bytes record = copied(RECORD, made_bytes());
-            record_take(&p, gates, record, n / 2, TN_RECORD_ANSWER);
+            record_take(&p, &gates, record, n / 2, TN_RECORD_ANSWER);
             p = there;
-            record_take(&p, gates, record, 60, n);
+            record_take(&p, &gates, record, 60, n);
         }
     }
 }

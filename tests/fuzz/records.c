@@ -71,11 +71,13 @@ void record_start(struct record_pair *p, struct settings s)
         keep(p, c, result);
 }
 
-/* The one call that takes a record, of pieces in its order. */
-static int32_t take_lent(const struct lent *c, const struct lent *t, const struct lent *r, const struct lent *m, const struct lent *out,
+/* The one call that takes a record, of lent pieces in its order and of a table and its list that it lends. */
+static int32_t take_lent(const struct lent *c, const struct keys *keys, const struct lent *r, const struct lent *m, const struct lent *out,
                          const struct lent *master, const struct lent *numbers)
 {
-    return tn_take_record(c->bytes, t->bytes, t->n, r->bytes, r->n, m->bytes, m->n, out->bytes, out->n, master->bytes, (uint32_t *)(void *)numbers->bytes);
+    const struct lent *t = lend(keys->text), *s = lend_numbers(keys->list.at, keys->list.n);
+    return tn_take_record(c->bytes, t->bytes, t->n, numbers_of(s), keys->list.n, keys->list.count, r->bytes, r->n, m->bytes, m->n, out->bytes, out->n,
+                          master->bytes, numbers_of(numbers));
 }
 
 /* Memory with what is held at its front; behind that anything may stand. */
@@ -87,14 +89,14 @@ static struct lent *lend_memory(const struct record_model *m, size_t n)
     return l;
 }
 
-void record_take(struct record_pair *p, struct bytes table, struct bytes record, size_t memory, size_t room)
+void record_take(struct record_pair *p, const struct keys *keys, struct bytes record, size_t memory, size_t room)
 {
     static struct taken taken;
     begin("tn_take_record");
-    struct lent *c = lend(connection_bytes(p->connection)), *t = lend(table), *r = lend(record), *m = lend_memory(&p->model, memory), *out = lend_room(room);
+    struct lent *c = lend(connection_bytes(p->connection)), *r = lend(record), *m = lend_memory(&p->model, memory), *out = lend_room(room);
     struct lent *master = lend_room(TN_MASTER_SIZE), *numbers = lend_room(sizeof taken.told);
-    model_take(&p->model, table, record, m->n, room, &taken);
-    int32_t result = take_lent(c, t, r, m, out, master, numbers);
+    model_take(&p->model, keys, record, m->n, room, &taken);
+    int32_t result = take_lent(c, keys, r, m, out, master, numbers);
     settle_connection(c, result, false);
     if (taken.answer.said >= 0) {
         becomes(m, p->model.held, p->model.held_n);
@@ -154,7 +156,7 @@ static bool is_alert_of_record(int32_t result)
 
 static void expect_result_of_record(int32_t result, size_t room)
 {
-    bool refusal = result == TN_R1 || result == TN_R2 || result == TN_R4 || result == TN_R9;
+    bool refusal = result == TN_R1 || result == TN_R2 || result == TN_R4 || result == TN_R9 || result == TN_R10;
     seen(result);
     if (!(result >= 0 && (size_t)result <= ANSWER_MOST) && !is_alert_of_record(result) && !refusal)
         fail("tn_take_record gave %d, which is no result of it", (int)result);
@@ -183,12 +185,12 @@ static void expect_alert(const uint8_t connection[TN_RECORD_CONNECTION_SIZE], in
     expect_closed(connection, (struct bytes){alert, n});
 }
 
-static void probe_take(const uint8_t *connection, struct bytes table, struct bytes record, struct bytes memory, size_t room, struct outcome *o)
+static void probe_take(const uint8_t *connection, const struct keys *keys, struct bytes record, struct bytes memory, size_t room, struct outcome *o)
 {
     begin("tn_take_record");
-    struct lent *c = lend(connection_bytes(connection)), *t = lend(table), *r = lend(record), *m = lend(memory), *out = lend_room(room);
+    struct lent *c = lend(connection_bytes(connection)), *r = lend(record), *m = lend(memory), *out = lend_room(room);
     struct lent *master = lend_room(TN_MASTER_SIZE), *numbers = lend_room(sizeof o->told);
-    int32_t result = take_lent(c, t, r, m, out, master, numbers);
+    int32_t result = take_lent(c, keys, r, m, out, master, numbers);
     expect_result_of_record(result, room);
     memset(o, 0, sizeof *o);
     o->result = result;
@@ -252,7 +254,7 @@ static void probe_others(const uint8_t connection[TN_RECORD_CONNECTION_SIZE], st
     probe_closing_alert(connection, room);
 }
 
-void record_probe(const uint8_t connection[TN_RECORD_CONNECTION_SIZE], struct bytes table, struct bytes record, struct bytes memory, size_t room)
+void record_probe(const uint8_t connection[TN_RECORD_CONNECTION_SIZE], const struct keys *keys, struct bytes record, struct bytes memory, size_t room)
 {
     static struct outcome one, two;
     int32_t phase = phase_of(connection);
@@ -260,28 +262,29 @@ void record_probe(const uint8_t connection[TN_RECORD_CONNECTION_SIZE], struct by
     seen(phase);
     if (phase < TN_PHASE_CLOSED || phase > TN_PHASE_COMPLETE)
         fail("tn_record_phase gave %d, which is no phase", (int)phase);
-    probe_take(connection, table, record, memory, room, &one);
+    probe_take(connection, keys, record, memory, room, &one);
     if (closed != (one.result == TN_R4))
         fail("phase %d, and tn_take_record gave %d", (int)phase, (int)one.result);
-    probe_take(connection, table, record, memory, room, &two);
+    probe_take(connection, keys, record, memory, room, &two);
     if (memcmp(&one, &two, sizeof one) != 0)
         fail("the same call has two answers");
     probe_others(connection, record, closed);
     if (once_in(2))
-        probe_take(one.connection, table, record, (struct bytes){one.memory, memory.n}, room, &two);
+        probe_take(one.connection, keys, record, (struct bytes){one.memory, memory.n}, room, &two);
 }
 
-void record_probe_unwritten(const uint8_t connection[TN_RECORD_CONNECTION_SIZE], struct bytes table, struct bytes record, struct bytes memory, size_t room)
+void record_probe_unwritten(const uint8_t connection[TN_RECORD_CONNECTION_SIZE], const struct keys *keys, struct bytes record, struct bytes memory,
+                            size_t room)
 {
     uint8_t c[TN_RECORD_CONNECTION_SIZE];
     memcpy(c, connection, sizeof c);
     c[once_in(2) ? READING : WRITING] = (uint8_t)between(2, 255);
     if (phase_of(c) != TN_PHASE_CLOSED || probe_closing_alert(c, TN_CLOSING_ALERT_SIZE) != 0)
         fail("bytes that no call writes are not a closed connection");
-    record_probe(c, table, record, memory, room);
+    record_probe(c, keys, record, memory, room);
     memcpy(c, connection, sizeof c);
     size_t held = once_in(2) ? 65535 - below(3) : memory.n + below(4);
     c[HELD] = (uint8_t)(held >> 8);
     c[HELD + 1] = (uint8_t)held;
-    record_probe(c, table, record, memory, room);
+    record_probe(c, keys, record, memory, room);
 }

@@ -2,7 +2,7 @@
 """The fuzzer's first inputs, in the form that target.c gives: seeds.py DIRECTORY.
 
 Whole handshakes for each suite, hint and rule, refusals of each kind, one message of each layout, key
-tables and their edits, the sessions of record_sessions.py and others in records, and the recorded
+tables, their edits and lists, the sessions of record_sessions.py and others in records, and the recorded
 messages of other programs.
 """
 import pathlib
@@ -11,7 +11,7 @@ import sys
 sys.dont_write_bytecode = True
 TESTS = pathlib.Path(__file__).resolve().parent.parent
 sys.path.insert(0, str(TESTS))
-from handshakes import EVERY, TABLE, drawn, exchange, extension, hello, message, vector
+from handshakes import EVERY, TABLE, drawn, exchange, extension, hello, message, starts_of, vector
 from record_sessions import ALERT, CHANGE as CHANGE_OF_CIPHER, DATA, HANDSHAKE, NULL, script
 
 ENOUGH = 180
@@ -32,6 +32,10 @@ def send(m, room=ENOUGH):
 
 def finished(room=ENOUGH, place=0, bits=0):
     return bytes([5, room, place, bits])
+
+
+def listing(room=0, count=0, place=0, by=0):
+    return bytes([17, room, count % 256, place, by % 256])
 
 
 def probe(place, over):
@@ -115,6 +119,18 @@ def edits():
         yield table(lines(count)) + edit(ADD, b"a", key) + edit(ADD, b"7", key) + edit(ADD, b"b", key, 0) + edit(RETIRE, b"0") + edit(ADD, b"0", key)
 
 
+def lists():
+    """Logins and edits with lists that are not the table's, and then with its own."""
+    key = drawn("another key")
+    for wrong in (listing(count=-1), listing(count=1), listing(1, 1), listing(1, 2), listing(count=127), listing(count=-128), listing(place=1, by=1),
+                  listing(place=0, by=1), listing(place=1, by=-1), listing(place=2, by=5), listing(7)):
+        for uses in (send(exchange(b"gate7")), send(exchange(b"")), edit(ADD, b"gate8", key) + edit(RETIRE, b"gate8") + edit(REPLACE, b"gate7", key)):
+            yield start() + send(HELLO) + table() + wrong + uses + listing() + uses + CHANGE + finished()
+        yield (table() + b"\x09" + start()[1:] + content(HANDSHAKE, hello(drawn("client"), (NULL,))) + wrong + content(HANDSHAKE, exchange(b"gate7"))
+               + listing() + content(HANDSHAKE, exchange(b"gate7")) + content(CHANGE_OF_CIPHER, b"\1") + bytes([12, 195, 0, 0, 0]))
+    yield table(TABLE[:-1]) + listing(count=1) + start() + send(HELLO) + send(exchange(b"gate7")) + edit(ADD, b"a", key)
+
+
 def starts():
     for hint in (b"h" * 129, b"\xc0\x80", b"\xed\xa0\x80", b"\xf4\x8f\xbf\xbf", "é€😀".encode()):
         yield start(hint=hint) + send(HELLO)
@@ -144,16 +160,24 @@ def translated(call):
     return bytes([14, rest[0]]) if kind == 5 else b""
 
 
+def relisted(text, call):
+    """A call there that changes the list's count and one of its numbers, as nearly as a signed byte for each tells it of this table."""
+    count, place, start = (int.from_bytes(call[a:b], "big") for a, b in ((1, 4), (4, 6), (6, 9)))
+    own = starts_of(text)
+    more, by = count - len(own), start - own[place] if place < len(own) else 0
+    return listing(1, max(-128, min(127, more)), min(255, place), max(-128, min(127, by)))
+
+
 def sessions():
     """The sessions of record_sessions.py, each from its start to the next one's."""
-    parts, last = [], b""
+    parts, last, text = [], b"", b""
     for call in script().calls:
         if call[0] == 2:
-            last = translated(call)
+            last, text = translated(call), call[4:]
         if call[0] == 1:
             parts.append(last)
         if parts:
-            parts[-1] += translated(call)
+            parts[-1] += relisted(text, call) if call[0] == 7 else translated(call)
     return parts
 
 
@@ -199,6 +223,6 @@ def recorded():
 
 if __name__ == "__main__":
     directory = pathlib.Path(sys.argv[1])
-    for make in (logins, hellos, messages, tables, edits, starts, longest, sessions, records, recorded):
+    for make in (logins, hellos, messages, tables, edits, lists, starts, longest, sessions, records, recorded):
         for i, contents in enumerate(make()):
             (directory / f"{make.__name__}-{i:02}").write_bytes(contents)

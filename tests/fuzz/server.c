@@ -72,12 +72,19 @@ void pair_start(struct pair *p, struct bytes random, struct bytes hint, struct b
         keep(p, c, result);
 }
 
-void pair_message(struct pair *p, struct bytes table, struct bytes message, size_t room)
+/* The one call that takes a message, of lent pieces and of a table and its list that it lends. */
+static int32_t message_lent(const struct lent *c, const struct keys *keys, const struct lent *m, const struct lent *out, const struct lent *master)
 {
-    model_message(&p->model, table, message, room, &wanted);
+    const struct lent *t = lend(keys->text), *s = lend_numbers(keys->list.at, keys->list.n);
+    return tn_message(c->bytes, t->bytes, t->n, numbers_of(s), keys->list.n, keys->list.count, m->bytes, m->n, out->bytes, out->n, master->bytes);
+}
+
+void pair_message(struct pair *p, const struct keys *keys, struct bytes message, size_t room)
+{
+    model_message(&p->model, keys, message, room, &wanted);
     begin("tn_message");
-    struct lent *c = lend_connection(p), *t = lend(table), *m = lend(message), *out = lend_room(room), *master = lend_room(TN_MASTER_SIZE);
-    int32_t result = tn_message(c->bytes, t->bytes, t->n, m->bytes, m->n, out->bytes, out->n, master->bytes);
+    struct lent *c = lend_connection(p), *m = lend(message), *out = lend_room(room), *master = lend_room(TN_MASTER_SIZE);
+    int32_t result = message_lent(c, keys, m, out, master);
     settle_connection(c, result, false);
     if (wanted.said == 0)
         becomes(master, p->model.master, TN_MASTER_SIZE);
@@ -130,7 +137,7 @@ struct outcome {
 
 static void expect_result_of_message(int32_t result, size_t room)
 {
-    bool refusal = result == TN_R1 || result == TN_R2 || result == TN_R4;
+    bool refusal = result == TN_R1 || result == TN_R2 || result == TN_R4 || result == TN_R10;
     seen(result);
     if (!is_count_of_message(result) && !is_alert_of_message(result) && !refusal)
         fail("tn_message gave %d, which is no result of it", (int)result);
@@ -138,12 +145,11 @@ static void expect_result_of_message(int32_t result, size_t room)
         fail("tn_message gave %d with room for %zu", (int)result, room);
 }
 
-static void probe_message(const uint8_t *connection, struct bytes table, struct bytes message, size_t room, struct outcome *o)
+static void probe_message(const uint8_t *connection, const struct keys *keys, struct bytes message, size_t room, struct outcome *o)
 {
     begin("tn_message");
-    struct lent *c = lend((struct bytes){connection, TN_CONNECTION_SIZE}), *t = lend(table), *m = lend(message), *out = lend_room(room);
-    struct lent *master = lend_room(TN_MASTER_SIZE);
-    int32_t result = tn_message(c->bytes, t->bytes, t->n, m->bytes, m->n, out->bytes, out->n, master->bytes);
+    struct lent *c = lend((struct bytes){connection, TN_CONNECTION_SIZE}), *m = lend(message), *out = lend_room(room), *master = lend_room(TN_MASTER_SIZE);
+    int32_t result = message_lent(c, keys, m, out, master);
     expect_result_of_message(result, room);
     size_t written = result > 0 ? (size_t)result : 0, handed = result == 0 ? TN_MASTER_SIZE : 0;
     settle_connection(c, result, false);
@@ -178,23 +184,23 @@ static void probe_other(const uint8_t connection[TN_CONNECTION_SIZE], bool chang
         expect_over(after, TN_PHASE_CLOSED);
 }
 
-void probe(const uint8_t connection[TN_CONNECTION_SIZE], struct bytes table, struct bytes message, size_t room)
+void probe(const uint8_t connection[TN_CONNECTION_SIZE], const struct keys *keys, struct bytes message, size_t room)
 {
     static struct outcome one, two;
     int32_t phase = phase_of(connection);
     seen(phase);
     if (phase < TN_PHASE_CLOSED || phase > TN_PHASE_COMPLETE)
         fail("tn_phase gave %d, which is no phase", (int)phase);
-    probe_message(connection, table, message, room, &one);
+    probe_message(connection, keys, message, room, &one);
     if ((phase == TN_PHASE_CLOSED || phase == TN_PHASE_COMPLETE) != (one.result == TN_R4))
         fail("phase %d, and tn_message gave %d", (int)phase, (int)one.result);
-    probe_message(connection, table, message, room, &two);
+    probe_message(connection, keys, message, room, &two);
     if (memcmp(&one, &two, sizeof one) != 0)
         fail("the same call has two answers");
     probe_other(connection, true, 0, 0);
     probe_other(connection, false, (uint8_t)below(4), (uint8_t)below(3));
     if (once_in(2))
-        probe_message(one.connection, table, message, room, &two);
+        probe_message(one.connection, keys, message, room, &two);
 }
 
 /* ---- drawn series */
@@ -240,42 +246,42 @@ static size_t drawn_message_room(const struct pair *p)
 }
 
 /* A connection's bytes, damaged. */
-static void probe_damaged(const struct pair *p, const struct pair *other, struct bytes table, struct bytes message)
+static void probe_damaged(const struct pair *p, const struct pair *other, const struct keys *keys, struct bytes message)
 {
     uint8_t c[TN_CONNECTION_SIZE];
     memcpy(c, p->connection, sizeof c);
     damage_connection(c, other->connection, sizeof c);
-    probe(c, table, message, drawn_message_room(p));
+    probe(c, keys, message, drawn_message_room(p));
 }
 
-static void drawn_call(struct pair *p, struct bytes table)
+static void drawn_call(struct pair *p, const struct keys *keys)
 {
     if (p->model.phase == TN_PHASE_CHANGE_OF_CIPHER ? !once_in(wildness) : once_in(2 * wildness))
         pair_change(p);
     else if (once_in(10))
         pair_alert(p, (uint8_t)(once_in(wildness) ? below(4) : 1), (uint8_t)(once_in(wildness) ? 0 : between(1, 255)));
     else if (once_in(2 * wildness))
-        pair_message(p, table, drawn(MESSAGE, below(50)), drawn_message_room(p));
+        pair_message(p, keys, drawn(MESSAGE, below(50)), drawn_message_room(p));
     else
-        pair_message(p, table, drawn_message(p, table), drawn_message_room(p));
+        pair_message(p, keys, drawn_message(p, keys->text), drawn_message_room(p));
 }
 
 void server_round(void)
 {
     static struct pair p, other;
-    struct bytes table = drawn_table(6);
+    struct keys keys = keys_of(drawn_table(6));
     memset(&p, 0, sizeof p); /* cleared bytes are a closed connection */
     memset(&other, 0, sizeof other);
     drawn_start(&other);
     wildness = once_in(2) ? 6 : 60;
     if (once_in(8))
-        drawn_call(&p, table);
+        drawn_call(&p, &keys);
     for (size_t i = between(3, 12); i > 0; i--) {
         if (p.model.phase == TN_PHASE_CLOSED || p.model.phase == TN_PHASE_COMPLETE || once_in(40))
             drawn_start(&p);
-        drawn_call(&p, once_in(20) ? drawn_table(5) : table);
+        drawn_call(&p, keys_of_call(&keys));
         if (once_in(3))
-            probe_damaged(&p, &other, table, drawn_message(&p, table));
+            probe_damaged(&p, &other, keys_of_call(&keys), drawn_message(&p, keys.text));
     }
 }
 
@@ -292,19 +298,19 @@ void every_alert(void)
 }
 
 /* The call that takes a login one step on. */
-static void step(struct pair *p, struct bytes table)
+static void step(struct pair *p, const struct keys *keys)
 {
     if (p->model.phase == TN_PHASE_CHANGE_OF_CIPHER)
         pair_change(p);
     else
-        pair_message(p, table, drawn_message(p, table), TN_FLIGHT_SIZE);
+        pair_message(p, keys, drawn_message(p, keys->text), TN_FLIGHT_SIZE);
 }
 
 /* Each bit of a connection changed, in each phase, before the awaited message. */
 void every_bit(void)
 {
     static const uint8_t line[] = "gate7:abcd\n";
-    struct bytes table = {line, sizeof line - 1};
+    struct keys keys = keys_of((struct bytes){line, sizeof line - 1});
     static struct pair p;
     uint8_t c[TN_CONNECTION_SIZE];
     wildness = SIZE_MAX; /* nothing but what is awaited */
@@ -313,9 +319,9 @@ void every_bit(void)
         for (size_t bit = 0; bit < 8 * sizeof c; bit++) {
             memcpy(c, p.connection, sizeof c);
             c[bit / 8] ^= (uint8_t)(1u << bit % 8);
-            probe(c, table, drawn_message(&p, table), TN_FLIGHT_SIZE);
+            probe(c, &keys, drawn_message(&p, keys.text), TN_FLIGHT_SIZE);
         }
         while (p.model.phase == phase)
-            step(&p, table);
+            step(&p, &keys);
     }
 }

@@ -1,4 +1,4 @@
-/* The key table, its edits and UTF-8 against a parser of their own. */
+/* The key table, its list of line starts, edits of both and UTF-8 against a parser of their own. */
 #include "compare.h"
 
 #include <string.h>
@@ -11,39 +11,67 @@ void compare_utf8(struct bytes text)
     finish();
 }
 
-static void expect_lookup(struct bytes table, struct bytes identity, const struct answer *wanted)
+static void expect_lookup(const struct keys *keys, struct bytes identity, const struct answer *wanted)
 {
     begin("tn_table_lookup");
-    struct lent *t = lend(table), *i = lend(identity), *out = lend_room(drawn_room(wanted->said));
-    settle(tn_table_lookup(t->bytes, t->n, i->bytes, i->n, out->bytes, out->n), out, wanted);
+    struct lent *t = lend(keys->text), *s = lend_numbers(keys->list.at, keys->list.n), *i = lend(identity), *out = lend_room(drawn_room(wanted->said));
+    int32_t result = tn_table_lookup(t->bytes, t->n, numbers_of(s), keys->list.n, keys->list.count, i->bytes, i->n, out->bytes, out->n);
+    settle(result, out, wanted);
 }
 
-void compare_table(struct bytes table, struct bytes identity)
+static void compare_lookup(const struct keys *keys, struct bytes identity)
 {
     static struct answer wanted;
-    begin("tn_table_test");
-    struct lent *t = lend(table);
-    expect_number(tn_table_test(t->bytes, t->n), model_table_test(table) ? 0 : TN_R2);
+    model_lookup(keys, identity, &wanted);
+    expect_lookup(keys, identity, &wanted);
+}
+
+/* The table's list made anew, in memory for so many numbers. */
+static void compare_list(struct bytes table, size_t room)
+{
+    static struct starts own;
+    int32_t said = model_list(table, &own) ? (int32_t)own.count : TN_R2;
+    begin("tn_table_list");
+    struct lent *t = lend(table), *s = lend_room(room * sizeof own.at[0]);
+    int32_t result = tn_table_list(t->bytes, t->n, numbers_of(s), room);
+    if (said > 0 && (size_t)said > room)
+        said = TN_R1;
+    if (said > 0)
+        becomes(s, (const uint8_t *)own.at, own.count * sizeof own.at[0]);
+    expect_number(result, said);
     finish();
-    model_lookup(table, identity, &wanted);
-    expect_lookup(table, identity, &wanted);
+}
+
+void compare_table(const struct keys *keys, struct bytes identity)
+{
+    begin("tn_table_test");
+    struct lent *t = lend(keys->text);
+    expect_number(tn_table_test(t->bytes, t->n), model_table_test(keys->text) ? 0 : TN_R2);
+    finish();
+    compare_list(keys->text, drawn_room((int32_t)starts_in(keys->text, 0).count));
+    compare_lookup(keys, identity);
 }
 
 void table_round(void)
 {
-    struct bytes table = drawn_table(6);
+    struct keys keys = drawn_keys(6);
     for (size_t i = 0; i < 3; i++)
-        compare_table(table, drawn_identity(0, table));
+        compare_table(&keys, drawn_identity(0, keys.text));
+    for (size_t i = 0; i < 3; i++) { /* each time further from what it was */
+        damage_list(&keys.list, keys.text.n);
+        compare_lookup(&keys, drawn_identity(0, keys.text));
+    }
     compare_utf8(drawn_text(0, draw_length(128, 3000)));
     compare_utf8(drawn(0, between(1, 5)));
 }
 
 /* ---- edits */
 
-void memory_set(struct memory *m, struct bytes text, size_t n)
+void memory_set(struct memory *m, struct bytes text, size_t n, const struct starts *list)
 {
     m->n = n < MEMORY_LIMIT ? n : MEMORY_LIMIT;
     m->length = text.n;
+    m->list = *list;
     memmove(m->bytes, text.at, text.n < m->n ? text.n : m->n); /* the text may stand there already */
     if (text.n < m->n)
         draw_bytes(m->bytes + text.n, m->n - text.n);
@@ -52,18 +80,27 @@ void memory_set(struct memory *m, struct bytes text, size_t n)
 int32_t memory_edit(struct memory *m, enum edit kind, struct bytes identity, struct bytes key)
 {
     static const char *const names[] = {"tn_table_add", "tn_table_replace", "tn_table_retire"};
-    static struct answer wanted;
+    static struct edited wanted;
     int32_t result;
-    model_edit((struct bytes){m->bytes, m->n}, m->length, kind, identity, key, &wanted);
+    model_edit((struct bytes){m->bytes, m->n}, m->length, &m->list, kind, identity, key, &wanted);
     begin(names[kind]);
     struct lent *l = lend((struct bytes){m->bytes, m->n}), *i = lend(identity), *k = lend(key);
+    struct lent *s = lend_numbers(m->list.at, m->list.n), *c = lend((struct bytes){(const uint8_t *)&m->list.count, sizeof m->list.count});
+    uint32_t *starts = numbers_of(s);
+    size_t room = m->list.n, *count = (size_t *)(void *)c->bytes;
     switch (kind) {
-    case ADD: result = tn_table_add(l->bytes, l->n, m->length, i->bytes, i->n, k->bytes, k->n); break;
-    case REPLACE: result = tn_table_replace(l->bytes, l->n, m->length, i->bytes, i->n, k->bytes, k->n); break;
-    default: result = tn_table_retire(l->bytes, l->n, m->length, i->bytes, i->n);
+    case ADD: result = tn_table_add(l->bytes, l->n, m->length, starts, room, count, i->bytes, i->n, k->bytes, k->n); break;
+    case REPLACE: result = tn_table_replace(l->bytes, l->n, m->length, starts, room, count, i->bytes, i->n, k->bytes, k->n); break;
+    default: result = tn_table_retire(l->bytes, l->n, m->length, starts, room, count, i->bytes, i->n);
     }
-    settle(result, l, &wanted);
+    if (wanted.table.said >= 0 && (size_t)wanted.table.said <= l->n) {
+        becomes(s, (const uint8_t *)wanted.list.at, s->n);
+        becomes(c, (const uint8_t *)&wanted.list.count, c->n);
+    }
+    settle(result, l, &wanted.table);
     memcpy(m->bytes, l->bytes, m->n);
+    memcpy(m->list.at, starts, s->n);
+    m->list.count = *count;
     if (result >= 0)
         m->length = (size_t)result;
     return result;
@@ -107,14 +144,24 @@ static size_t another_length(const struct memory *m)
     }
 }
 
-/* An edit of the text's first bytes, in memory that is mostly long enough before and after it, often just so. */
+/* How many numbers more than the table's own there is room for: mostly one at least, so that a line can be added. */
+static size_t drawn_more(void)
+{
+    return once_in(6) ? 0 : once_in(2) ? 1 : below(20);
+}
+
+/* An edit of the text's first bytes, in memory that is mostly long enough before and after it, often just so; mostly with their own list. */
 static void edit_text(struct bytes text, size_t length, enum edit kind, struct bytes identity, struct bytes key)
 {
     static struct memory m;
-    static struct answer edited;
-    model_edit(text, length, kind, identity, key, &edited);
-    size_t after = edited.said > 0 ? (size_t)edited.said : 0, needed = after > length ? after : length;
-    memory_set(&m, text, once_in(4) ? length : once_in(4) ? text.n + needed : drawn_room((int32_t)needed));
+    static struct edited edited;
+    struct starts list = starts_in((struct bytes){text.at, length}, 1 + drawn_more());
+    model_edit(text, length, &list, kind, identity, key, &edited);
+    size_t after = edited.table.said > 0 ? (size_t)edited.table.said : 0, needed = after > length ? after : length;
+    list.n -= 1;
+    if (once_in(10))
+        damage_list(&list, length);
+    memory_set(&m, text, once_in(4) ? length : once_in(4) ? text.n + needed : drawn_room((int32_t)needed), &list);
     m.length = length;
     if (once_in(10))
         m.length = another_length(&m);
@@ -138,30 +185,32 @@ static void edits_at_the_limits(void)
 static void edit_and_look(struct memory *m, enum edit kind, struct bytes identity, struct bytes key)
 {
     static struct answer named, others;
-    struct bytes table = {m->bytes, m->length}, other = drawn_identity(3, table);
+    struct keys keys = {{m->bytes, m->length}, m->list};
+    struct bytes other = drawn_identity(3, keys.text);
     bool apart = other.n != identity.n || memcmp(other.at, identity.at, other.n) != 0;
-    model_lookup(table, identity, &named);
-    model_lookup(table, other, &others);
-    expect_lookup(table, other, &others);
+    model_lookup(&keys, identity, &named);
+    model_lookup(&keys, other, &others);
+    expect_lookup(&keys, other, &others);
     int32_t result = memory_edit(m, kind, identity, key);
-    table.n = m->length;
+    keys = (struct keys){{m->bytes, m->length}, m->list};
     if (result >= 0 && kind == RETIRE) {
         named.said = TN_ALERT_RESULT(115);
     } else if (result >= 0) {
         named.said = (int32_t)key.n;
         memcpy(named.bytes, key.at, key.n);
     }
-    expect_lookup(table, identity, &named);
+    expect_lookup(&keys, identity, &named);
     if (apart)
-        expect_lookup(table, other, &others);
+        expect_lookup(&keys, other, &others);
 }
 
-/* Edits of one memory, each of what the one before has left; an identity is often edited more than once. */
+/* Edits of one memory, each of the table and the list that the one before has left; an identity is often edited more than once. */
 static void series_of_edits(struct bytes text)
 {
     static struct memory m;
     struct bytes identity = drawn_name(0, text, ADD);
-    memory_set(&m, text, text.n + below(once_in(4) ? 60 : 2000));
+    struct starts list = starts_in(text, below(12));
+    memory_set(&m, text, text.n + below(once_in(4) ? 60 : 2000), &list);
     for (size_t i = between(3, 12); i > 0; i--) {
         enum edit kind = (enum edit)below(3);
         if (once_in(2))
@@ -211,25 +260,37 @@ void every_odd_table(void)
     static const char *const tables[] = {"a:0g\na:00\n", "a:\na:00\n", "a:00\na:01\n", "b:00\na:0\na:00", "\n\na:00", "a\na:00\n", "a::00\na:00\n"};
     static const char *const names[] = {"a", "b", "", "a:", "ab"};
     for (size_t i = 0; i < sizeof tables / sizeof tables[0]; i++)
-        for (size_t k = 0; k < sizeof names / sizeof names[0]; k++)
-            compare_table((struct bytes){(const uint8_t *)tables[i], strlen(tables[i])}, (struct bytes){(const uint8_t *)names[k], strlen(names[k])});
+        for (size_t k = 0; k < sizeof names / sizeof names[0]; k++) {
+            struct keys keys = keys_of((struct bytes){(const uint8_t *)tables[i], strlen(tables[i])});
+            compare_table(&keys, (struct bytes){(const uint8_t *)names[k], strlen(names[k])});
+        }
 }
 
-static void every_edit_of(struct bytes text, size_t n, size_t length, struct bytes identity, struct bytes key)
+/* Each kind, of the text's first bytes and this list, in memory of n bytes. */
+static void every_kind(struct bytes text, size_t n, size_t length, const struct starts *list, struct bytes identity, struct bytes key)
 {
     static struct memory m;
     for (enum edit kind = ADD; kind <= RETIRE; kind++) {
-        memory_set(&m, text, n);
+        memory_set(&m, text, n, list);
         m.length = length;
         memory_edit(&m, kind, identity, key);
     }
 }
 
+/* The same with the list of these bytes. */
+static void every_edit_of(struct bytes text, size_t n, size_t length, struct bytes identity, struct bytes key)
+{
+    struct starts list = starts_in((struct bytes){text.at, length < text.n ? length : text.n}, 1);
+    every_kind(text, n, length, &list, identity, key);
+}
+
+static const uint8_t lines[] = "a:00\nbc:AbCd\nd:ffff00\n", names[] = "abcde";
+static const struct bytes text_of_lines = {lines, sizeof lines - 1};
+
 /* Of three lines: each length of the memory and of the table in it, each identity of one or two bytes. Of two: each length of a key for each. */
 void every_edit(void)
 {
-    static const uint8_t lines[] = "a:00\nbc:AbCd\nd:ffff00\n", names[] = "abcde";
-    struct bytes text = {lines, sizeof lines - 1};
+    struct bytes text = text_of_lines;
     for (size_t n = 0; n < text.n + 12; n++)
         for (size_t length = 0; length < n + 4; length++)
             for (size_t i = 0; i < 5; i++)
@@ -243,4 +304,43 @@ void every_edit(void)
             struct bytes two = full_table(6, 2, 60 + 2 * old, key % 2, old);
             every_edit_of(two, two.n + 2 * key + 3, two.n, odd_name, drawn(0, key));
         }
+}
+
+/* Whatever is given this list beside the three lines: lookups and edits of each identity, and of one that is a part of another's. */
+static void every_use_of(const struct starts *list)
+{
+    struct keys keys = {text_of_lines, *list};
+    for (size_t i = 0; i < 5; i++) {
+        struct bytes name = {names + i, i == 1 ? 2 : 1};
+        compare_lookup(&keys, name);
+        every_kind(keys.text, keys.text.n + 10, keys.text.n, list, name, drawn(0, 2));
+    }
+    compare_lookup(&keys, (struct bytes){lines, 7}); /* as far as the second line's colon */
+    every_kind(keys.text, keys.text.n, keys.text.n, list, (struct bytes){names + 4, 1}, drawn(0, 2)); /* no memory for the line */
+    every_kind(keys.text, keys.text.n, keys.text.n - 1, list, (struct bytes){names, 1}, drawn(0, 0)); /* R2, and a key that is R5 */
+    every_kind(keys.text, keys.text.n, keys.text.n, list, (struct bytes){names, 1}, drawn(0, 0));
+}
+
+/* Beside three lines: lists of each length and count around their own, of these each number at every place, and every room for a list that is made. */
+void every_list(void)
+{
+    struct bytes text = text_of_lines;
+    for (size_t room = 0; room < 6; room++)
+        for (size_t count = 0; count < 7; count++) {
+            struct starts list = starts_in(text, 3);
+            list.n = room;
+            list.count = count;
+            every_use_of(&list);
+        }
+    for (size_t k = 0; k < 3; k++)
+        for (size_t at = 0; at < text.n + 3; at++) {
+            struct starts list = starts_in(text, 1);
+            list.at[k] = (uint32_t)at;
+            every_use_of(&list);
+            list.at[k] = (uint32_t)(UINT32_MAX - at);
+            every_use_of(&list);
+        }
+    for (size_t n = 0; n <= text.n; n++)
+        for (size_t room = 0; room < 5; room++)
+            compare_list((struct bytes){text.at, n}, room);
 }

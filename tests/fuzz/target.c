@@ -3,7 +3,7 @@
  * and every message, record and table goes to the readers too. The library is built without the fuzzer's instrumentation: it is the models' branches, which
  * are the papers', that lead it.
  *
- *   0 VECTOR2                                  the key table from here on
+ *   0 VECTOR2                                  the key table from here on, with its own list
  *   1 RULE VECTOR1 VECTOR1 VECTOR1             start with random, hint and stand-in key
  *   2 ROOM VECTOR2                             a message
  *   3                                          a change of cipher
@@ -21,6 +21,8 @@
  *   14 ROOM                                    a close_notify
  *   15 PLACE PLACE VECTOR1                     the last record again, on a copy of the connection with these bytes at a place
  *   16 SIDE BACK                               a direction's number, so many before the last: SIDE 0 what is taken, 1 what is sent
+ *   17 ROOM COUNT PLACE BY                     another list from here on: the table's own in memory for ROOM numbers more, its count COUNT more, and the
+ *                                              number at PLACE moved BY so much (the last and the second are signed bytes)
  *
  * VECTORn: a length of n bytes and so many bytes, or what there is left of the input. Built without libFuzzer it runs on files or on standard input.
  */
@@ -35,7 +37,8 @@
 int LLVMFuzzerTestOneInput(const uint8_t *data, size_t size);
 
 struct series {
-    struct bytes rest, table, message;
+    struct bytes rest, message;
+    struct keys keys;
     struct pair pair;
     struct memory memory; /* of the table, once it was edited */
     struct record_pair records;
@@ -87,10 +90,10 @@ static void do_message(struct series *s)
     size_t room = next_byte(s);
     s->message = next_vector(s, 2);
     compare_readers(s->message);
-    pair_message(&s->pair, s->table, s->message, room);
+    pair_message(&s->pair, &s->keys, s->message, room);
     if (s->message.n >= 6) { /* what would be a ClientKeyExchange's identity */
         struct bytes identity = {s->message.at + 6, s->message.n - 6};
-        compare_table(s->table, identity);
+        compare_table(&s->keys, identity);
         compare_utf8(identity);
     }
 }
@@ -109,7 +112,7 @@ static struct bytes next_finished(struct series *s, const struct server *model)
 static void do_finished(struct series *s)
 {
     size_t room = next_byte(s);
-    pair_message(&s->pair, s->table, next_finished(s, &s->pair.model), room);
+    pair_message(&s->pair, &s->keys, next_finished(s, &s->pair.model), room);
 }
 
 /* A copy of n bytes, with those of the input at a place. */
@@ -125,7 +128,7 @@ static void do_probe(struct series *s)
 {
     uint8_t connection[TN_CONNECTION_SIZE];
     next_damage(s, connection, s->pair.connection, sizeof connection);
-    probe(connection, s->table, s->message, TN_FLIGHT_SIZE);
+    probe(connection, &s->keys, s->message, TN_FLIGHT_SIZE);
 }
 
 static void take_record(struct series *s, struct bytes record, size_t memory, size_t room)
@@ -133,7 +136,7 @@ static void take_record(struct series *s, struct bytes record, size_t memory, si
     const struct direction *d = &s->records.model.reading;
     s->record = record;
     compare_record(d->key, d->number, record);
-    record_take(&s->records, s->table, record, memory, room);
+    record_take(&s->records, &s->keys, record, memory, room);
 }
 
 /* A record that a client would send; it stays for do_record_probe. */
@@ -177,8 +180,8 @@ static void do_record_probe(struct series *s)
     struct bytes held = {memory, sizeof memory};
     next_damage(s, connection, s->records.connection, sizeof connection);
     memcpy(memory, m->held, m->held_n < sizeof memory ? m->held_n : sizeof memory);
-    record_probe(connection, s->table, s->record, held, TN_RECORD_ANSWER);
-    record_probe_unwritten(connection, s->table, s->record, held, TN_RECORD_ANSWER);
+    record_probe(connection, &s->keys, s->record, held, TN_RECORD_ANSWER);
+    record_probe_unwritten(connection, &s->keys, s->record, held, TN_RECORD_ANSWER);
 }
 
 static void do_record_call(struct series *s, uint8_t which)
@@ -203,23 +206,47 @@ static void do_record_call(struct series *s, uint8_t which)
     }
 }
 
+/* A byte that may stand for fewer. */
+static size_t next_signed(struct series *s)
+{
+    size_t more = next_byte(s);
+    return more < 128 ? more : more - 256;
+}
+
 static void do_edit(struct series *s)
 {
     enum edit kind = (enum edit)(next_byte(s) % 3);
-    size_t room = next_byte(s), more = next_byte(s);
+    size_t room = next_byte(s), more = next_signed(s);
     struct bytes identity = next_vector(s, 1), key = next_vector(s, 1);
-    memory_set(&s->memory, s->table, s->table.n + room);
-    s->memory.length += more < 128 ? more : more - 256;
+    memory_set(&s->memory, s->keys.text, s->keys.text.n + room, &s->keys.list);
+    s->memory.length += more;
     if (memory_edit(&s->memory, kind, identity, key) >= 0)
-        s->table = (struct bytes){s->memory.bytes, s->memory.length};
-    compare_table(s->table, identity);
+        s->keys = (struct keys){{s->memory.bytes, s->memory.length}, s->memory.list};
+    compare_table(&s->keys, identity);
+}
+
+static void do_table(struct series *s)
+{
+    struct bytes text = next_vector(s, 2);
+    s->keys = (struct keys){text, starts_in(text, TN_TABLE_LINES)};
+    compare_table(&s->keys, s->message);
+}
+
+static void do_list(struct series *s)
+{
+    struct starts *l = &s->keys.list;
+    *l = starts_in(s->keys.text, next_byte(s));
+    l->count += next_signed(s);
+    size_t place = next_byte(s), by = next_signed(s);
+    l->at[place] += (uint32_t)by;
+    compare_table(&s->keys, s->message);
 }
 
 static void do_call(struct series *s)
 {
-    uint8_t which = next_byte(s) % 17;
+    uint8_t which = next_byte(s) % 18;
     switch (which) {
-    case 0: s->table = next_vector(s, 2); compare_table(s->table, s->message); break;
+    case 0: do_table(s); break;
     case 1: do_start(s); break;
     case 2: do_message(s); break;
     case 3: pair_change(&s->pair); break;
@@ -232,6 +259,7 @@ static void do_call(struct series *s)
     case 6: do_probe(s); break;
     case 7: compare_extensions(next_vector(s, 2)); break;
     case 8: do_edit(s); break;
+    case 17: do_list(s); break;
     default: do_record_call(s, which);
     }
 }
@@ -248,8 +276,8 @@ int LLVMFuzzerTestOneInput(const uint8_t *data, size_t size)
     run_seed = seed;
     draw_from(seed); /* where lent memory lies, and what it holds */
     memset(&s, 0, sizeof s);
-    s.table = s.message = s.record = (struct bytes){&nothing, 0};
-    s.rest = size > 0 ? (struct bytes){data, size} : s.table;
+    s.keys.text = s.message = s.record = (struct bytes){&nothing, 0};
+    s.rest = size > 0 ? (struct bytes){data, size} : s.message;
     while (s.rest.n > 0)
         do_call(&s);
     return 0;
