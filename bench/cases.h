@@ -7,6 +7,7 @@ void bench_handshake(void);
 void bench_parts(void);
 void bench_hellos(void);
 void bench_logins(void);
+void bench_tables(void);
 void bench_edits(void);
 void bench_records(void);
 void bench_sessions(void);

@@ -18,27 +18,40 @@ enum { QUARTER, QUARTER_LEAST, WHOLE, LEAST, KINDS }; /* the subjects of each ed
 #define AIM 1.3
 
 static uint8_t memory[TN_TABLE_LIMIT + MOVED], identity[IDENTITY + 1];
+static uint32_t starts[TN_TABLE_LINES];
+static size_t count;
 static const uint8_t key[TN_PSK_LIMIT] = {0xAB, 0xCD};
 static const struct edit *current;
 
 static int32_t call_add(void)
 {
-    return tn_table_add(memory, TN_TABLE_LIMIT, current->size, identity, IDENTITY, key, current->key);
+    return tn_table_add(memory, TN_TABLE_LIMIT, current->size, starts, TN_TABLE_LINES, &count, identity, IDENTITY, key, current->key);
 }
 
 static int32_t call_replace(void)
 {
-    return tn_table_replace(memory, TN_TABLE_LIMIT, current->size, identity, IDENTITY, key, current->key);
+    return tn_table_replace(memory, TN_TABLE_LIMIT, current->size, starts, TN_TABLE_LINES, &count, identity, IDENTITY, key, current->key);
 }
 
 static int32_t call_retire(void)
 {
-    return tn_table_retire(memory, TN_TABLE_LIMIT, current->size, identity, IDENTITY);
+    return tn_table_retire(memory, TN_TABLE_LIMIT, current->size, starts, TN_TABLE_LINES, &count, identity, IDENTITY);
 }
 
 int32_t edit_test(void)
 {
     return tn_table_test(memory, current->size);
+}
+
+int32_t edit_list(void)
+{
+    return tn_table_list(memory, current->size, starts, TN_TABLE_LINES);
+}
+
+int32_t edit_look_up(void)
+{
+    uint8_t found[TN_PSK_LIMIT];
+    return tn_table_lookup(memory, current->size, starts, TN_TABLE_LINES, count, identity, IDENTITY, found, sizeof found);
 }
 
 struct edit edits[EDITS] = {
@@ -68,6 +81,7 @@ static void fill(struct edit *e)
     e->size = 0;
     for (size_t line = 0; line < e->lines; line++) {
         size_t digits = 2 * (line == 0 ? e->first_key : LONG);
+        e->starts[line] = (uint32_t)e->size;
         identity_of(line, e->text + e->size);
         e->size += IDENTITY;
         e->text[e->size++] = ':';
@@ -90,6 +104,8 @@ void edit_ready(const struct edit *e)
     current = e;
     identity_of(e->line, identity);
     memcpy(memory, e->text, e->size);
+    memcpy(starts, e->starts, sizeof starts);
+    count = e->lines;
 }
 
 static double sample_edit(void *state)

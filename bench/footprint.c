@@ -8,10 +8,10 @@
 
 void (*const volatile footprint[])(void) = {
 #if CALLS & 1
-    CALL(tn_start), CALL(tn_message), CALL(tn_change_of_cipher), CALL(tn_alert), CALL(tn_phase), CALL(tn_suite), CALL(tn_key_block), CALL(tn_table_test),
+    CALL(tn_start), CALL(tn_message), CALL(tn_change_of_cipher), CALL(tn_alert), CALL(tn_phase), CALL(tn_suite), CALL(tn_key_block), CALL(tn_table_list),
 #endif
 #if CALLS & 2
-    CALL(tn_record_start), CALL(tn_take_record), CALL(tn_send_data), CALL(tn_send_close), CALL(tn_closing_alert), CALL(tn_record_phase), CALL(tn_table_test),
+    CALL(tn_record_start), CALL(tn_take_record), CALL(tn_send_data), CALL(tn_send_close), CALL(tn_closing_alert), CALL(tn_record_phase), CALL(tn_table_list),
 #endif
 #if CALLS == 3
     CALL(tn_read_record), CALL(tn_write_record), CALL(tn_seal_record), CALL(tn_open_record), CALL(tn_message_end),
@@ -20,7 +20,7 @@ void (*const volatile footprint[])(void) = {
     CALL(tn_write_server_hello_done), CALL(tn_write_finished), CALL(tn_write_new_session_ticket), CALL(tn_write_extension), CALL(tn_write_ticket_extension),
     CALL(tn_read_client_hello), CALL(tn_read_server_hello), CALL(tn_read_server_key_exchange), CALL(tn_read_client_key_exchange), CALL(tn_read_finished),
     CALL(tn_read_server_hello_done), CALL(tn_read_new_session_ticket), CALL(tn_next_extension), CALL(tn_table_lookup), CALL(tn_table_add),
-    CALL(tn_table_replace), CALL(tn_table_retire), CALL(tn_valid_utf8),
+    CALL(tn_table_replace), CALL(tn_table_retire), CALL(tn_table_test), CALL(tn_valid_utf8),
 #endif
     0,
 };

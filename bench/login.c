@@ -10,6 +10,15 @@ enum { FIRST_TYPE = 100, MESSAGES = 4, CLIENT = 3 /* messages before the client'
 
 static const uint8_t stand_in[TN_STAND_IN_SIZE] = {1};
 
+void gates_set(struct gates *g, const void *text, size_t size)
+{
+    g->text = text;
+    g->size = size;
+    int32_t count = tn_table_list(g->text, size, g->starts, TN_TABLE_LINES);
+    must(count >= 0, "the table is not well formed");
+    g->count = (size_t)count;
+}
+
 void login_plain_hello(struct login *l, uint16_t suite, size_t block_len, size_t step)
 {
     static uint8_t block[TN_MESSAGE_LIMIT];
@@ -26,29 +35,38 @@ void login_plain_hello(struct login *l, uint16_t suite, size_t block_len, size_t
     l->suite = suite;
 }
 
-void login_name(struct login *l, const char *identity)
+void login_name(struct login *l, const char *identity, const struct gates *gates)
 {
+    l->gates = gates;
     int32_t n = tn_write_client_key_exchange((const uint8_t *)identity, strlen(identity), l->key_exchange, sizeof l->key_exchange);
     must(n > 0, "the key exchange can't be written");
     l->key_exchange_len = (size_t)n;
+}
+
+/* The server's call for a message. */
+static int32_t hand_over(struct login *l, const uint8_t *message, size_t n, uint8_t out[TN_FLIGHT_SIZE])
+{
+    static const struct gates none = {.text = stand_in}; /* for a hello, which needs no table */
+    const struct gates *g = l->gates != NULL ? l->gates : &none;
+    return tn_message(l->connection, g->text, g->size, g->starts, TN_TABLE_LINES, g->count, message, n, out, TN_FLIGHT_SIZE, l->master);
 }
 
 int login_open(struct login *l, uint8_t rule)
 {
     if (tn_start(l->connection, l->random, sizeof l->random, stand_in, 0, stand_in, sizeof stand_in, rule) != 0)
         return 0;
-    int32_t n = tn_message(l->connection, stand_in, 0, l->hello, l->hello_len, l->flight, sizeof l->flight, l->master);
+    int32_t n = hand_over(l, l->hello, l->hello_len, l->flight);
     l->flight_len = n > 0 ? (size_t)n : 0;
     return n > 0;
 }
 
-int login_close(struct login *l, const char *table, size_t table_len)
+int login_close(struct login *l)
 {
-    const uint8_t *lines = (const uint8_t *)table, *client_random = l->hello + TN_HELLO_RANDOM_AT;
-    return tn_message(l->connection, lines, table_len, l->key_exchange, l->key_exchange_len, l->answer, sizeof l->answer, l->master) == 0
+    const uint8_t *client_random = l->hello + TN_HELLO_RANDOM_AT;
+    return hand_over(l, l->key_exchange, l->key_exchange_len, l->answer) == 0
            && tn_key_block(l->master, sizeof l->master, l->random, sizeof l->random, client_random, TN_RANDOM_SIZE, l->suite, l->keys, sizeof l->keys) > 0
            && tn_change_of_cipher(l->connection) == 0
-           && tn_message(l->connection, lines, table_len, l->finished, sizeof l->finished, l->answer, sizeof l->answer, l->master) == TN_FINISHED_SIZE;
+           && hand_over(l, l->finished, sizeof l->finished, l->answer) == TN_FINISHED_SIZE;
 }
 
 /* The Finished of a side, over the first so many messages. */

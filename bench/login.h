@@ -9,7 +9,19 @@
 
 enum { KEY_EXCHANGE_LIMIT = 6 + TN_IDENTITY_LIMIT };
 
+/* A key table and its list, as the server keeps them. */
+struct gates {
+    const uint8_t *text;
+    size_t size;
+    uint32_t starts[TN_TABLE_LINES];
+    size_t count;
+};
+
+/* Sets them to this text, which stays where it is, and its list. */
+void gates_set(struct gates *g, const void *text, size_t size);
+
 struct login {
+    const struct gates *gates;              /* the server's */
     uint16_t suite;                         /* that the server chooses */
     uint8_t connection[TN_CONNECTION_SIZE]; /* the server's */
     uint8_t random[TN_RANDOM_SIZE];         /* the server's */
@@ -28,12 +40,12 @@ struct login {
 /* Sets a hello with this suite and an extension block of so many bytes, none for 0, of four-byte extensions whose types are `step` apart. */
 void login_plain_hello(struct login *l, uint16_t suite, size_t block_len, size_t step);
 
-/* Sets the ClientKeyExchange of an identity. */
-void login_name(struct login *l, const char *identity);
+/* Sets the ClientKeyExchange of an identity, and the server's gates, which stay where they are. */
+void login_name(struct login *l, const char *identity, const struct gates *gates);
 
 /* The server's calls of one login, each true where it was accepted. Between the two groups the client finds its Finished. */
 int login_open(struct login *l, uint8_t rule);
-int login_close(struct login *l, const char *table, size_t table_len);
+int login_close(struct login *l);
 
 /* The client's master secret, under the key. */
 void login_master(const struct login *l, const uint8_t *key, size_t key_len, uint8_t master[TN_MASTER_SIZE]);

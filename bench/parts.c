@@ -13,12 +13,12 @@ enum { SAMPLES = 7, PHASES = TN_PHASE_COMPLETE + 1 };
 static struct login login;
 static uint8_t awaiting[PHASES][TN_CONNECTION_SIZE]; /* the connection in each phase */
 static uint8_t scratch[TN_CONNECTION_SIZE];
-static const char table[] = PEER_TABLE;
 
 static int32_t hand_over(const uint8_t *message, size_t n)
 {
     uint8_t out[TN_FLIGHT_SIZE], master[TN_MASTER_SIZE];
-    return tn_message(scratch, (const uint8_t *)table, sizeof table - 1, message, n, out, sizeof out, master);
+    const struct gates *g = &peer_gates;
+    return tn_message(scratch, g->text, g->size, g->starts, TN_TABLE_LINES, g->count, message, n, out, sizeof out, master);
 }
 
 static int32_t call_start(void)
@@ -72,7 +72,7 @@ void parts_prepare(void)
 {
     start_openssl();
     login.hello_len = openssl_hello(login.hello);
-    login_name(&login, PEER_IDENTITY);
+    login_name(&login, PEER_IDENTITY, &peer_gates);
     must(login_open(&login, TN_RULE_TELL), "our server refuses the hello");
     login_finish(&login, peer_key, sizeof peer_key);
     for (size_t i = 0; i < PARTS - 1; i++) {

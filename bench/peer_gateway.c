@@ -17,6 +17,7 @@ void start_gateway(void)
     settings.rule = TN_RULE_TELL;
     settings.table_len = strlen(PEER_TABLE);
     memcpy(settings.table, PEER_TABLE, settings.table_len);
+    settings.lines = (size_t)tn_table_list(settings.table, settings.table_len, settings.starts, TN_TABLE_LINES);
 }
 
 /* Takes what the client wrote, then hands over what the gateway answers. */

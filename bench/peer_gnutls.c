@@ -35,6 +35,14 @@ void start_gnutls(void)
     gnutls_psk_set_server_credentials_function(server_credentials, server_key);
 }
 
+void *gnutls_keys_of(const char *file)
+{
+    gnutls_psk_server_credentials_t credentials;
+    must(gnutls_psk_allocate_server_credentials(&credentials) == 0 && gnutls_psk_set_server_credentials_file(credentials, file) == 0,
+         "GnuTLS's file of keys");
+    return credentials;
+}
+
 const char *version_of_gnutls(void)
 {
     return gnutls_check_version(NULL);
@@ -74,13 +82,12 @@ static void connect_end(struct end *e, unsigned int side, void *credentials)
 
 double sample_gnutls(void *state)
 {
-    (void)state;
     struct wire up = {.end = 0}, down = {.end = 0};
     struct end server = {NULL, &up, &down}, client = {NULL, &down, &up};
     connect_end(&client, GNUTLS_CLIENT, client_credentials);
     (void)gnutls_handshake(client.session);
     double from = now();
-    connect_end(&server, GNUTLS_SERVER, server_credentials);
+    connect_end(&server, GNUTLS_SERVER, state != NULL ? state : server_credentials);
     (void)gnutls_handshake(server.session);
     double taken = now() - from;
     (void)gnutls_handshake(client.session);

@@ -2,16 +2,22 @@
 #include "login.h"
 #include "peers.h"
 
+const struct gates peer_gates = {.text = (const uint8_t *)PEER_TABLE, .size = sizeof PEER_TABLE - 1, .starts = {0}, .count = 1};
 static struct login with_extensions, bare;
+
+void ours_prepare(struct login *l, const struct gates *gates)
+{
+    l->hello_len = openssl_hello(l->hello);
+    l->suite = TN_SUITE_PSK_AES_128_CBC_SHA256;
+    login_name(l, PEER_IDENTITY, gates);
+}
 
 void start_ours(void)
 {
     start_openssl();
-    with_extensions.hello_len = openssl_hello(with_extensions.hello);
-    with_extensions.suite = TN_SUITE_PSK_AES_128_CBC_SHA256;
+    ours_prepare(&with_extensions, &peer_gates);
     login_plain_hello(&bare, TN_SUITE_PSK_AES_128_CBC_SHA256, 0, 0);
-    login_name(&with_extensions, PEER_IDENTITY);
-    login_name(&bare, PEER_IDENTITY);
+    login_name(&bare, PEER_IDENTITY, &peer_gates);
 }
 
 int ours_open(struct login *l)
@@ -24,27 +30,25 @@ static void finish(struct login *l)
     login_finish(l, peer_key, sizeof peer_key);
 }
 
-int ours_close(struct login *l)
-{
-    static const char table[] = PEER_TABLE;
-    return login_close(l, table, sizeof table - 1);
-}
-
 int ours_agrees(struct login *l)
 {
     return login_agrees(l, peer_key, sizeof peer_key);
 }
 
-static const struct serving serving = {ours_open, finish, ours_close, ours_agrees};
+double sample_ours_login(void *state)
+{
+    static const struct serving serving = {ours_open, finish, login_close, ours_agrees};
+    return login_sample(state, &serving);
+}
 
 double sample_ours(void *state)
 {
     (void)state;
-    return login_sample(&with_extensions, &serving);
+    return sample_ours_login(&with_extensions);
 }
 
 double sample_ours_bare(void *state)
 {
     (void)state;
-    return login_sample(&bare, &serving);
+    return sample_ours_login(&bare);
 }

@@ -16,7 +16,6 @@ struct record {
     size_t size;
 };
 
-static const char table[] = PEER_TABLE;
 static const uint8_t zeros[TN_STAND_IN_SIZE];
 static uint8_t content[TN_RECORD_CONTENT_LIMIT];
 
@@ -38,7 +37,9 @@ static void put(struct record *r, struct protection *p, enum record_type type, c
 
 static int32_t take(const struct record *r)
 {
-    return tn_take_record(connection, (const uint8_t *)table, sizeof table - 1, r->bytes, r->size, memory, sizeof memory, out, TN_RECORD_ANSWER, master, told);
+    const struct gates *g = &peer_gates;
+    return tn_take_record(connection, g->text, g->size, g->starts, TN_TABLE_LINES, g->count, r->bytes, r->size, memory, sizeof memory, out, TN_RECORD_ANSWER,
+                          master, told);
 }
 
 /* ---- a login */
@@ -98,7 +99,7 @@ static int records_agree(struct login *l)
 
 static int messages_close(struct login *l)
 {
-    return ours_close(l) && tn_open_record(l->keys, 0, finished.bytes, finished.size) == TN_FINISHED_SIZE
+    return login_close(l) && tn_open_record(l->keys, 0, finished.bytes, finished.size) == TN_FINISHED_SIZE
            && tn_seal_record(l->keys + TN_RECORD_MAC_SIZE, 0, RECORD_HANDSHAKE, l->answer, TN_FINISHED_SIZE, out, sizeof out) == SEALED_FINISHED;
 }
 
@@ -106,7 +107,7 @@ static int libcrypto_close(struct login *l)
 {
     struct protection client, server;
     size_t at, n;
-    return ours_close(l) && protection_cut(suite_of(l->suite), l->keys, 2 * TN_RECORD_MAC_SIZE, &client, &server)
+    return login_close(l) && protection_cut(suite_of(l->suite), l->keys, 2 * TN_RECORD_MAC_SIZE, &client, &server)
            && record_open(&client, finished.bytes, finished.size, &at, &n) == RECORD_OPENED
            && record_seal(&server, RECORD_HANDSHAKE, l->answer, TN_FINISHED_SIZE, out, sizeof out) == SEALED_FINISHED;
 }
@@ -235,7 +236,7 @@ static void make_messages(void)
     static const uint8_t one = 1;
     login_plain_hello(&login, TN_SUITE_PSK_NULL_SHA256, EXTENSIONS, 1);
     login_plain_hello(&large, TN_SUITE_PSK_NULL_SHA256, TN_MESSAGE_LIMIT - EXTENSIONS, 1);
-    login_name(&login, PEER_IDENTITY);
+    login_name(&login, PEER_IDENTITY, &peer_gates);
     put(&hello, &unprotected, RECORD_HANDSHAKE, login.hello, login.hello_len);
     put(&key_exchange, &unprotected, RECORD_HANDSHAKE, login.key_exchange, login.key_exchange_len);
     put(&change, &unprotected, RECORD_CHANGE_CIPHER_SPEC, &one, 1);

@@ -18,7 +18,7 @@
 
 enum { STACK = 1 << 20, PAINT = 0xA5, OWN = 256 /* bytes below the painter's frame that it needs itself */ };
 enum { AIM = 1024 /* bytes of an edit beyond those of the table's test */, RECORD_AIM = 26624 /* of any call on records */ };
-enum { LARGE = PARTS, TEST, EDIT, SESSION = EDIT + EDITS, NOTHING = SESSION + SESSION_PARTS, MEASURED }; /* the calls behind the parts */
+enum { LARGE = PARTS, TEST, MAKE_LIST, LOOKUP, EDIT, SESSION = EDIT + EDITS, NOTHING = SESSION + SESSION_PARTS, MEASURED }; /* the calls behind the parts */
 
 static uint8_t *stack;
 static struct login large;
@@ -59,8 +59,10 @@ static void *run_calls(void *state)
     touched_by(parts, PARTS, sizes);
     touched_by(session_parts, SESSION_PARTS, sizes + SESSION);
     sizes[LARGE] = touched(call_large_hello);
-    edit_ready(&edits[0]);
+    edit_ready(&edits[EDITS - 1]);
     sizes[TEST] = touched(edit_test);
+    sizes[MAKE_LIST] = touched(edit_list);
+    sizes[LOOKUP] = touched(edit_look_up);
     for (size_t i = 0; i < EDITS; i++) {
         edit_ready(&edits[i]);
         sizes[EDIT + i] = touched(edits[i].call);
@@ -81,13 +83,17 @@ static int is_session(size_t i)
 
 static const char *name_of(size_t i)
 {
+    static const char *const others[] = {
+        [LARGE] = "start and a ClientHello of 16 KiB", [TEST] = "the table's test", [MAKE_LIST] = "the table's list", [LOOKUP] = "a lookup",
+        [NOTHING] = "no call",
+    };
     if (i < PARTS)
         return parts[i].name;
     if (is_edit(i))
         return edits[i - EDIT].name;
     if (is_session(i))
         return session_parts[i - SESSION].name;
-    return i == LARGE ? "start and a ClientHello of 16 KiB" : i == TEST ? "the table's test" : "no call";
+    return others[i];
 }
 
 static int takes_record(size_t i)
