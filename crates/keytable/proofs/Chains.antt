@@ -18,7 +18,7 @@ use Rattle.lists.proofs.Every.{every-map}
 use Rattle.keytable.specs.Table.{colon, past, upto, identityOf, keyText, validIdentity, validLine}
 use Rattle.keytable.specs.WellFormed.{Plain}
 use Rattle.keytable.specs.Starts.{lineAt}
-use Rattle.keytable.specs.Inner.{identityAt, earlier, isSome, bucket, bucketAt, Latest, Linked, Chained, Heads}
+use Rattle.keytable.specs.Inner.{identityAt, earlier, isSome, bucket, tagOf, bucketAt, Latest, Linked, Chained, Heads}
 use Rattle.keytable.proofs.Tests.{identity-sound}
 use Rattle.keytable.proofs.Texts.{Without, upto-append, valid-parted}
 use Rattle.keytable.proofs.Lookups.{own-text}
@@ -55,6 +55,10 @@ pub record Walked (t starts identity : List ℕ) (n c : ℕ) : Type 0 where
 module _ (t starts identity : List ℕ) (n : ℕ) where
   other-bucket : (k : ℕ) → ¬ (bucketAt t starts k ≡ bucket identity) → same identity (identityAt t (getD starts k 0)) ≡ false
   other-bucket k h = same-not identity _ (λ e. h (ap bucket (sym e)))
+
+  pub other-tag : (k g h : ℕ) → h ≡ tagOf (identityAt t (getD starts k 0)) → g ≡ tagOf identity → ¬ (h ≡ g)
+      → same identity (identityAt t (getD starts k 0)) ≡ false
+  other-tag k g h is own other = same-not identity _ (λ e. other (is ∙ ap tagOf (sym e) ∙ sym own))
 
   pub walk-begins : (c : ℕ) → Latest t starts n c (bucket identity) → Walked t starts identity n c
   walk-begins c l =
@@ -105,15 +109,17 @@ module _ (t starts : List ℕ) (at n : ℕ) (room : n < length starts) where
         none-after = λ k after below e. l .none-after k after below (sym (bucket-kept k (omega arith)) ∙ e);
       }
 
-  pub chained-more : (links : List ℕ) (c : ℕ) → n < length links → at < length t → validLine (lineAt t at) ≡ true
-      → Latest t starts n c (bucket (identityAt t at)) → Chained t starts links n → Chained t more (set links n c) (n + 1)
-  chained-more links c linked inside valid head now k below = go (ℕ-discrete k n)
+  pub chained-more : (tags links : List ℕ) (g c : ℕ) → n < length tags → n < length links → at < length t → validLine (lineAt t at) ≡ true
+      → g ≡ tagOf (identityAt t at) → Latest t starts n c (bucket (identityAt t at)) → Chained t starts tags links n
+      → Chained t more (set tags n g) (set links n c) (n + 1)
+  chained-more tags links g c marked linked inside valid own head now k below = go (ℕ-discrete k n)
     where
-      go : Dec (k ≡ n) → Linked t more (set links n c) k
+      go : Dec (k ≡ n) → Linked t more (set tags n g) (set links n c) k
       go (yes e) =
           rw e (record {
             inside = rw start-new inside;
             valid = rw start-new valid;
+            tagged = rw (getD-set-same tags n g 0 marked, start-new) own;
             link = rw (getD-set-same links n c 0 linked, start-new) (latest-kept n c _ (omega arith) head);
           })
       go (no e) =
@@ -121,6 +127,7 @@ module _ (t starts : List ℕ) (at n : ℕ) (room : n < length starts) where
           record {
             inside = rw (start-kept k (omega arith)) (one .inside);
             valid = rw (start-kept k (omega arith)) (one .valid);
+            tagged = rw (getD-set-other tags n k g 0 e, start-kept k (omega arith)) (one .tagged);
             link = rw (getD-set-other links n k c 0 e, start-kept k (omega arith)) (latest-kept k _ _ (omega arith) (one .link));
           }
 

@@ -15,7 +15,7 @@ use Rattle.keytable.specs.declared.checks.Line.the-variants.{Parts, Bad}
 use Rattle.keytable.specs.declared.scan.Scanned.the-variants.{Lines, Unusable}
 use Rattle.keytable.specs.Table.{lineEnd, upto, lines, ended, identityOf, validLine, wellFormed}
 use Rattle.keytable.specs.Starts.{startsFrom, startsOf, lineAt}
-use Rattle.keytable.specs.Inner.{lineParts, identityAt, earlier, bucket, Latest, Chained, Heads, Scans}
+use Rattle.keytable.specs.Inner.{lineParts, identityAt, earlier, bucket, tagOf, Latest, Chained, Heads, Scans}
 use Rattle.keytable.proofs.Lines.{line-here, line-is, no-lines}
 use Rattle.keytable.proofs.Listed.{count-lines}
 use Rattle.keytable.proofs.Apart.{all-on, distinct-on, distinct-end}
@@ -82,28 +82,30 @@ pub bucket-small : (i : List ℕ) → bucket i < 256
 bucket-small i = omega arith
 
 -- n lines were passed, and at `at` the next one starts
-pub record Passed (t starts heads links : List ℕ) (n at : ℕ) : Type 0 where
+pub record Passed (t starts heads links tags : List ℕ) (n at : ℕ) : Type 0 where
   pub within : at ≤ length t
   pub few : n ≤ 256
   pub room : length starts ≡ 256
   pub heads-room : length heads ≡ 256
   pub links-room : length links ≡ 256
+  pub tags-room : length tags ≡ 256
   pub listed : startsOf t ≡ take n starts ++ startsFrom at (lines (drop at t))
   pub valid : each validLine (lines t) ≡ each validLine (lines (drop at t))
   pub identities : map identityOf (lines t) ≡ earlier t starts n ++ map identityOf (lines (drop at t))
   pub apart : distinct same (earlier t starts n) ≡ true
-  pub chained : Chained t starts links n
+  pub chained : Chained t starts tags links n
   pub latest : Heads t starts heads n
 
-pub none-passed : (t starts heads links : List ℕ) → length starts ≡ 256 → length heads ≡ 256 → length links ≡ 256 → ((b : ℕ) → getD heads b 0 ≡ 0)
-    → Passed t starts heads links 0 0
-none-passed t starts heads links room heads-room links-room zeros =
+pub none-passed : (t starts heads links tags : List ℕ) → length starts ≡ 256 → length heads ≡ 256 → length links ≡ 256 → length tags ≡ 256
+    → ((b : ℕ) → getD heads b 0 ≡ 0) → Passed t starts heads links tags 0 0
+none-passed t starts heads links tags room heads-room links-room tags-room zeros =
     record {
       within = omega arith;
       few = omega arith;
       room = room;
       heads-room = heads-room;
       links-room = links-room;
+      tags-room = tags-room;
       listed = refl;
       valid = refl;
       identities = refl;
@@ -118,7 +120,7 @@ zero-at zero b = refl
 zero-at (suc n) zero = refl
 zero-at (suc n) (suc b) = zero-at n b
 
-module _ (t starts heads links : List ℕ) (n at : ℕ) (now : Passed t starts heads links n at) (inside : at < length t) where
+module _ (t starts heads links tags : List ℕ) (n at : ℕ) (now : Passed t starts heads links tags n at) (inside : at < length t) where
   -- the lines from here on
   module _ (end : ℕ) (e : end ≡ at + length (lineAt t at)) where
     here : lines (drop at t) ≡ lineAt t at ∷ lines (drop (end + 1) t)
@@ -143,10 +145,10 @@ module _ (t starts heads links : List ℕ) (n at : ℕ) (now : Passed t starts h
     room-here : n < length starts
     room-here = omega (arith, now .room)
 
-    pub one-passed : (b c last : ℕ) → b ≡ bucket (identityAt t at) → c ≡ getD heads b 0 → last ≡ n + 1
+    pub one-passed : (b c last g : ℕ) → b ≡ bucket (identityAt t at) → c ≡ getD heads b 0 → last ≡ n + 1 → g ≡ tagOf (identityAt t at)
         → any (same (identityAt t at)) (earlier t starts n) ≡ false
-        → Passed t (set starts n at) (set heads b last) (set links n c) (n + 1) (end + 1)
-    one-passed b c last own latest-is is fresh =
+        → Passed t (set starts n at) (set heads b last) (set links n c) (set tags n g) (n + 1) (end + 1)
+    one-passed b c last g own latest-is is marked fresh =
         let ends = good .line-ends in
         let head : Latest t starts n c (bucket (identityAt t at)) = rw (latest-is, own) (now .latest (bucket (identityAt t at)) (bucket-small (identityAt t at))) in
         record {
@@ -155,6 +157,7 @@ module _ (t starts heads links : List ℕ) (n at : ℕ) (now : Passed t starts h
           room = simp length-set (now .room);
           heads-room = simp length-set (now .heads-room);
           links-room = simp length-set (now .links-room);
+          tags-room = simp length-set (now .tags-room);
           listed =
               listed-here end ends
               ∙ sym (append-assoc (take n starts) (at ∷ []) (startsFrom (end + 1) (lines (drop (end + 1) t))))
@@ -163,7 +166,9 @@ module _ (t starts heads links : List ℕ) (n at : ℕ) (now : Passed t starts h
           valid = each-here end ends ∙ rw (good .valid);
           identities = all-on t starts at end n inside ends (now .identities) room-here;
           apart = distinct-on t starts at end n inside ends (now .identities) room-here (now .apart) fresh;
-          chained = chained-more t starts at n room-here links c (omega (arith, now .links-room)) inside (good .valid) head (now .chained);
+          chained =
+              chained-more t starts at n room-here tags links g c (omega (arith, now .tags-room)) (omega (arith, now .links-room)) inside
+              (good .valid) marked head (now .chained);
           latest = rw own (heads-more t starts at n room-here heads last is (now .heads-room) (now .latest));
         }
 
@@ -192,7 +197,7 @@ module _ (t : List ℕ) (short : length t ≤ 65536) (last : ended t ≡ true) w
   one-twice h = formed-is ∙ simp (h, and-false)
 
   -- at the end of the table all lines were passed
-  module _ (starts heads links : List ℕ) (n at : ℕ) (now : Passed t starts heads links n at) (over : length t ≤ at) where
+  module _ (starts heads links tags : List ℕ) (n at : ℕ) (now : Passed t starts heads links tags n at) (over : length t ≤ at) where
     none-left : startsFrom at (lines (drop at t)) ≡ []
     none-left = ap (startsFrom at) (no-lines t at over)
 

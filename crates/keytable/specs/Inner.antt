@@ -1,6 +1,6 @@
 -- What the contracts of this crate's private functions cite, and no public contract does.
 use mathlib.Core.Path.{_≡_}
-use Prim.Native.Nat.{ℕ, suc, _+_, _*_, _%_, _≤_, _<_}
+use Prim.Native.Nat.{ℕ, suc, _+_, _*_, _/_, _%_, _≤_, _<_}
 use mathlib.Core.Bool.{Bool, true, false, cond, _&&_}
 use mathlib.Core.List.{List, [], _∷_, map}
 use mathlib.Core.Option.{Option, none, some}
@@ -68,6 +68,9 @@ fingerprint p (b ∷ s) = fingerprint (p % 67108864 * 33 + b) s
 abbrev pub bucket : List ℕ → ℕ
 bucket identity = fingerprint 0 identity % 256
 
+abbrev pub tagOf : List ℕ → ℕ
+tagOf identity = fingerprint 0 identity / 256 % 65536
+
 -- the bucket of the k-th line
 abbrev pub bucketAt : List ℕ → List ℕ → ℕ → ℕ
 bucketAt t starts k = bucket (identityAt t (getD starts k 0))
@@ -78,14 +81,15 @@ pub record Latest (t starts : List ℕ) (n latest bucket : ℕ) : Type 0 where
   pub in-it : (k : ℕ) → latest ≡ suc k → bucketAt t starts k ≡ bucket
   pub none-after : (k : ℕ) → latest ≤ k → k < n → ¬ (bucketAt t starts k ≡ bucket)
 
--- each of the first n lines is valid, and is linked to the latest before it in its bucket
-pub record Linked (t starts links : List ℕ) (k : ℕ) : Type 0 where
+-- each of the first n lines is valid, has its identity's tag, and is linked to the latest before it in its bucket
+pub record Linked (t starts tags links : List ℕ) (k : ℕ) : Type 0 where
   pub inside : getD starts k 0 < length t
   pub valid : validLine (lineAt t (getD starts k 0)) ≡ true
+  pub tagged : getD tags k 0 ≡ tagOf (identityAt t (getD starts k 0))
   pub link : Latest t starts k (getD links k 0) (bucketAt t starts k)
 
-abbrev pub Chained : List ℕ → List ℕ → List ℕ → ℕ → Type 0
-Chained t starts links n = (k : ℕ) → k < n → Linked t starts links k
+abbrev pub Chained : List ℕ → List ℕ → List ℕ → List ℕ → ℕ → Type 0
+Chained t starts tags links n = (k : ℕ) → k < n → Linked t starts tags links k
 
 -- for every bucket the latest line of the first n
 abbrev pub Heads : List ℕ → List ℕ → List ℕ → ℕ → Type 0

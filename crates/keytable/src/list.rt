@@ -17,7 +17,7 @@ use refusal::Written;
 pub fn well_formed(table: &[u8]) -> bool
     ensures { λ r. ⌜ r ≡ wellFormed (now (table .entry)) ⌝ }
 {
-    let mut own = [0u32; 256];
+    let mut own = [0u16; 256];
     match scan(table, &mut own) {
         Scanned::Lines(_) => true,
         Scanned::Unusable => false,
@@ -25,7 +25,7 @@ pub fn well_formed(table: &[u8]) -> bool
 }
 
 // The starts at the front of the lent list, or R1 where it is shorter than they are.
-fn put(own: &[u32], starts: &mut [u32]) -> Written
+fn put(own: &[u16], starts: &mut [u32]) -> Written
     ensures { λ r. ⌜ Answers (gives (now (own .entry))) (now (starts .entry)) r (now (starts .exit)) ⌝ }
 {
     let n = own.len();
@@ -34,7 +34,7 @@ fn put(own: &[u32], starts: &mut [u32]) -> Written
     }
     let mut i = 0;
     while i < n {
-        starts[i] = own[i];
+        starts[i] = own[i] as u32;
         i += 1;
     }
     Written::Wrote(n)
@@ -44,7 +44,7 @@ fn put(own: &[u32], starts: &mut [u32]) -> Written
 pub fn make_list(table: &[u8], starts: &mut [u32]) -> Written
     ensures { λ r. ⌜ Answers (listMade (now (table .entry))) (now (starts .entry)) r (now (starts .exit)) ⌝ }
 {
-    let mut own = [0u32; 256];
+    let mut own = [0u16; 256];
     match scan(table, &mut own) {
         Scanned::Lines(n) => put(&own[..n], starts),
         Scanned::Unusable => Written::Refused(Refusal::BadTable),
@@ -52,7 +52,7 @@ pub fn make_list(table: &[u8], starts: &mut [u32]) -> Written
 }
 
 // Whether the first `count` of the starts are those.
-fn same_list(starts: &[u32], count: usize, own: &[u32]) -> bool
+fn same_list(starts: &[u32], count: usize, own: &[u16]) -> bool
     ensures { λ r. ⌜ r ≡ (leb count (length (now (starts .entry))) && same (take count (now (starts .entry))) (now (own .entry))) ⌝ }
 {
     if starts.len() < count {
@@ -63,7 +63,7 @@ fn same_list(starts: &[u32], count: usize, own: &[u32]) -> bool
     }
     let mut i = 0;
     while i < count {
-        if starts[i] != own[i] {
+        if starts[i] != own[i] as u32 {
             return false;
         }
         i += 1;
@@ -76,7 +76,7 @@ fn same_list(starts: &[u32], count: usize, own: &[u32]) -> bool
 pub fn judge(table: &[u8], starts: &[u32], count: usize) -> Judged
     ensures { λ r. ⌜ r ≡ judged (listRefusal (now (table .entry)) (now (starts .entry)) count) ⌝ }
 {
-    let mut own = [0u32; 256];
+    let mut own = [0u16; 256];
     match scan(table, &mut own) {
         Scanned::Lines(n) => {
             if same_list(starts, count, &own[..n]) {

@@ -8,7 +8,7 @@ ghost use Rattle.keytable.specs.Inner.{Scans};
 use crate::checks::Line;
 use crate::checks::ended;
 use crate::checks::read_line;
-use crate::distinct::bucket;
+use crate::distinct::fingerprint;
 use crate::distinct::repeated;
 
 pub(crate) enum Scanned {
@@ -18,7 +18,7 @@ pub(crate) enum Scanned {
 }
 
 // The lines of a table that is short enough and ends in 0A, if it has bytes.
-fn scan_lines(table: &[u8], starts: &mut [u32; 256]) -> Scanned
+fn scan_lines(table: &[u8], starts: &mut [u16; 256]) -> Scanned
     requires { ⌜ length (now table) ≤ 65536 ⌝ }
     requires { ⌜ ended (now table) ≡ true ⌝ }
     requires { ⌜ length (now starts) ≡ 256 ⌝ }
@@ -26,6 +26,7 @@ fn scan_lines(table: &[u8], starts: &mut [u32; 256]) -> Scanned
 {
     let mut heads = [0u16; 256];
     let mut links = [0u16; 256];
+    let mut tags = [0u16; 256];
     let mut n = 0;
     let mut at = 0;
     while at < table.len() {
@@ -38,15 +39,27 @@ fn scan_lines(table: &[u8], starts: &mut [u32; 256]) -> Scanned
             }
             Line::Parts(colon, end) => {
                 let identity = &table[at..colon];
-                let b = bucket(identity);
-                let latest = heads[b];
-                if repeated(table, starts, &links, n, latest as usize, identity) {
+                let p = fingerprint(identity);
+                let bucket = (p % 256) as usize;
+                let tag = (p / 256 % 65536) as u16;
+                let latest = heads[bucket];
+                if repeated(
+                    table,
+                    starts,
+                    &tags,
+                    &links,
+                    n,
+                    latest as usize,
+                    identity,
+                    tag,
+                ) {
                     return Scanned::Unusable;
                 }
-                starts[n] = at as u32;
+                starts[n] = at as u16;
+                tags[n] = tag;
                 links[n] = latest;
                 n += 1;
-                heads[b] = n as u16;
+                heads[bucket] = n as u16;
                 at = end + 1;
             }
         }
@@ -55,7 +68,7 @@ fn scan_lines(table: &[u8], starts: &mut [u32; 256]) -> Scanned
 }
 
 // The lines of a table, and their starts at the front of `starts` if it is well formed.
-pub(crate) fn scan(table: &[u8], starts: &mut [u32; 256]) -> Scanned
+pub(crate) fn scan(table: &[u8], starts: &mut [u16; 256]) -> Scanned
     requires { ⌜ length (now starts) ≡ 256 ⌝ }
     ensures { λ r. ⌜ Scans (now (table .entry)) r (now (starts .exit)) ⌝ }
 {

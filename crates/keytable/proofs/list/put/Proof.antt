@@ -19,6 +19,9 @@ abbrev μ-loop : tie.MeasureT-loop
 returns : tie.Need-returns Inv-loop μ-loop
 returns c = short-answers _ _ (c .if1 .taken)
 
+cast-starts : tie.Need-cast-starts Inv-loop μ-loop
+cast-starts c = let small = c .shared-slice-known .given (c .before .before .loop .i) in omega (arith, small)
+
 loop-again : tie.Need-loop-again Inv-loop μ-loop
 loop-again c =
     let at = c .before .before in
@@ -50,6 +53,7 @@ put-spec =
     (λ c. search needs)
     (λ c. search needs)
     (λ c. search needs)
+    cast-starts
     (λ c. search needs)
     (λ c. search needs)
     (λ c. search needs)

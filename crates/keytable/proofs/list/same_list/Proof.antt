@@ -51,6 +51,9 @@ module _ (c : tie.In-loop Inv-loop μ-loop) where
   here : getD (front enough) place 0 ≡ getD (enough .before .args .starts .now) place 0
   here = getD-take (enough .before .args .count) (enough .before .args .starts .now) place 0 (search needs)
 
+cast-if3 : tie.Need-cast-if3 Inv-loop μ-loop
+cast-if3 c = let small = c .shared-slice-known2 .given (place (c .before .before)) in omega (arith, small)
+
 returns-3 : tie.Need-returns-3 Inv-loop μ-loop
 returns-3 c =
     let turn = c .before .before .before in
@@ -85,6 +88,7 @@ same-list-spec =
     (λ c. search needs)
     (λ c. search needs)
     (λ c. search needs)
+    cast-if3
     returns-3
     (λ c. search needs)
     (λ c. search needs)

@@ -2,7 +2,7 @@
 -- Assumes nothing.
 use borrow.Author.Needs.{needs}
 use mathlib.Core.Path.{_≡_, refl, sym, ap, _∙_}
-use Prim.Native.Nat.{ℕ, _-_, _≤_, _<_}
+use Prim.Native.Nat.{ℕ, _-_, _/_, _%_, _≤_, _<_}
 use native.Mathlib.Omega.{arith}
 use mathlib.Core.List.{List}
 use denote.Ref.{now}
@@ -10,7 +10,7 @@ use lib.ListN.{length, getD}
 use Rattle.lists.specs.Lists.{any, same, part}
 use Rattle.lists.proofs.Tests.{and-left}
 use Rattle.keytable.specs.Table.{validIdentity}
-use Rattle.keytable.specs.Inner.{identityAt, earlier, bucket, Latest}
+use Rattle.keytable.specs.Inner.{identityAt, earlier, fingerprint, bucket, tagOf, Latest}
 use Rattle.keytable.proofs.Apart.{identity-part, identity-within, some-line, distinct-stop}
 use Rattle.keytable.proofs.Scanning.{Good, line-good, line-bad, Passed, none-passed, zero-at, bucket-small, each-here, counted, one-passed}
 use Rattle.keytable.proofs.Scanning.{too-many, one-bad, one-twice, scanned, unusable}
@@ -18,13 +18,13 @@ use Rattle.keytable.proofs.scan.scan_lines.Statement.{statement}
 use Rattle.keytable.proofs.scan.scan_lines.Tie as tie
 
 abbrev Inv-loop : tie.InvT-loop
-Inv-loop table starts₀ heads₀ links₀ n₀ at₀ starts heads links n at = Passed table starts heads links n at
+Inv-loop table starts₀ heads₀ links₀ tags₀ n₀ at₀ starts heads links tags n at = Passed table starts heads links tags n at
 
 abbrev μ-loop : tie.MeasureT-loop
-μ-loop table starts₀ heads₀ links₀ n₀ at₀ starts heads links n at = length table - at
+μ-loop table starts₀ heads₀ links₀ tags₀ n₀ at₀ starts heads links tags n at = length table - at
 
 loop-holds : tie.Need-loop-holds Inv-loop μ-loop
-loop-holds c = none-passed _ _ _ _ (c .before .pre .1 .1) (search needs) (search needs) (zero-at 256)
+loop-holds c = none-passed _ _ _ _ _ (c .before .pre .1 .1) (search needs) (search needs) (search needs) (zero-at 256)
 
 -- a turn of the loop
 module _ (c : tie.In-loop Inv-loop μ-loop) where
@@ -37,7 +37,8 @@ module _ (c : tie.In-loop Inv-loop μ-loop) where
   abbrev place : ℕ
   place = c .before .loop .at
 
-  abbrev passed : Passed table (c .before .loop .starts) (c .before .loop .heads) (c .before .loop .links) (c .before .loop .n) place
+  abbrev passed : Passed table (c .before .loop .starts) (c .before .loop .heads) (c .before .loop .links) (c .before .loop .tags)
+      (c .before .loop .n) place
   passed = c .before .loop .inv
 
   inside : place < length table
@@ -47,7 +48,7 @@ returns : tie.Need-returns Inv-loop μ-loop
 returns c =
     let t = c .before in
     let one-left = some-line (table t) (place t) (inside t) in
-    let all = counted (table t) _ _ _ _ (place t) (passed t) (inside t) in
+    let all = counted (table t) _ _ _ _ _ (place t) (passed t) (inside t) in
     unusable _ _ (too-many (table t) (start t .pre .0) (start t .pre .1 .0) (omega (arith, c .if1 .taken)))
 
 returns-2 : tie.Need-returns-2 Inv-loop μ-loop
@@ -55,7 +56,7 @@ returns-2 c =
     let read = c .before .before in
     let t = read .before .before in
     let bad = line-bad (table t) (place t) (inside t) (start t .pre .1 .0) (sym (read .read-line .ensures) ∙ c .enum-told .given .1) in
-    let one = each-here (table t) _ _ _ _ (place t) (passed t) (inside t) _ refl in
+    let one = each-here (table t) _ _ _ _ _ (place t) (passed t) (inside t) _ refl in
     unusable _ _ (one-bad (table t) (start t .pre .0) (start t .pre .1 .0) (one ∙ rw bad))
 
 -- where the line has been read
@@ -85,48 +86,61 @@ part-identity-end : tie.Need-part-identity-end Inv-loop μ-loop
 part-identity-end c =
     omega (arith, good c .identity-ends, identity-within (table (turn c)) (place (turn c)) (omega (arith, inside (turn c))))
 
--- where its bucket is known
-module _ (c : tie.After-bucket Inv-loop μ-loop) where
+-- where its fingerprint is known
+module _ (c : tie.After-fingerprint Inv-loop μ-loop) where
   abbrev line : tie.After-known-told Inv-loop μ-loop
   line = c .before .before
 
-  own : c .bucket .result ≡ bucket (identityAt (table (turn line)) (place (turn line)))
-  own = c .bucket .ensures ∙ ap bucket (identity-is line)
+  abbrev identity : List ℕ
+  identity = identityAt (table (turn line)) (place (turn line))
 
-  small : c .bucket .result < 256
-  small = rw own (bucket-small (identityAt (table (turn line)) (place (turn line))))
+  own : c .fingerprint .result ≡ fingerprint 0 identity
+  own = c .fingerprint .ensures ∙ ap (fingerprint 0) (identity-is line)
+
+  own-bucket : c .fingerprint .result % 256 ≡ bucket identity
+  own-bucket = ap (λ (p : ℕ). p % 256) own
+
+  own-tag : c .fingerprint .result / 256 % 65536 ≡ tagOf identity
+  own-tag = ap (λ (p : ℕ). p / 256 % 65536) own
+
+  small : c .fingerprint .result % 256 < 256
+  small = rw own-bucket (bucket-small identity)
 
   latest : Latest (table (turn line)) (turn line .before .loop .starts) (turn line .before .loop .n)
-      (getD (turn line .before .loop .heads) (c .bucket .result) 0) (c .bucket .result)
-  latest = passed (turn line) .latest (c .bucket .result) small
+      (getD (turn line .before .loop .heads) (c .fingerprint .result % 256) 0) (c .fingerprint .result % 256)
+  latest = passed (turn line) .latest (c .fingerprint .result % 256) small
 
 cast-repeated : tie.Need-cast-repeated Inv-loop μ-loop
 cast-repeated c =
-    let b = c .before .before in
-    let few = latest b .few in
-    let n = below (line b) in
+    let f = c .before .before .before in
+    let few = latest f .few in
+    let n = below (line f) in
     search needs
 
 repeated-requires : tie.Need-repeated-requires Inv-loop μ-loop
 repeated-requires c κs =
-    let b = c .before .before in
-    let l = line b in
+    let f = c .before .before .before in
+    let l = line f in
     let p = passed (turn l) in
-    let valid = and-left (validIdentity (identityAt (table (turn l)) (place (turn l)))) _ (good l .valid) in (
+    let valid = and-left (validIdentity (identity f)) _ (good l .valid) in
+    let is = identity-is l in (
       p .few,
       (
         omega (arith, p .few, p .room),
         (
-          rw (identity-is l) valid,
-          (p .chained, rw (← b .bucket .ensures) (latest b)),
+          rw is valid,
+          (
+            ap (λ (q : ℕ). q / 256 % 65536) (f .fingerprint .ensures),
+            (p .chained, rw (← f .fingerprint .ensures) (latest f)),
+          ),
         ),
       ),
     )
 
 -- where the lines passed were searched for its identity
 module _ (c : tie.After-repeated Inv-loop μ-loop) where
-  abbrev found : tie.After-bucket Inv-loop μ-loop
-  found = c .before .before .before
+  abbrev found : tie.After-fingerprint Inv-loop μ-loop
+  found = c .before .before .before .before
 
   judged : any (same (identityAt (table (turn (line found))) (place (turn (line found)))))
       (earlier (table (turn (line found))) (turn (line found) .before .loop .starts) (turn (line found) .before .loop .n)) ≡ c .repeated .result
@@ -162,11 +176,11 @@ loop-again c =
     let b = found (c .before) in
     let l = line b in
     let t = turn l in
-    one-passed (table t) _ _ _ _ (place t) (passed t) (inside t) (colon-at l) (end l) (good l) (below l) _ _ _ (own b) refl refl
+    one-passed (table t) _ _ _ _ _ (place t) (passed t) (inside t) (colon-at l) (end l) (good l) (below l) _ _ _ _ (own-bucket b) refl refl (own-tag b)
     (judged (c .before) ∙ c .if2 .left)
 
 returns-4 : tie.Need-returns-4 Inv-loop μ-loop
-returns-4 c = let s = c .before .before .before in scanned _ (s .pre .0) (s .pre .1 .0) _ _ _ _ _ (c .before .loop .inv) (c .loop-test .left)
+returns-4 c = let s = c .before .before .before in scanned _ (s .pre .0) (s .pre .1 .0) _ _ _ _ _ _ (c .before .loop .inv) (c .loop-test .left)
 
 pub scan-lines-spec : {M : Type 1} → statement M
 scan-lines-spec =
@@ -185,11 +199,15 @@ scan-lines-spec =
     part-identity-end
     (λ c κs. search needs)
     (λ c. search needs)
+    (λ c. search needs)
+    (λ c. search needs)
     (λ c. small c)
     cast-repeated
     repeated-requires
     returns-3
     cast-starts
+    (λ c. search needs)
+    (λ c. below (line (found (c .before))))
     (λ c. search needs)
     (λ c. below (line (found (c .before))))
     (λ c. search needs)
