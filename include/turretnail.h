@@ -691,7 +691,7 @@ int32_t tn_valid_utf8(const uint8_t *bytes, size_t bytes_len);
  * the call or in one above it, with more depth for the frames between; and clears its own copies. gateway/wipe.c and gateway/connection.c show it.
  *
  * Both limits are measured, not proved (`make bench`, bench/frames). TN_STACK_LIMIT is for all calls but one: the deepest of them, tn_message with a
- * ClientKeyExchange, reaches less than 8,200 bytes below its caller. TN_RECORD_STACK_LIMIT is for tn_take_record, which has room on the stack to join a
+ * ClientKeyExchange, reaches less than 8,000 bytes below its caller. TN_RECORD_STACK_LIMIT is for tn_take_record, which has room on the stack to join a
  * message that came in several records, and reaches less than 26 KiB.
  */
 #define TN_STACK_LIMIT 16384

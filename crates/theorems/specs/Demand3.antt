@@ -45,9 +45,10 @@ abbrev pub NoneJudgedRight : Settings → View → List ℕ → List Call → Ty
 NoneJudgedRight s v identity calls =
     (before : List Call) (x : Call) (after : List Call) → calls ≡ before ++ (x ∷ after) → ¬ JudgedRight s v identity before x
 
--- Two servers with the same random, hint and stand-in key; the setting of each is hide, or none is named. Their tables are well formed, each with its own
--- list of line starts, so that neither R2 nor R10 ever comes; no call changes them, and the second table is the first without the line of one identity. The answers are compared over the whole series: said of one call at a time, from
--- alike connections, it would say nothing of a difference that a call leaves behind for a later one to show.
+-- Two servers with the same random, hint and stand-in key; the setting of each is hide, or none is named. Their tables are well formed, each with its
+-- own list of line starts, so that neither R2 nor R10 ever comes; no call changes them, and the second table is the first without the line of one identity.
+-- The answers are compared over the whole series: said of one call at a time, from alike connections, it would say nothing of a difference that a call
+-- leaves behind for a later one to show.
 abbrev pub Sameness : Type 0
 Sameness =
     (s s' : Settings) → Alike s s' → acceptable s ≡ true → Hiding (s .named) → Hiding (s' .named)

@@ -76,7 +76,8 @@ smallestHello version = bytes clientHello (smallest version)
 -- R2 of the server: whatever the connection and the list, a ClientKeyExchange that meets the tests on its header is refused so
 abbrev pub GivesR2 : List ℕ → Type 0
 GivesR2 t =
-    (starts : List ℕ) (count : ℕ) (c : Connection) (m : List ℕ) → header 16 m ≡ Accepted → messageStep (viewOf t starts count) c m Phase.KeyExchange ≡ refuse BadTable
+    (starts : List ℕ) (count : ℕ) (c : Connection) (m : List ℕ) → header 16 m ≡ Accepted
+    → messageStep (viewOf t starts count) c m Phase.KeyExchange ≡ refuse BadTable
 
 -- ---- the table
 

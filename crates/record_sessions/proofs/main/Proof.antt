@@ -8,7 +8,8 @@ use Rattle.record_sessions.proofs.main.Statement.{statement}
 use Rattle.record_sessions.proofs.main.Tie as tie
 
 abbrev Inv-loop : tie.InvT-loop
-Inv-loop table₀ starts₀ memory₀ sizes₀ c₀ calls₀ table starts memory sizes c calls = (calls ≤ 65536) × (length table ≡ 70000) × (length starts ≡ 257) × (length memory ≡ 16384)
+Inv-loop table₀ starts₀ memory₀ sizes₀ c₀ calls₀ table starts memory sizes c calls =
+    (calls ≤ 65536) × (length table ≡ 70000) × (length starts ≡ 257) × (length memory ≡ 16384)
 
 abbrev μ-loop : tie.MeasureT-loop
 μ-loop table₀ starts₀ memory₀ sizes₀ c₀ calls₀ table starts memory sizes c calls = 65536 - calls

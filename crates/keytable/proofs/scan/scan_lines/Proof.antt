@@ -153,7 +153,9 @@ returns-3 : tie.Need-returns-3 Inv-loop μ-loop
 returns-3 c =
     let l = line (found (c .before)) in
     let t = turn l in
-    let twice = distinct-stop (table t) (t .before .loop .starts) (place t) (end l) (t .before .loop .n) (inside t) (good l .line-ends) (passed t .identities) (judged (c .before) ∙ c .if2 .taken) in
+    let twice =
+    distinct-stop (table t) (t .before .loop .starts) (place t) (end l) (t .before .loop .n) (inside t) (good l .line-ends) (passed t .identities)
+    (judged (c .before) ∙ c .if2 .taken) in
     unusable _ _ (one-twice (table t) (start t .pre .0) (start t .pre .1 .0) (sym twice))
 
 cast-starts : tie.Need-cast-starts Inv-loop μ-loop
