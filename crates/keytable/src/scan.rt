@@ -38,21 +38,12 @@ fn scan_lines(table: &[u8], starts: &mut [u16; 256]) -> Scanned
                 return Scanned::Unusable;
             }
             Line::Parts(colon, end) => {
-                let identity = &table[at..colon];
-                let p = fingerprint(identity);
+                let name = &table[at..colon];
+                let p = fingerprint(name);
                 let bucket = (p % 256) as usize;
                 let tag = (p / 256 % 65536) as u16;
                 let latest = heads[bucket];
-                if repeated(
-                    table,
-                    starts,
-                    &tags,
-                    &links,
-                    n,
-                    latest as usize,
-                    identity,
-                    tag,
-                ) {
+                if repeated(table, starts, &tags, &links, n, latest as usize, name, tag) {
                     return Scanned::Unusable;
                 }
                 starts[n] = at as u16;

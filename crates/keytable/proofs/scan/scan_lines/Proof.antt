@@ -82,8 +82,8 @@ module _ (c : tie.After-known-told Inv-loop μ-loop) where
   below : turn .before .loop .n < 256
   below = omega (arith, c .before .before .before .before .if1 .left, passed turn .few)
 
-part-identity-end : tie.Need-part-identity-end Inv-loop μ-loop
-part-identity-end c =
+part-name-end : tie.Need-part-name-end Inv-loop μ-loop
+part-name-end c =
     omega (arith, good c .identity-ends, identity-within (table (turn c)) (place (turn c)) (omega (arith, inside (turn c))))
 
 -- where its fingerprint is known
@@ -198,7 +198,7 @@ scan-lines-spec =
     (λ c. search needs)
     (λ c. ordered c)
     (λ c. ordered c)
-    part-identity-end
+    part-name-end
     (λ c κs. search needs)
     (λ c. search needs)
     (λ c. search needs)
