@@ -50,8 +50,8 @@ pub(crate) fn sized_key(digits: usize) -> bool
     digits % 2 == 0
 }
 
-// The line that starts at `at`. Its bytes are looked at once: those of the identity up to the colon, and the digits up to
-// the 0A.
+// The line that starts at `at`. No end of it is looked for before it is read: the identity's bytes end at the colon, and the
+// digits at the 0A.
 pub(crate) fn read_line(table: &[u8], at: usize) -> Line
     requires { ⌜ at < length (now table) ⌝ }
     ensures { λ r. ⌜ r ≡ lineParts (now (table .entry)) at ⌝ }
