@@ -10,7 +10,7 @@ use Rattle.refusal.specs.declared.Refusal.{Refusal}
 use Rattle.refusal.specs.declared.Refusal.the-variants.{ShortOutput, BadTable, BadSetting, ConnectionOver, BadValue}
 use Rattle.refusal.specs.declared.Refusal.the-variants.{AlreadyListed, NotListed, TableFull, SequenceSpent, BadList, BadRecordMac, RecordOverflow}
 use Rattle.refusal.specs.declared.Refusal.the-variants.{UnexpectedMessage, HandshakeFailure, IllegalParameter, DecodeError, DecryptError}
-use Rattle.refusal.specs.declared.Refusal.the-variants.{ProtocolVersion, UnknownPskIdentity}
+use Rattle.refusal.specs.declared.Refusal.the-variants.{ProtocolVersion, UnsupportedExtension, UnknownPskIdentity}
 use Rattle.refusal.specs.declared.Written.{Written}
 use Rattle.refusal.specs.declared.Written.the-variants.{Wrote, Refused}
 use Rattle.c_interface.specs.Codes.{refusalCode, coded}
@@ -36,7 +36,8 @@ refusalBelow n =
     (cond (eqb n 1049) DecodeError
     (cond (eqb n 1050) DecryptError
     (cond (eqb n 1069) ProtocolVersion
-    UnknownPskIdentity)))))))))))))))))
+    (cond (eqb n 1109) UnsupportedExtension
+    UnknownPskIdentity))))))))))))))))))
 
 said : ℤ → Written
 said (pos n) = Wrote n
@@ -62,6 +63,7 @@ refusal-said IllegalParameter = refl
 refusal-said DecodeError = refl
 refusal-said DecryptError = refl
 refusal-said ProtocolVersion = refl
+refusal-said UnsupportedExtension = refl
 refusal-said UnknownPskIdentity = refl
 
 all-said : (w : Written) → said (coded w) ≡ w

@@ -41,7 +41,7 @@ fn print_said(said: Written) {
             lines::number(n);
         }
         Written::Refused(r) => {
-            if refusal::for_client(r) {
+            if refusal::for_peer(r) {
                 lines::text(b"alert ");
             }
             lines::refused(r);

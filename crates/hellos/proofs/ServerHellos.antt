@@ -25,7 +25,7 @@ use Rattle.layout.specs.Types.{serverHelloType}
 use Rattle.layout.specs.Layout.{bytes, valid, Inverse}
 use Rattle.layout.specs.Header.{header}
 use Rattle.hellos.specs.Hello.{frontRules, frontBytes, sessionAt, blockRules, tailBytes, blockAt, blockContents}
-use Rattle.hellos.specs.ServerHello.{ServerHello, serverHello, serverBlock, serverSession, serverHeader, serverPlace, serverFields}
+use Rattle.hellos.specs.ServerHello.{ServerHello, serverHello, serverBlock, serverSession, serverBody, serverHeader, serverPlace, serverFields}
 use Rattle.hellos.specs.ServerHello.{readServerHello}
 use Rattle.layout.proofs.Layouts.{valid-within, valid-parts}
 use Rattle.layout.proofs.Headers.{header-message, header-read}
@@ -45,23 +45,25 @@ readAt m n b = Read (number (take 2 (drop 4 m))) n (number (take 2 (drop (39 + n
 
 -- how a ServerHello is read, by cases: what holds of a refusal, and wherever the parts stand so, holds of what is read
 module _ (m : List ℕ) (Holds : Server → Type 0) (refused : Holds Server.Refused) where
+  pub by-body : ((x n : ℕ) (b : Block) → Parts m x n b → Holds (readAt m n b)) → Holds (serverBody m)
+  by-body read = by-session (sessionAt m) refl
+    where
+      by-block : (x n : ℕ) (o : BlockFound) → sessionAt m ≡ At x n → 42 + n ≤ length m → blockAt m (42 + n) ≡ o → Holds (serverBlock m n o)
+      by-block x n (Found b) session room block = read x n b (record { session = session; room = room; block = block })
+      by-block x n BlockFound.Refused session room block = refused
+
+      by-session : (p : Part) → sessionAt m ≡ p → Holds (serverSession m p)
+      by-session (At x n) session = elim (decLe (42 + n) (length m)) [
+        | yes room ↦ rw (le-leb (42 + n) (length m) room) (by-block x n (blockAt m (42 + n)) session room refl)
+        | no cut ↦ rw (lt-leb (42 + n) (length m) (omega arith)) refused
+      ]
+      by-session Part.Refused session = refused
+
   pub by-header : (header serverHelloType m ≡ Verdict.Accepted → (x n : ℕ) (b : Block) → Parts m x n b → Holds (readAt m n b)) → Holds (serverPlace m)
   by-header read = go (header serverHelloType m) refl
     where
-      by-block : (x n : ℕ) (o : BlockFound) → header serverHelloType m ≡ Verdict.Accepted → sessionAt m ≡ At x n → 42 + n ≤ length m
-          → blockAt m (42 + n) ≡ o → Holds (serverBlock m n o)
-      by-block x n (Found b) a session room block = read a x n b (record { session = session; room = room; block = block })
-      by-block x n BlockFound.Refused a session room block = refused
-
-      by-session : (p : Part) → header serverHelloType m ≡ Verdict.Accepted → sessionAt m ≡ p → Holds (serverSession m p)
-      by-session (At x n) a session = elim (decLe (42 + n) (length m)) [
-        | yes room ↦ rw (le-leb (42 + n) (length m) room) (by-block x n (blockAt m (42 + n)) a session room refl)
-        | no cut ↦ rw (lt-leb (42 + n) (length m) (omega arith)) refused
-      ]
-      by-session Part.Refused a session = refused
-
       go : (v : Verdict) → header serverHelloType m ≡ v → Holds (serverHeader m v)
-      go Verdict.Accepted a = by-session (sessionAt m) a refl
+      go Verdict.Accepted a = by-body (read a)
       go (Verdict.Refused r) a = refused
 
 -- ---- reading what was written

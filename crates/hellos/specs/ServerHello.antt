@@ -52,8 +52,11 @@ abbrev pub serverSession : List ℕ → Part → Server
 serverSession m (Part.At start n) = cond (leb (42 + n) (length m)) (serverBlock m n (blockAt m (42 + n))) Refused
 serverSession m Part.Refused = Refused
 
+abbrev pub serverBody : List ℕ → Server
+serverBody m = serverSession m (sessionAt m)
+
 abbrev pub serverHeader : List ℕ → Verdict → Server
-serverHeader m Verdict.Accepted = serverSession m (sessionAt m)
+serverHeader m Verdict.Accepted = serverBody m
 serverHeader m (Verdict.Refused r) = Refused
 
 abbrev pub serverPlace : List ℕ → Server

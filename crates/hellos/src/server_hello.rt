@@ -3,8 +3,7 @@ ghost use mathlib.Core.Path.{_≡_};
 ghost use Rattle.refusal.specs.Lent.{Answers};
 ghost use Rattle.layout.specs.Layout.{written};
 ghost use Rattle.layout.specs.declared.Part.{Part};
-ghost use Rattle.hellos.specs.Hello.{sessionAt};
-ghost use Rattle.hellos.specs.ServerHello.{serverHello, serverPlace, serverSession, serverGiven};
+ghost use Rattle.hellos.specs.ServerHello.{serverHello, serverPlace, serverBody, serverSession, serverGiven};
 use crate::Block;
 use crate::BlockFound;
 use crate::hello;
@@ -52,8 +51,9 @@ fn behind_session(message: &[u8], session_len: usize) -> Server
     }
 }
 
-fn body(message: &[u8]) -> Server
-    ensures { λ r. ⌜ r ≡ serverSession (now (message .entry)) (sessionAt (now (message .entry))) ⌝ }
+// A message whose header is tested already: the tests on the body alone.
+pub fn read_body(message: &[u8]) -> Server
+    ensures { λ r. ⌜ r ≡ serverBody (now (message .entry)) ⌝ }
 {
     match hello::session_id(message) {
         Part::At { start: _, len } => behind_session(message, len),
@@ -65,7 +65,7 @@ pub fn read(message: &[u8]) -> Server
     ensures { λ r. ⌜ r ≡ serverPlace (now (message .entry)) ⌝ }
 {
     match header::test(types::SERVER_HELLO, message) {
-        Verdict::Accepted => body(message),
+        Verdict::Accepted => read_body(message),
         Verdict::Refused(_) => Server::Refused,
     }
 }

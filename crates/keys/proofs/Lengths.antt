@@ -21,7 +21,7 @@ use Rattle.keys.specs.declared.Label.the-variants.{MasterSecret, KeyExpa
 use Rattle.keys.specs.declared.Side.{Side}
 use Rattle.keys.specs.Hmac.{mac, keyed}
 use Rattle.keys.specs.Prf.{P, expanded, prf, text}
-use Rattle.keys.specs.Secrets.{premaster, premasterBytes, master, masterUnder, keyBlockLength, keys, verifyData, finishedLabel, finishedOf}
+use Rattle.keys.specs.Secrets.{premaster, premasterBytes, isRandom, master, masterUnder, keyBlockLength, keys, verifyData, finishedLabel, finishedOf}
 use Rattle.keys.proofs.PrfSteps.{prf-within}
 
 -- ---- the PRF
@@ -98,6 +98,11 @@ key-block-given secret server client suite h k l some few =
       rw (eq-eqb (length secret) 48 h, eq-eqb (length server) 32 k, eq-eqb (length client) 32 l, le-leb 1 (keyBlockLength suite) some)
           (prf-within secret KeyExpansion (server ++ client) (keyBlockLength suite) (omega arith) two few),
     )
+
+-- where there is one, the master secret has its length
+pub master-under-sized : (key client server : List ℕ) → Sized 48 (masterUnder key client server)
+master-under-sized key client server =
+    sized-then (premaster key) (λ secret. sized-tested (isRandom client && isRandom server) _ _ (prf-sized secret MasterSecret (client ++ server) 48))
 
 -- ---- Finished values
 

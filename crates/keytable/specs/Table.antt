@@ -87,6 +87,10 @@ plain b = leb 0x20 b && not (eqb b 0x7F) && not (eqb b colon)
 abbrev pub validIdentity : List ℕ → Bool
 validIdentity s = between 1 128 (length s) && each plain s && validUtf8 s
 
+-- A key has 1 to 64 bytes, of which the table has the digits.
+abbrev pub validSecret : List ℕ → Bool
+validSecret key = between 1 64 (length key)
+
 -- ---- well-formedness, as a test
 
 -- The identity is what stands before a line's first colon, and the key what stands after it: without a colon there is no key.

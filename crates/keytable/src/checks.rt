@@ -2,7 +2,7 @@
 ghost use mathlib.Core.Path.{_≡_};
 ghost use Prim.Native.Nat.{_<_};
 ghost use lib.ListN.{length};
-ghost use Rattle.keytable.specs.Table.{validIdentity, ended};
+ghost use Rattle.keytable.specs.Table.{validIdentity, validSecret, ended};
 ghost use Rattle.keytable.specs.Inner.{sizedKey, sizedIdentity, lineParts};
 use crate::classes::Class;
 use crate::classes::all;
@@ -35,6 +35,16 @@ pub fn valid_identity(s: &[u8]) -> bool
         return false;
     }
     sized_identity(s)
+}
+
+// Whether a key of so many bytes may stand in a table.
+pub fn valid_secret(key: &[u8]) -> bool
+    ensures { λ r. ⌜ r ≡ validSecret (now (key .entry)) ⌝ }
+{
+    if key.len() < 1 {
+        return false;
+    }
+    key.len() <= 64
 }
 
 // Whether a key may have so many digits.

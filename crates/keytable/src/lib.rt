@@ -9,6 +9,7 @@ mod list;
 mod scan;
 
 pub use checks::valid_identity;
+pub use checks::valid_secret;
 pub use entries::Hit;
 pub use entries::first_line;
 pub use entries::lookup;

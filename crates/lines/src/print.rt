@@ -45,7 +45,7 @@ pub fn number(n: usize) -> usize
 pub fn refused(r: Refusal) -> u8
     ensures { λ n. ⌜ n ≡ numberOf r ⌝ }
 {
-    if !refusal::for_client(r) {
+    if !refusal::for_peer(r) {
         text(b"R");
     }
     let n = refusal::number(r);

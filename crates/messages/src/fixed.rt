@@ -47,6 +47,13 @@ pub fn read_done(message: &[u8]) -> Part
     read(types::SERVER_HELLO_DONE, 0, message)
 }
 
+// The same of a message whose header is tested already: the test on the body alone.
+pub fn read_done_body(message: &[u8]) -> Part
+    ensures { λ r. ⌜ r ≡ filledBy 0 (now (message .entry)) ⌝ }
+{
+    body(0, message)
+}
+
 // A ServerHelloDone.
 pub fn write_done(out: &mut [u8]) -> Written
     ensures { λ r. ⌜ Answers (written serverHelloDone []) (now (out .entry)) r (now (out .exit)) ⌝ }

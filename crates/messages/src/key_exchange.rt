@@ -33,6 +33,13 @@ pub fn read_hint(message: &[u8]) -> Part
     place::last16_of(types::SERVER_KEY_EXCHANGE, message, 4)
 }
 
+// The same of a message whose header is tested already: the tests on the body alone.
+pub fn read_hint_body(message: &[u8]) -> Part
+    ensures { λ r. ⌜ r ≡ lastAt 2 (now (message .entry)) 4 ⌝ }
+{
+    place::last16(message, 4)
+}
+
 // A ServerKeyExchange.
 pub fn write_hint(hint: &[u8], out: &mut [u8]) -> Written
     ensures { λ r. ⌜ Answers (written serverKeyExchange (now (hint .entry))) (now (out .entry)) r (now (out .exit)) ⌝ }

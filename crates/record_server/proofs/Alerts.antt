@@ -12,7 +12,7 @@ use Rattle.refusal.specs.declared.Written.{Written}
 use Rattle.refusal.specs.declared.Written.the-variants.{Wrote, Refused}
 use Rattle.refusal.specs.Lent.{gives, Answers}
 use Rattle.refusal.proofs.Laws.{answer-in-front, wrote-all, refused-short}
-use Rattle.server.specs.Alert.{fatal}
+use Rattle.handshake.specs.Alert.{fatal}
 use Rattle.records.specs.declared.ContentType.{ContentType}
 use Rattle.records.specs.declared.State.{State}
 use Rattle.records.specs.Protection.{lastSequence, sealed}

@@ -12,21 +12,22 @@ use lib.Seq.{drop-drop}
 use borrow.Author.Tests.{le-ltb}
 use Rattle.refusal.specs.declared.Refusal.{Refusal}
 use Rattle.layout.specs.declared.Verdict.{Verdict}
+use Rattle.handshake.specs.declared.Outgoing.{Outgoing}
+use Rattle.handshake.specs.Flight.{Flight, silence, longest}
+use Rattle.handshake.specs.Outgoing.{flightOf, total}
+use Rattle.handshake.specs.Step.{accept}
 use Rattle.server.specs.declared.Phase.{Phase}
 use Rattle.server.specs.declared.Connection.{Connection}
-use Rattle.server.specs.declared.step.Outgoing.{Outgoing}
 use Rattle.server.specs.declared.step.Decision.{Decision}
-use Rattle.server.specs.Flight.{Flight, silence, longest}
 use Rattle.server.specs.KeyExchange.{View}
-use Rattle.server.specs.Step.{accept}
-use Rattle.server.specs.Decision.{Decides, decidedBy, flightOf, total}
+use Rattle.server.specs.Decision.{Decides, decidedBy}
 use Rattle.server.specs.Message.{messageStep, handedOver}
-use Rattle.record_server.specs.declared.handshake.Progress as Code
-use Rattle.record_server.specs.declared.handshake.Course.{Course}
+use Rattle.record_server.specs.declared.progress.Progress as Code
+use Rattle.record_server.specs.declared.progress.Course.{Course}
 use Rattle.record_server.specs.Joining as Judging
 use Rattle.record_server.specs.Joining.{Progress, Judged, goesOn, joinedFlight, later, afterStep, whereWhole, judged}
-use Rattle.record_server.specs.InnerHandshake.{Sound, Few, Goes, Ends, answers, isGoing, onCourse, advanced}
-use Rattle.record_server.specs.InnerHandshake.{masterOf, progressOf, judgeLeft, comesTo, endsAs}
+use Rattle.record_server.specs.InnerProgress.{Sound, Few, Goes, Ends, answers, isGoing, onCourse, advanced}
+use Rattle.record_server.specs.InnerProgress.{masterOf, progressOf, judgeLeft, comesTo, endsAs}
 use Rattle.record_server.proofs.Steps.{After, greeted, keyed, parted, step-after}
 
 -- ---- flights

@@ -12,9 +12,9 @@ use Rattle.lists.proofs.Parts.{rest, part-to-end, length-part}
 use Rattle.refusal.specs.declared.Written.{Written}
 use Rattle.refusal.specs.Lent.{Answers}
 use Rattle.layout.proofs.Puts.{front, put-behind}
-use Rattle.server.specs.declared.step.Outgoing.{Outgoing}
-use Rattle.server.specs.Flight as Flight
-use Rattle.server.specs.Decision.{total, cut, flightOf}
+use Rattle.handshake.specs.declared.Outgoing.{Outgoing}
+use Rattle.handshake.specs.Flight as Flight
+use Rattle.handshake.specs.Outgoing.{total, cut, flightOf}
 use Rattle.records.specs.declared.ContentType.{ContentType}
 use Rattle.records.specs.declared.State.{State}
 use Rattle.records.specs.Protection.{protectedBy, sealed, sealing}

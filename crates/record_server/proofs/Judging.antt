@@ -10,14 +10,15 @@ use lib.Dec.{ltb}
 use borrow.Author.Tests.{ltb-false, lt-ltb, le-ltb}
 use Rattle.refusal.specs.declared.Refusal.the-variants.{UnexpectedMessage}
 use Rattle.layout.specs.declared.Verdict.{Verdict}
+use Rattle.handshake.specs.Header.{earlyTest}
+use Rattle.handshake.specs.Step as Shared
 use Rattle.server.specs.KeyExchange.{View}
-use Rattle.server.specs.Step as Server
 use Rattle.server.specs.Step.{Step}
-use Rattle.server.specs.Message.{awaited, earlyTest, messageStep}
+use Rattle.server.specs.Message.{awaited, messageStep}
 use Rattle.records.specs.Joining.{messageEnd}
 use Rattle.record_server.specs.Connection.{isComplete}
 use Rattle.record_server.specs.Joining.{Progress, Judged, refuse, goesOn, isEmpty, afterStep, afterEarly, whereWhole, judgeFirst, judgeBytes}
-use Rattle.record_server.specs.InnerHandshake.{judgeLeft}
+use Rattle.record_server.specs.InnerProgress.{judgeLeft}
 
 -- a test that both ask
 same-cond : (t : Bool) (a : Judged) {b d : Judged} → (t ≡ false → b ≡ d) → cond t a b ≡ cond t a d
@@ -40,8 +41,8 @@ module _ (v : View) where
   -- what judges the rest is asked only where there is less left
   module _ (f g : Progress → Judged) (p : Progress) (same : (q : Progress) → length (q .left) < length (p .left) → f q ≡ g q) where
     same-step : (end : ℕ) → 4 ≤ end → end ≤ length (p .left) → (step : Step) → afterStep f p end step ≡ afterStep g p end step
-    same-step end some inside (Server.refuse r) = refl
-    same-step end some inside (Server.accept flight next) = same _ (simp length-drop (omega arith))
+    same-step end some inside (Shared.refuse r) = refl
+    same-step end some inside (Shared.accept flight next) = same _ (simp length-drop (omega arith))
 
     same-first : judgeFirst v f p ≡ judgeFirst v g p
     same-first =

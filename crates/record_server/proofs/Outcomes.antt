@@ -12,12 +12,12 @@ use Rattle.refusal.specs.declared.Refusal.{Refusal}
 use Rattle.refusal.specs.declared.Refusal.the-variants.{ShortOutput}
 use Rattle.refusal.specs.declared.Written.the-variants.{Wrote}
 use Rattle.layout.specs.declared.Verdict.{Verdict}
-use Rattle.server.specs.Flight.{counted}
+use Rattle.handshake.specs.Flight.{counted}
 use Rattle.record_server.specs.declared.RecordConnection.{RecordConnection}
 use Rattle.record_server.specs.declared.Taken.{Taken}
 use Rattle.record_server.specs.declared.taking.Decided.{Decided}
 use Rattle.record_server.specs.Taking.{Settled, refused, front, settled, taken, handed}
-use Rattle.record_server.specs.InnerHandshake.{masterOf}
+use Rattle.record_server.specs.InnerProgress.{masterOf}
 use Rattle.record_server.specs.InnerTaking.{heldBy, decidedBy, answeredBy, Does}
 
 -- a master secret, if one is handed over, as the code's type has it

@@ -17,7 +17,7 @@ use Rattle.layout.specs.declared.Verdict.the-variants.{Accepted}
 use Rattle.layout.specs.Types.{messageLimit}
 use borrow.Rule.Slice.PartMut.{putMid}
 use Rattle.layout.proofs.Puts.{front, copy-in-front, put-behind}
-use Rattle.server.specs.Message.{earlyTest}
+use Rattle.handshake.specs.Header.{earlyTest}
 use Rattle.records.specs.Joining.{messageEnd, unfinished}
 
 -- the four bytes of the header say it

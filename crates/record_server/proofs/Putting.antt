@@ -17,8 +17,8 @@ use Rattle.refusal.specs.declared.Refusal.the-variants.{ShortOutput}
 use Rattle.refusal.specs.Lent.{Outcome, gives, refuses, within, answer, Answers}
 use Rattle.refusal.proofs.Laws.{answer-in-front}
 use Rattle.layout.proofs.Puts.{front, put-behind}
-use Rattle.server.specs.Flight as Flight
-use Rattle.server.specs.Decision.{total, cut}
+use Rattle.handshake.specs.Flight as Flight
+use Rattle.handshake.specs.Outgoing.{total, cut}
 use Rattle.records.specs.declared.ContentType.{ContentType}
 use Rattle.records.specs.declared.State.{State}
 use Rattle.records.specs.Protection.{added, counted, sealed, sealing}

@@ -9,7 +9,7 @@ use lib.Dec.{eqb, leb}
 use Rattle.refusal.specs.declared.Refusal.{Refusal}
 use Rattle.refusal.specs.declared.Refusal.the-variants.{ShortOutput, ConnectionOver, BadValue, SequenceSpent}
 use Rattle.refusal.specs.declared.Written.{Written}
-use Rattle.refusal.specs.Table.{toClient, numberOf}
+use Rattle.refusal.specs.Table.{toPeer, numberOf}
 use Rattle.refusal.specs.declared.Written.the-variants.{Refused}
 use Rattle.refusal.specs.Lent.{Outcome, gives, refuses, within, answer, Answers}
 use Rattle.refusal.proofs.Laws.{refuses-answers}
@@ -26,14 +26,14 @@ use Rattle.record_server.specs.Sending.{afterOver, unlessOver, nextAfter
 use Rattle.record_server.specs.InnerFlight.{settledBy}
 
 -- an alert closes the connection, an R number leaves it as it was
-pub alerts-close : (r : Refusal) (c : RecordConnection) → afterRefusal r c ≡ cond (toClient r) (closedWith (closingAlert (c .writing) (numberOf r))) c
+pub alerts-close : (r : Refusal) (c : RecordConnection) → afterRefusal r c ≡ cond (toPeer r) (closedWith (closingAlert (c .writing) (numberOf r))) c
 alerts-close r c = by-receiver (λ e. afterEffect e c (numberOf r)) refl refl refl refl r
 
 -- ---- outcomes whose refusals are the host's
 
 abbrev pub ForHost : Outcome → Type 0
 ForHost (gives bytes) = Unit {0}
-ForHost (refuses r) = toClient r ≡ false
+ForHost (refuses r) = toPeer r ≡ false
 
 within-host : (room : ℕ) (o : Outcome) → ForHost o → ForHost (within room o)
 within-host room (gives bytes) h = go (leb (length bytes) room)
@@ -75,7 +75,7 @@ module _ (c : RecordConnection) {told : Verdict} (e : told ≡ overTest (c .hand
   not-over accepted = ap (λ (v : Verdict). afterOver v wanted) (sym e ∙ accepted)
 
   over-host : (t u : Bool) {r : Refusal}
-      → cond t (Verdict.Refused ConnectionOver) (cond u (Verdict.Refused SequenceSpent) Verdict.Accepted) ≡ Verdict.Refused r → toClient r ≡ false
+      → cond t (Verdict.Refused ConnectionOver) (cond u (Verdict.Refused SequenceSpent) Verdict.Accepted) ≡ Verdict.Refused r → toPeer r ≡ false
   over-host true u {r} f = let same : r ≡ ConnectionOver = cc in rw same
   over-host false true {r} f = let same : r ≡ SequenceSpent = cc in rw same
   over-host false false f = cc

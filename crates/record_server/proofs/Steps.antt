@@ -13,16 +13,20 @@ use Rattle.hellos.specs.ClientHello.{ClientHello, clientBody, clientFields}
 use Rattle.keys.specs.declared.Side.the-variants.{Client, Server}
 use Rattle.keys.specs.Secrets.{finishedOf}
 use Rattle.sha256.specs.State.{absorb}
+use Rattle.handshake.specs.Finished.{verifyDataLength, isValue}
+use Rattle.handshake.specs.Flight.{Flight, silence}
+use Rattle.handshake.specs.Header.{headerTest}
+use Rattle.handshake.specs.Protocol.{tls12}
+use Rattle.handshake.specs.Step.{refuse, accept, afterTests, unlessRefused}
 use Rattle.server.specs.declared.Phase.{Phase}
 use Rattle.server.specs.declared.Rule.{Rule}
 use Rattle.server.specs.declared.Connection.{Connection}
-use Rattle.server.specs.Flight.{Flight, silence}
-use Rattle.server.specs.Step.{Step, refuse, accept, afterTests, unlessRefused}
-use Rattle.server.specs.Hello.{tls12, offersNull, chosen, helloChosen, helloFields}
+use Rattle.server.specs.Step.{Step}
+use Rattle.server.specs.Hello.{offersNull, chosen, helloChosen, helloFields}
 use Rattle.server.specs.KeyExchange.{View, unlisted, keyFound, keyIdentity}
-use Rattle.server.specs.Finished.{verifyDataLength, isValue, completed, finishedValue}
-use Rattle.server.specs.Message.{awaited, headerTest, messageStep}
-use Rattle.record_server.specs.InnerHandshake.{answers}
+use Rattle.server.specs.Finished.{completed, finishedValue}
+use Rattle.server.specs.Message.{awaited, messageStep}
+use Rattle.record_server.specs.InnerProgress.{answers}
 
 -- an accepted message leads to no phase that answers; in two phases one is answered, a ClientKeyExchange is not, and in the others none is accepted
 pub data After : Step → Phase → Type 0 where

@@ -16,14 +16,14 @@ use Rattle.refusal.specs.declared.Refusal.{Refusal}
 use Rattle.server.specs.declared.Phase.{Phase}
 use Rattle.records.specs.declared.ContentType.{ContentType}
 use Rattle.record_server.specs.declared.RecordConnection.{RecordConnection}
-use Rattle.record_server.specs.declared.handshake.Progress as Code
-use Rattle.record_server.specs.declared.handshake.Course.{Course}
+use Rattle.record_server.specs.declared.progress.Progress as Code
+use Rattle.record_server.specs.declared.progress.Course.{Course}
 use Rattle.record_server.specs.declared.taking.Keep.{Keep}
 use Rattle.record_server.specs.declared.taking.Decided.{Decided}
 use Rattle.record_server.specs.Connection.{isComplete}
 use Rattle.record_server.specs.Joining.{Judged, goesOn, isEmpty}
 use Rattle.record_server.specs.Taking.{refuse, contentTest, handshakeStep}
-use Rattle.record_server.specs.InnerHandshake.{Ends, progressOf}
+use Rattle.record_server.specs.InnerProgress.{Ends, progressOf}
 use Rattle.record_server.specs.InnerTaking.{heldBy, Within, Decides, Holds, Progresses}
 
 -- the content of n bytes, as it is lent

@@ -1,7 +1,7 @@
 -- A flight as records (document 02, P5): each message and the change of cipher in a record of its own.
 use Prim.Native.Nat.{ℕ}
 use mathlib.Core.List.{List, [], _∷_, _++_}
-use Rattle.server.specs.Flight.{Flight}
+use Rattle.handshake.specs.Flight.{Flight}
 use Rattle.records.specs.declared.ContentType.{ContentType}
 use Rattle.records.specs.declared.State.{State}
 use Rattle.records.specs.Protection.{protectedBy, counted, sealed}

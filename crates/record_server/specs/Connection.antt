@@ -12,9 +12,9 @@ use Rattle.refusal.specs.Table.{Effect, unchanged, closed, noneMade, noneInvolv
 use Rattle.refusal.specs.Lent.{bytesOf}
 use Rattle.keys.specs.Secrets.{keys}
 use Rattle.layout.specs.declared.Verdict.{Verdict}
+use Rattle.handshake.specs.Alert.{fatal}
 use Rattle.server.specs.declared.Phase.{Phase}
 use Rattle.server.specs.declared.Connection.{Connection}
-use Rattle.server.specs.Alert.{fatal}
 use Rattle.server.specs.Connection.{Settings, ended, startAnswer}
 use Rattle.records.specs.declared.ContentType.{ContentType}
 use Rattle.records.specs.declared.State.{State}

@@ -7,7 +7,7 @@ use lib.ListN.{length, drop}
 use lib.Dec.{eqb}
 use Rattle.refusal.specs.declared.Written.{Written}
 use Rattle.refusal.specs.declared.Written.the-variants.{Wrote, Refused}
-use Rattle.server.specs.Flight.{Flight}
+use Rattle.handshake.specs.Flight.{Flight}
 use Rattle.records.specs.declared.State.{State}
 use Rattle.record_server.specs.declared.Pending.{Pending}
 use Rattle.record_server.specs.declared.RecordConnection.{RecordConnection}

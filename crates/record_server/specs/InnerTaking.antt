@@ -12,17 +12,17 @@ use Rattle.refusal.specs.declared.Refusal.the-variants.{DecryptError}
 use Rattle.refusal.specs.Table.{numberOf}
 use Rattle.refusal.specs.declared.Written.{Written}
 use Rattle.layout.specs.declared.Verdict.{Verdict}
-use Rattle.server.specs.Decision.{flightOf}
+use Rattle.handshake.specs.Outgoing.{flightOf}
 use Rattle.records.specs.Joining.{unfinished}
 use Rattle.record_server.specs.declared.Taken.{Taken}
 use Rattle.record_server.specs.declared.RecordConnection.{RecordConnection}
-use Rattle.record_server.specs.declared.handshake.Progress as Code
+use Rattle.record_server.specs.declared.progress.Progress as Code
 use Rattle.record_server.specs.declared.taking.Keep.{Keep}
 use Rattle.record_server.specs.declared.taking.Decided.{Decided}
 use Rattle.record_server.specs.Joining.{Progress, goesOn}
 use Rattle.record_server.specs.Taking as Taking
 use Rattle.record_server.specs.Taking.{handshakeStep, settled, Takes}
-use Rattle.record_server.specs.InnerHandshake.{masterOf}
+use Rattle.record_server.specs.InnerProgress.{masterOf}
 
 -- ---- a record's decision
 

@@ -9,12 +9,13 @@ use lib.Dec.{ltb}
 use Rattle.refusal.specs.declared.Refusal.{Refusal}
 use Rattle.refusal.specs.declared.Refusal.the-variants.{UnexpectedMessage}
 use Rattle.layout.specs.declared.Verdict.{Verdict}
+use Rattle.handshake.specs.Flight.{Flight, silence}
+use Rattle.handshake.specs.Header.{earlyTest}
+use Rattle.handshake.specs.Step as Shared
 use Rattle.server.specs.declared.Connection.{Connection}
-use Rattle.server.specs.Flight.{Flight, silence}
 use Rattle.server.specs.KeyExchange.{View}
-use Rattle.server.specs.Step as Server
 use Rattle.server.specs.Step.{Step}
-use Rattle.server.specs.Message.{awaited, earlyTest, messageStep, handedOver}
+use Rattle.server.specs.Message.{awaited, messageStep, handedOver}
 use Rattle.records.specs.Joining.{messageEnd}
 use Rattle.record_server.specs.Connection.{isComplete}
 
@@ -44,12 +45,12 @@ later old (some secret) = some secret
 
 -- the message that ends at `end` was judged; `on` judges what stands behind it
 abbrev pub afterStep : (Progress → Judged) → Progress → ℕ → Step → Judged
-afterStep on p end (Server.refuse r) = refuse r
-afterStep on p end (Server.accept flight next) =
+afterStep on p end (Shared.refuse r) = refuse r
+afterStep on p end (Shared.accept flight next) =
     on (record {
       connection = next;
       flight = joinedFlight (p .flight) flight;
-      master = later (p .master) (handedOver (p .connection .phase) (Server.accept flight next));
+      master = later (p .master) (handedOver (p .connection .phase) (Shared.accept flight next));
       left = drop end (p .left);
     })
 

@@ -4,5 +4,5 @@ pub mod Joining
 pub mod Taking
 pub mod Sending
 pub mod InnerFlight
-pub mod InnerHandshake
+pub mod InnerProgress
 pub mod InnerTaking

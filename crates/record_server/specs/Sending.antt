@@ -7,7 +7,7 @@ use Rattle.refusal.specs.declared.Refusal.the-variants.{BadValue}
 use Rattle.refusal.specs.declared.Written.{Written}
 use Rattle.refusal.specs.Lent.{Outcome, gives, refuses, within, answer, after}
 use Rattle.layout.specs.declared.Verdict.{Verdict}
-use Rattle.server.specs.Alert.{warning, closeNotify}
+use Rattle.handshake.specs.Alert.{warning, closeNotify}
 use Rattle.records.specs.declared.ContentType.{ContentType}
 use Rattle.records.specs.Protection.{counted, sealing}
 use Rattle.record_server.specs.declared.RecordConnection.{RecordConnection}

@@ -14,11 +14,12 @@ use Rattle.refusal.specs.declared.Written.{Written}
 use Rattle.refusal.specs.declared.Written.the-variants.{Wrote, Refused}
 use Rattle.refusal.specs.Table.{numberOf}
 use Rattle.layout.specs.declared.Verdict.{Verdict}
-use Rattle.server.specs.declared.Heard.{Heard}
+use Rattle.handshake.specs.declared.Heard.{Heard}
+use Rattle.handshake.specs.Alert.{heard}
+use Rattle.handshake.specs.Step as Shared
 use Rattle.server.specs.declared.Connection.{Connection}
 use Rattle.server.specs.KeyExchange.{View}
 use Rattle.server.specs.Step as Server
-use Rattle.server.specs.Alert.{heard}
 use Rattle.server.specs.Change.{changeStep}
 use Rattle.records.specs.declared.ContentType.{ContentType}
 use Rattle.records.specs.declared.Opened.{Opened}
@@ -83,8 +84,8 @@ changed c next =
     }
 
 abbrev pub changedBy : RecordConnection → List ℕ → Server.Step → Step
-changedBy c held (Server.refuse r) = refuse r
-changedBy c held (Server.accept flight next) = silently (changed c next) held Data.Nothing
+changedBy c held (Shared.refuse r) = refuse r
+changedBy c held (Shared.accept flight next) = silently (changed c next) held Data.Nothing
 
 -- ---- handshake bytes
 

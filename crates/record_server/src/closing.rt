@@ -79,7 +79,7 @@ fn closing_alert(writing: State, number: u8) -> ClosingAlert
 pub(crate) fn after_refusal(c: RecordConnection, r: Refusal) -> RecordConnection
     ensures { λ next. ⌜ next ≡ afterRefusal r c ⌝ }
 {
-    if refusal::for_client(r) {
+    if refusal::for_peer(r) {
         let writing = c.writing;
         return starting::closed_with(closing_alert(writing, refusal::number(r)));
     }

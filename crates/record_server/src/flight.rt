@@ -3,15 +3,15 @@ ghost use mathlib.Core.Path.{_≡_};
 ghost use mathlib.Core.List.{List};
 ghost use Prim.Native.Nat.{ℕ, _+_, _*_, _≤_};
 ghost use lib.ListN.{length, take, drop};
-ghost use Rattle.server.specs.Flight.{counted};
-ghost use Rattle.server.specs.Decision.{total, cut, flightOf};
+ghost use Rattle.handshake.specs.Flight.{counted};
+ghost use Rattle.handshake.specs.Outgoing.{total, cut, flightOf};
 ghost use Rattle.record_server.specs.Answering.{messageRecords, countedOver};
 ghost use Rattle.record_server.specs.InnerFlight.{Puts, Sends, someMessage};
+use handshake::Outgoing;
 use records::ContentType;
 use records::State;
 use records::protection;
 use refusal::Written;
-use server::Outgoing;
 
 // Records that were put at the front of an output: how many bytes they are, how many bytes of messages they hold,
 // and the state behind them.

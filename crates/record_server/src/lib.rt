@@ -6,7 +6,7 @@
 // specs/Sending.antt what is sent besides.
 mod closing;
 mod flight;
-mod handshake;
+mod progress;
 mod sending;
 mod starting;
 mod taking;

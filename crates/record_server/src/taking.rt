@@ -2,21 +2,21 @@
 ghost use mathlib.Core.Path.{_≡_};
 ghost use mathlib.Core.Bool.{true};
 ghost use mathlib.Core.List.{List, _++_};
-ghost use Prim.Native.Nat.{ℕ, _+_, _≤_};
+ghost use Prim.Native.Nat.{ℕ, _≤_};
 ghost use lib.ListN.{length, getD, take, drop};
 ghost use Rattle.lists.specs.Lists.{part};
-ghost use Rattle.server.specs.Flight.{counted};
+ghost use Rattle.handshake.specs.Alert.{heard};
+ghost use Rattle.handshake.specs.Flight.{counted};
+ghost use Rattle.handshake.specs.Outgoing.{total};
 ghost use Rattle.server.specs.KeyExchange.{viewOf};
 ghost use Rattle.records.specs.Joining.{unfinished, heldIn};
 ghost use Rattle.record_server.specs.Connection.{keysOf};
 ghost use Rattle.record_server.specs.Taking as Taking;
 ghost use Rattle.record_server.specs.Taking.{Takes, dataIn, taken, takeCall, takeStep, contentStep, contentTest, contentDecided, openedStep, oneMore, changed};
 ghost use Rattle.record_server.specs.InnerFlight.{pendingIf};
-ghost use Rattle.record_server.specs.InnerHandshake.{masterOf};
+ghost use Rattle.record_server.specs.InnerProgress.{masterOf};
 ghost use Rattle.record_server.specs.InnerTaking.{Decides, Does, Holds, Progresses, Within, heldBy, refusedFirst, roomFor, answeredBy};
-ghost use Rattle.server.specs.Alert.{heard};
 ghost use Rattle.server.specs.Change.{changeStep};
-ghost use Rattle.server.specs.Decision.{total};
 ghost use Rattle.records.specs.Protection.{opened};
 ghost use Rattle.records.specs.declared.ContentType.{ContentType};
 use crate::Data;
@@ -25,10 +25,11 @@ use crate::RecordConnection;
 use crate::Taken;
 use crate::closing;
 use crate::flight;
-use crate::handshake;
-use crate::handshake::Course;
-use crate::handshake::Progress;
+use crate::progress;
+use crate::progress::Course;
+use crate::progress::Progress;
 use crate::starting;
+use handshake::Heard;
 use layout::Verdict;
 use records::ContentType;
 use records::Opened;
@@ -37,7 +38,6 @@ use records::protection;
 use refusal::Refusal;
 use refusal::Written;
 use server::Connection;
-use server::Heard;
 
 // What goes to the lent memory: nothing, or so many bytes of the record, from `from` on, at a place of it.
 pub enum Keep {
@@ -118,7 +118,7 @@ fn hear(c: RecordConnection, content: &[u8]) -> Decided
     requires { ⌜ length (now content) ≡ 2 ⌝ }
     ensures { λ d. ⌜ ((memory held bytes : List ℕ) → Decides d memory held bytes (Taking.alertStep c held (heard (getD (now (content .entry)) 0 0) (getD (now (content .entry)) 1 0)))) ⌝ }
 {
-    match server::hear(content[0], content[1]) {
+    match handshake::hear(content[0], content[1]) {
         Heard::Illegal => refused(c, Refusal::IllegalParameter),
         Heard::Ends => silent(starting::closed_with(starting::no_alert()), Data::Nothing),
         Heard::Ignored => silent(one_more(c), Data::Nothing),
@@ -260,7 +260,7 @@ fn shake(
         (contentStep (viewOf (now (table .entry)) (now (starts .entry)) count) c (take kept (now (memory .entry))) (part 5 n (now (received .entry))) ContentType.Handshake) ⌝ }
 {
     let handshake = c.handshake;
-    let p = handshake::judge(
+    let p = progress::judge(
         handshake,
         table,
         starts,

@@ -11,22 +11,25 @@ use lib.Dec.{leb, ltb}
 use Rattle.refusal.specs.declared.Refusal.{Refusal}
 use Rattle.refusal.specs.declared.Refusal.the-variants.{UnexpectedMessage, DecryptError}
 use Rattle.refusal.specs.Lent.{Outcome, gives, refuses, within}
-use Rattle.refusal.specs.Table.{toClient, numberOf}
+use Rattle.refusal.specs.Table.{toPeer, numberOf}
 use Rattle.sha256.specs.State.{absorb}
 use Rattle.keys.specs.declared.Side.the-variants.{Client, Server}
 use Rattle.keys.specs.Secrets.{finishedOf}
 use Rattle.layout.specs.declared.Verdict.{Verdict}
 use Rattle.layout.specs.Header.{header}
 use Rattle.layout.specs.Place.{filledBy, contents}
-use Rattle.server.specs.declared.Heard.{Heard}
+use Rattle.handshake.specs.declared.Heard.{Heard}
+use Rattle.handshake.specs.Alert.{heard}
+use Rattle.handshake.specs.Finished.{isValue}
+use Rattle.handshake.specs.Header.{earlyTest}
+use Rattle.handshake.specs.Step as Shared
 use Rattle.server.specs.declared.Phase.{Phase}
 use Rattle.server.specs.declared.Connection.{Connection}
 use Rattle.server.specs.KeyExchange.{View}
 use Rattle.server.specs.Step as Server
-use Rattle.server.specs.Alert.{heard}
 use Rattle.server.specs.Change.{changeStep}
-use Rattle.server.specs.Finished.{isValue, completed, finishedValue}
-use Rattle.server.specs.Message.{awaited, earlyTest, messageStep}
+use Rattle.server.specs.Finished.{completed, finishedValue}
+use Rattle.server.specs.Message.{awaited, messageStep}
 use Rattle.records.specs.declared.ContentType.{ContentType}
 use Rattle.records.specs.declared.Opened.{Opened}
 use Rattle.records.specs.Protection.{opened, contentOf}
@@ -48,8 +51,8 @@ use Rattle.record_theorems.proofs.Cutting.{taken}
 
 -- what is judged behind a message
 abbrev pub behind : (Progress → Judged) → Progress → (rest : List ℕ) → Server.Step → Judged
-behind on p rest (Server.refuse r) = Judging.refuse r
-behind on p rest (Server.accept flight next) = on (taken p rest flight next)
+behind on p rest (Shared.refuse r) = Judging.refuse r
+behind on p rest (Shared.accept flight next) = on (taken p rest flight next)
 
 -- it differs only where the first message does
 pub turn-pair : (v v' : View) (on on' : Progress → Judged) (R : Judged → Judged → Type 0) (p : Progress)
@@ -72,10 +75,10 @@ turn-pair v v' on on' R p refused waits steps =
 
     after : (step step' : Server.Step) → R (behind on p rest step) (behind on' p rest step')
         → R (afterStep on p (messageEnd (p .left)) step) (afterStep on' p (messageEnd (p .left)) step')
-    after (Server.refuse r) (Server.refuse q) h = h
-    after (Server.refuse r) (Server.accept flight next) h = h
-    after (Server.accept flight next) (Server.refuse q) h = h
-    after (Server.accept flight next) (Server.accept flight' next') h = h
+    after (Shared.refuse r) (Shared.refuse q) h = h
+    after (Shared.refuse r) (Shared.accept flight next) h = h
+    after (Shared.accept flight next) (Shared.refuse q) h = h
+    after (Shared.accept flight next) (Shared.accept flight' next') h = h
 
     go : (over few : Bool) (early : Verdict) (short : Bool) (step step' : Server.Step) → R (behind on p rest step) (behind on' p rest step')
         → R (cond over (Judging.refuse UnexpectedMessage) (cond few (goesOn p) (afterEarly early (cond short (goesOn p)
@@ -99,10 +102,10 @@ Beyond Phase.Complete = Unit
 Beyond Phase.Closed = Unit
 
 abbrev Stays : Server.Step → Type 0
-Stays (Server.refuse r) = Unit
-Stays (Server.accept flight next) = Beyond (next .phase)
+Stays (Shared.refuse r) = Unit
+Stays (Shared.accept flight next) = Beyond (next .phase)
 
-tested-stays : (h : Verdict) (step : Server.Step) → Stays step → Stays (Server.afterTests h step)
+tested-stays : (h : Verdict) (step : Server.Step) → Stays step → Stays (Shared.afterTests h step)
 tested-stays Verdict.Accepted step stays = stays
 tested-stays (Verdict.Refused r) step stays = tt
 
@@ -112,7 +115,7 @@ finished-stays c m (some value) =
     go (c .client .listed && isValue value (finishedOf Client (c .secrets .master) (c .transcript)))
     (finishedOf Server (c .secrets .master) (absorb (c .transcript) m))
   where
-    go : (right : Bool) (own : Outcome) → Stays (cond right (completed own) (Server.refuse DecryptError))
+    go : (right : Bool) (own : Outcome) → Stays (cond right (completed own) (Shared.refuse DecryptError))
     go true (gives b) = tt
     go true (refuses r) = tt
     go false own = tt
@@ -152,8 +155,8 @@ judged-same v v' (suc n) p past =
     go : (rest : List ℕ) (step step' : Server.Step) → step ≡ step' → Stays step
         → ((q : Progress) → Beyond (q .connection .phase) → SameOn (judgeBytes n v q) (judgeBytes n v' q))
         → SameOn (behind (judgeBytes n v) p rest step) (behind (judgeBytes n v') p rest step')
-    go rest (Server.refuse r) step' is stays on = rw (← is) (refl, tt)
-    go rest (Server.accept flight next) step' is stays on = rw (← is) (on (taken p rest flight next) stays)
+    go rest (Shared.refuse r) step' is stays on = rw (← is) (refl, tt)
+    go rest (Shared.accept flight next) step' is stays on = rw (← is) (on (taken p rest flight next) stays)
 
 -- ---- calls
 
@@ -215,7 +218,7 @@ module _ (v v' : View) (c : RecordConnection) (past : Beyond (c .handshake .phas
       of-opened (Opened.Content kind n) = of-first (unlistedFirst c) kind
 
   refused-past : (r : Refusal) → Beyond (afterRefusal r c .handshake .phase)
-  refused-past r = rw (alerts-close r c) (go (toClient r))
+  refused-past r = rw (alerts-close r c) (go (toPeer r))
     where
       go : (b : Bool) → Beyond (cond b (closedWith (closingAlert (c .writing) (numberOf r))) c .handshake .phase)
       go true = tt

@@ -10,7 +10,7 @@ use Rattle.refusal.specs.declared.Refusal.{Refusal}
 use Rattle.refusal.specs.declared.Refusal.the-variants.{ShortOutput}
 use Rattle.refusal.specs.declared.Written.the-variants.{Wrote, Refused}
 use Rattle.refusal.specs.Lent.{Outcome, gives, refuses, within, answer}
-use Rattle.refusal.specs.Table.{numberOf, toClient}
+use Rattle.refusal.specs.Table.{numberOf, toPeer}
 use Rattle.server.specs.KeyExchange.{View}
 use Rattle.record_server.specs.declared.RecordConnection.{RecordConnection}
 use Rattle.record_server.specs.Connection.{afterRefusal}
@@ -28,8 +28,8 @@ Come v k (x ∷ xs) = (refusedToHost (call v k x .said) ≡ false) × Come v (ca
 -- ---- one call
 
 -- a refusal to the host is no alert
-host-refused : (r : Refusal) → refusedToHost (Refused r) ≡ true → toClient r ≡ false
-host-refused r h = go (toClient r) (not (eqb (numberOf r) 4)) h
+host-refused : (r : Refusal) → refusedToHost (Refused r) ≡ true → toPeer r ≡ false
+host-refused r h = go (toPeer r) (not (eqb (numberOf r) 4)) h
   where
     go : (b e : Bool) → (not b && e) ≡ true → b ≡ false
     go true e h = absurd (false≢true h)

@@ -15,14 +15,15 @@ use Rattle.endian.specs.Vector.{stated}
 use Rattle.refusal.specs.declared.Refusal.{Refusal}
 use Rattle.refusal.specs.declared.Refusal.the-variants.{UnexpectedMessage}
 use Rattle.layout.specs.declared.Verdict.{Verdict}
+use Rattle.handshake.specs.Flight.{Flight, silence, joined}
+use Rattle.handshake.specs.Header.{earlyTest}
+use Rattle.handshake.specs.Step as Shared
 use Rattle.server.specs.declared.Phase.{Phase}
 use Rattle.server.specs.declared.Connection.{Connection}
 use Rattle.server.specs.Connection.{isOver}
-use Rattle.server.specs.Flight.{Flight, silence, joined}
 use Rattle.server.specs.KeyExchange.{View}
-use Rattle.server.specs.Step as Server
 use Rattle.server.specs.Step.{Step}
-use Rattle.server.specs.Message.{awaited, earlyTest, messageStep, handedOver}
+use Rattle.server.specs.Message.{awaited, messageStep, handedOver}
 use Rattle.records.specs.Joining.{messageEnd, unfinished}
 use Rattle.record_server.specs.Connection.{isComplete}
 use Rattle.record_server.specs.Joining.{Progress, Judged, refuse, goesOn, isEmpty, joinedFlight, later, afterStep, whereWhole, afterEarly, judgeFirst}
@@ -52,7 +53,7 @@ taken p rest flight next =
     record {
       connection = next;
       flight = joinedFlight (p .flight) flight;
-      master = later (p .master) (handedOver (p .connection .phase) (Server.accept flight next));
+      master = later (p .master) (handedOver (p .connection .phase) (Shared.accept flight next));
       left = rest;
     }
 
@@ -62,7 +63,7 @@ data Turn (v : View) (p : Progress) : Type 0 where
   refused : (r : Refusal) → Told v r → ((on : Progress → Judged) (more : List ℕ) → judgeFirst v on (withMore p more) ≡ refuse r) → Turn v p
   waiting : unfinished (p .left) ≡ true → ((on : Progress → Judged) → judgeFirst v on p ≡ goesOn p) → Turn v p
   taking : (m rest : List ℕ) (flight : Flight) (next : Connection) → p .left ≡ m ++ rest → length rest < length (p .left)
-      → messageStep v (p .connection) m (p .connection .phase) ≡ Server.accept flight next
+      → messageStep v (p .connection) m (p .connection .phase) ≡ Shared.accept flight next
       → ((on : Progress → Judged) (more : List ℕ) → judgeFirst v on (withMore p more) ≡ on (withMore (taken p rest flight next) more)) → Turn v p
 
 module _ (v : View) (on : Progress → Judged) where
@@ -113,10 +114,10 @@ turn v p = of-header (ltb (length (p .left)) 4) refl (isComplete (p .connection 
         → earlyTest (awaited (p .connection .phase)) (p .left) ≡ Verdict.Accepted
         → messageEnd (p .left) ≤ length (p .left)
         → (step : Step) → messageStep v (p .connection) (take (messageEnd (p .left)) (p .left)) (p .connection .phase) ≡ step → Turn v p
-    of-step going long early whole (Server.refuse r) step =
+    of-step going long early whole (Shared.refuse r) step =
         refused r (message-told v (p .connection) _ (p .connection .phase) (awaited-going (p .connection .phase) (p .left) early) r step)
         (λ on more. first-more v on p more going long early whole ∙ rw step)
-    of-step going long early whole (Server.accept flight next) step =
+    of-step going long early whole (Shared.accept flight next) step =
         taking (take (messageEnd (p .left)) (p .left)) (drop (messageEnd (p .left)) (p .left)) flight next
         (sym (take-append-drop (messageEnd (p .left)) (p .left)))
         (rw length-drop (omega arith)) step
@@ -169,7 +170,7 @@ onto-taken before master p rest flight next =
     rw (
       append-assoc (before .plain) (p .flight .plain) (flight .plain),
       append-assoc (before .protected) (p .flight .protected) (flight .protected),
-      later-later master (p .master) (handedOver (p .connection .phase) (Server.accept flight next)),
+      later-later master (p .master) (handedOver (p .connection .phase) (Shared.accept flight next)),
     )
 
 -- ---- the first message of the bytes
@@ -190,7 +191,7 @@ module _ (v : View) where
     is-refused : (r : Refusal) → judgeAll v p ≡ refuse r → First p
     is-left : judgeAll v p ≡ goesOn p → First p
     is-taken : (m rest : List ℕ) (flight : Flight) (next : Connection) → p .left ≡ m ++ rest
-        → messageStep v (p .connection) m (p .connection .phase) ≡ Server.accept flight next
+        → messageStep v (p .connection) m (p .connection .phase) ≡ Shared.accept flight next
         → judgeAll v p ≡ judgeAll v (taken p rest flight next) → First p
 
   pub first : (p : Progress) → First p
@@ -223,11 +224,11 @@ module _ (v : View) where
         going Phase.Complete e = absurd (Option·none-ne-some kind e)
         going Phase.Closed e = refl
 
-    pub message-first : (flight : Flight) (next : Connection) → messageStep v (p .connection) m (p .connection .phase) ≡ Server.accept flight next
+    pub message-first : (flight : Flight) (next : Connection) → messageStep v (p .connection) m (p .connection .phase) ≡ Shared.accept flight next
         → judgeAll v p ≡ judgeAll v (taken p rest flight next)
     message-first flight next step = message-stepped ∙ rw (step, is, drop-append-seam)
 
-    pub message-refused : (r : Refusal) → messageStep v (p .connection) m (p .connection .phase) ≡ Server.refuse r → judgeAll v p ≡ refuse r
+    pub message-refused : (r : Refusal) → messageStep v (p .connection) m (p .connection .phase) ≡ Shared.refuse r → judgeAll v p ≡ refuse r
     message-refused r step = message-stepped ∙ rw step
 
   -- ---- bytes behind others
@@ -313,8 +314,8 @@ module _ (v : View) where
       go false true early short step next = refl
       go false false (Verdict.Refused r) short step next = refl
       go false false Verdict.Accepted true step next = refl
-      go false false Verdict.Accepted false (Server.refuse r) next = refl
-      go false false Verdict.Accepted false (Server.accept flight after) next =
+      go false false Verdict.Accepted false (Shared.refuse r) next = refl
+      go false false Verdict.Accepted false (Shared.accept flight after) next =
           ap (judgeBytes n v) (onto-taken before master p (drop (messageEnd (p .left)) (p .left)) flight after)
           ∙ next (taken p (drop (messageEnd (p .left)) (p .left)) flight after)
 

@@ -14,13 +14,12 @@ use Rattle.lists.specs.Lists.{same}
 use Rattle.lists.proofs.Equal.{same-eq}
 use Rattle.refusal.specs.declared.Refusal.{Refusal}
 use Rattle.refusal.specs.declared.Refusal.the-variants.{UnexpectedMessage, IllegalParameter, DecodeError, SequenceSpent}
-use Rattle.refusal.specs.declared.Written.the-variants.{Refused}
 use Rattle.refusal.specs.Lent.{bytesOf}
-use Rattle.refusal.specs.Table.{toClient}
-use Rattle.server.specs.declared.Heard.{Heard}
+use Rattle.refusal.specs.Table.{toPeer}
+use Rattle.handshake.specs.declared.Heard.{Heard}
+use Rattle.handshake.specs.Alert.{heard}
 use Rattle.server.specs.Connection.{Settings}
 use Rattle.server.specs.KeyExchange.{View}
-use Rattle.server.specs.Alert.{heard}
 use Rattle.server.specs.Change.{afterChange}
 use Rattle.records.specs.declared.ContentType.{ContentType}
 use Rattle.records.specs.declared.Read.{Read}
@@ -37,8 +36,7 @@ use Rattle.record_theorems.specs.Series.{Call, takes, sends, Kept}
 use Rattle.record_theorems.specs.Terms.{under, PlainRecord, Plain, ChangeCame, named, clientKey}
 use Rattle.record_theorems.proofs.Taking.{held-front, held-short, read-alerts, ignored-warning}
 use Rattle.record_theorems.proofs.Reaching.{keysMade, change-judged}
-use Rattle.record_theorems.proofs.Standing.{plainly, changedTo, changes, plainStep}
-use Rattle.record_theorems.proofs.Standing.{step-of}
+use Rattle.record_theorems.proofs.Standing.{plainly, changedTo, changes, plainStep, step-of}
 use Rattle.record_theorems.proofs.Standing.{alone, plain-more, plain-warned, quiet, change-step, empty-is}
 use Rattle.record_theorems.proofs.FirstRecord.{firstRefusal, first-alerts, first-refused}
 use Rattle.record_theorems.proofs.Seeing.{Near, unsent-seen}
@@ -72,7 +70,7 @@ module _ (s : Settings) (Set : List ℕ → Type 0) (v v' : View) where
         goes s Set v v' calls (sends content out) (both .0) (changing c) (λ comes. absurd (true≢false (sym (both .1) ∙ comes)))
 
     module _ (b out : List ℕ) (not-last : eqb (c .number) lastSequence ≡ false) {kind : ContentType} (read : recordRead 0 b ≡ Read.Record kind) where
-      both-refuse : (r : Refusal) → toClient r ≡ true → plainStep v (c .number) (keysBy v) b (Read.Record kind) ≡ refuse r
+      both-refuse : (r : Refusal) → toPeer r ≡ true → plainStep v (c .number) (keysBy v) b (Read.Record kind) ≡ refuse r
           → plainStep v' (c .number) (keysBy v') b (Read.Record kind) ≡ refuse r → Goes s Set v v' calls (takes b out) k k'
       both-refuse r told e e' =
           let both = step-at false not-last b (Read.Record kind) read in

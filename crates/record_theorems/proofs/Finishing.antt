@@ -10,13 +10,13 @@ use mathlib.Core.Option.{Option, none}
 use Rattle.refusal.specs.declared.Refusal.{Refusal}
 use Rattle.refusal.specs.declared.Refusal.the-variants.{UnexpectedMessage}
 use Rattle.layout.specs.Place.{filledBy, afterHeader, contents}
+use Rattle.handshake.specs.Flight.{Flight, silence}
+use Rattle.handshake.specs.Step as Shared
 use Rattle.server.specs.declared.Phase.{Phase}
 use Rattle.server.specs.declared.Connection.{Connection}
 use Rattle.server.specs.Connection.{Settings, acceptable, ended}
-use Rattle.server.specs.Flight.{Flight, silence}
 use Rattle.server.specs.KeyExchange.{View}
 use Rattle.server.specs.Message.{messageStep}
-use Rattle.server.specs.Step as Server
 use Rattle.server.specs.Finished.{finishedFlight}
 use Rattle.records.specs.Joining.{unfinished}
 use Rattle.record_server.specs.Joining.{Progress, refuse, goesOn, judgeBytes, judged}
@@ -68,9 +68,9 @@ module _ (s : Settings) (v : View) (ok : acceptable s ≡ true) {hello : List �
           refused UnexpectedMessage (inl refl) (e ∙ something-behind v (taken (waiting c bytes) (b ∷ bs) flight next) over refl)
 
       of-finished : (m rest : List ℕ) (flight : Flight) (next : Connection) → bytes ≡ m ++ rest
-          → messageStep v c m Phase.Finished ≡ Server.accept flight next
+          → messageStep v c m Phase.Finished ≡ Shared.accept flight next
           → judged v c bytes ≡ judgeAll v (taken (waiting c bytes) rest flight next)
-          → Right s legal exchange found m ⊎ (messageStep v c m Phase.Finished ≡ Server.refuse (wrong m)) → Finishing s v legal exchange found bytes
+          → Right s legal exchange found m ⊎ (messageStep v c m Phase.Finished ≡ Shared.refuse (wrong m)) → Finishing s v legal exchange found bytes
       of-finished m rest flight next split step e (inl right) =
           let own = finished-right s v legal exchange found ok legal-exchange m right in
           let over : next ≡ ended Phase.Complete = cc (step, own .2) in

@@ -11,7 +11,7 @@ use Rattle.lists.specs.Lists.{part}
 use Rattle.refusal.specs.declared.Refusal.{Refusal}
 use Rattle.refusal.specs.declared.Refusal.the-variants.{DecryptError}
 use Rattle.refusal.specs.Lent.{Outcome, gives, refuses, andThen, bytesOf}
-use Rattle.refusal.specs.Table.{toClient, numberOf}
+use Rattle.refusal.specs.Table.{toPeer, numberOf}
 use Rattle.keys.specs.Secrets.{masterUnder, keys}
 use Rattle.server.specs.Connection.{Settings, started}
 use Rattle.server.specs.KeyExchange.{View}
@@ -32,10 +32,10 @@ abbrev pub firstRefusal : Read → Refusal
 firstRefusal (Read.Refused r) = cond (eqb (numberOf r) 20) DecryptError r
 firstRefusal (Read.Record kind) = DecryptError
 
-pub first-alerts : (b : List ℕ) (read : Read) → recordRead 32 b ≡ read → toClient (firstRefusal read) ≡ true
+pub first-alerts : (b : List ℕ) (read : Read) → recordRead 32 b ≡ read → toPeer (firstRefusal read) ≡ true
 first-alerts b (Read.Refused r) e = go (eqb (numberOf r) 20)
   where
-    go : (t : Bool) → toClient (cond t DecryptError r) ≡ true
+    go : (t : Bool) → toPeer (cond t DecryptError r) ≡ true
     go true = refl
     go false = read-alerts 32 b e
 first-alerts b (Read.Record kind) e = refl

@@ -15,7 +15,7 @@ use Rattle.refusal.specs.declared.Refusal.the-variants.{UnexpectedMessage, Deco
 use Rattle.layout.specs.declared.Verdict.{Verdict}
 use Rattle.layout.specs.Types.{messageLimit}
 use Rattle.layout.specs.Header.{header}
-use Rattle.server.specs.Message.{earlyTest}
+use Rattle.handshake.specs.Header.{earlyTest}
 use Rattle.records.specs.Joining.{messageEnd}
 
 refused-accepted : {r : Refusal} → Verdict.Refused r ≡ Verdict.Accepted → ⊥

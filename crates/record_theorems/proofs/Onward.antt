@@ -14,12 +14,12 @@ use Rattle.lists.proofs.Equal.{same-eq}
 use Rattle.refusal.specs.declared.Refusal.{Refusal}
 use Rattle.refusal.specs.declared.Refusal.the-variants.{UnexpectedMessage, IllegalParameter, DecodeError, SequenceSpent}
 use Rattle.refusal.specs.declared.Written.the-variants.{Refused}
-use Rattle.refusal.specs.Table.{toClient}
-use Rattle.server.specs.declared.Heard.{Heard}
+use Rattle.refusal.specs.Table.{toPeer}
+use Rattle.handshake.specs.declared.Heard.{Heard}
+use Rattle.handshake.specs.Alert.{heard}
 use Rattle.server.specs.declared.Phase.{Phase}
 use Rattle.server.specs.Connection.{Settings, ruleOf, acceptable, started}
 use Rattle.server.specs.KeyExchange.{View}
-use Rattle.server.specs.Alert.{heard}
 use Rattle.server.specs.Change.{afterChange, changeStep}
 use Rattle.records.specs.declared.ContentType.{ContentType}
 use Rattle.records.specs.declared.Read.{Read}
@@ -30,8 +30,7 @@ use Rattle.record_server.specs.Connection.{noAlert, closedWith}
 use Rattle.record_server.specs.Answering.{changeOfCipher}
 use Rattle.record_server.specs.Joining as Judging
 use Rattle.record_server.specs.Joining.{Progress, Judged, goesOn, isEmpty, judged}
-use Rattle.record_server.specs.Taking.{Step, refuse, accept, Accepted, oneMore, pendingWith, progressed}
-use Rattle.record_server.specs.Taking.{takeStep, front, settled, changed}
+use Rattle.record_server.specs.Taking.{Step, refuse, accept, Accepted, oneMore, pendingWith, progressed, takeStep, front, settled, changed}
 use Rattle.theorems.specs.Terms.{LegalHello}
 use Rattle.theorems.proofs.Stages.{keyed, unknown}
 use Rattle.record_theorems.specs.Series.{Call, takes, sends, Kept, call, run, refusedToHost}
@@ -95,7 +94,7 @@ module _ (s : Settings) (v : View) where
         decided : {t : Step} → plainStep v n p b (Read.Record kind) ≡ t → step ≡ t
         decided e = step-is ∙ ap (plainStep v n p b) read ∙ e
 
-        closed-by : (r : Refusal) → toClient r ≡ true → plainStep v n p b (Read.Record kind) ≡ refuse r
+        closed-by : (r : Refusal) → toPeer r ≡ true → plainStep v n p b (Read.Record kind) ≡ refuse r
             → AfterPlain s v (calls ++ (x ∷ [])) (call v k x .kept)
         closed-by r told e = closes (alerted v k b out (decided e) told)
 

@@ -9,16 +9,17 @@ use lib.ListN.{length}
 use lib.Dec.{ltb}
 use Rattle.refusal.specs.declared.Refusal.the-variants.{UnexpectedMessage}
 use Rattle.messages.specs.KeyExchange.{readVector}
+use Rattle.handshake.specs.Flight.{Flight, silence}
+use Rattle.handshake.specs.Step as Shared
 use Rattle.server.specs.declared.Rule.{Rule}
 use Rattle.server.specs.declared.Phase.{Phase}
 use Rattle.server.specs.Connection.{Settings, ruleOf, started}
-use Rattle.server.specs.Flight.{Flight, silence}
 use Rattle.server.specs.KeyExchange.{View}
 use Rattle.server.specs.Step as Server
 use Rattle.server.specs.Message.{messageStep}
 use Rattle.record_server.specs.Joining.{Progress, Judged, refuse, goesOn, joinedFlight, judged}
 use Rattle.theorems.specs.Terms.{LegalHello, LegalKeyExchange, answerTo}
-use Rattle.theorems.proofs.Settling.{unread}
+use Rattle.handshake.proofs.Settling.{unread}
 use Rattle.theorems.proofs.Stages.{helloed, keyed, hello-legal, exchange-read, exchange-legal}
 use Rattle.record_theorems.specs.Cutting.{judgeAll}
 use Rattle.record_theorems.proofs.Cutting.{taken, all-first}
@@ -67,11 +68,11 @@ module _ (s : Settings) (hide : ruleOf (s .named) ≡ Rule.Hide) (v v' : View) (
           → Pair (behind (judgeAll v) p rest (messageStep v (helloed s legal) m Phase.KeyExchange))
           (behind (judgeAll v') p rest (messageStep v' (helloed s legal) m Phase.KeyExchange))
       of-read m rest none read =
-          of-steps rest (Server.refuse (unread 16 m)) (Server.refuse (unread 16 m))
+          of-steps rest (Shared.refuse (unread 16 m)) (Shared.refuse (unread 16 m))
           (exchange-read s v legal m good ∙ rw read) (exchange-read s v' legal m good' ∙ rw read) (equal refl)
       of-read m rest (some identity) read =
           let exchange : LegalKeyExchange m = record { identity = identity; read = read } in
-          of-steps rest (Server.accept silence (keyed s legal m (v .lookup identity))) (Server.accept silence (keyed s legal m (v' .lookup identity)))
+          of-steps rest (Shared.accept silence (keyed s legal m (v .lookup identity))) (Shared.accept silence (keyed s legal m (v' .lookup identity)))
           (exchange-legal s v legal good exchange ∙ rw hide) (exchange-legal s v' legal good' exchange ∙ rw hide)
           (change-pair (taken p rest silence (keyed s legal m (v .lookup identity))) (taken p rest silence (keyed s legal m (v' .lookup identity)))
           refl refl refl refl)
@@ -89,8 +90,8 @@ module _ (s : Settings) (hide : ruleOf (s .named) ≡ Rule.Hide) (v v' : View) (
       of-step : (m rest : List ℕ) (step : Server.Step) → messageStep v (started s) m Phase.Hello ≡ step
           → Pair (behind (judgeAll v) p rest (messageStep v (started s) m Phase.Hello))
           (behind (judgeAll v') p rest (messageStep v (started s) m Phase.Hello))
-      of-step m rest (Server.refuse r) e = rw e (equal refl)
-      of-step m rest (Server.accept flight next) e =
+      of-step m rest (Shared.refuse r) e = rw e (equal refl)
+      of-step m rest (Shared.accept flight next) e =
           let legal = hello-accepted s v m flight next e in
           rw (hello-legal s v legal) (exchange-pair legal (joinedFlight silence (answerTo s legal)) none rest)
 

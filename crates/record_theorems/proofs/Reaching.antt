@@ -17,23 +17,24 @@ use Rattle.layout.specs.Header.{header}
 use Rattle.layout.specs.Place.{lastAt, afterHeader, contents}
 use Rattle.hellos.specs.ClientHello.{clientHeader, clientFields}
 use Rattle.messages.specs.KeyExchange.{readVector}
+use Rattle.handshake.specs.Flight.{Flight, silence}
+use Rattle.handshake.specs.Step as Shared
 use Rattle.server.specs.declared.Phase.{Phase}
 use Rattle.server.specs.declared.Connection.{Connection}
 use Rattle.server.specs.Connection.{Settings, ruleOf, started}
-use Rattle.server.specs.Flight.{Flight, silence}
 use Rattle.server.specs.Step as Server
 use Rattle.server.specs.KeyExchange.{View}
 use Rattle.server.specs.Message.{messageStep}
 use Rattle.record_server.specs.Joining.{Progress, refuse, goesOn, judged}
 use Rattle.theorems.specs.Terms.{LegalHello, LegalKeyExchange, answerTo}
-use Rattle.theorems.proofs.Settling.{Alerts, unread}
+use Rattle.handshake.proofs.Settling.{Alerts, unread}
 use Rattle.theorems.proofs.Stages.{helloed, keyed, unknown, hello-legal, hello-other, exchange-read, exchange-legal}
 use Rattle.record_theorems.specs.Cutting.{judgeAll}
 use Rattle.record_theorems.proofs.Headers.{HeaderPassed, read-passed}
 use Rattle.record_theorems.proofs.Cutting.{taken, refused-on, all-first, First, is-refused, is-left, is-taken, first, message-first}
 use Rattle.record_theorems.proofs.Cutting.{message-refused}
 
-never-both : {step : Server.Step} {flight : Flight} {next : Connection} → step ≡ Server.accept flight next → (r : Refusal) → step ≡ Server.refuse r
+never-both : {step : Server.Step} {flight : Flight} {next : Connection} → step ≡ Shared.accept flight next → (r : Refusal) → step ≡ Shared.refuse r
     → ⊥
 never-both e r f = let z : _≡_ {A = ℕ} 0 1 = cc in omega arith
 
@@ -44,7 +45,7 @@ module _ (s : Settings) (v : View) where
   helloStep m = messageStep v (started s) m Phase.Hello
 
   -- a message that is accepted where the ClientHello is awaited
-  pub hello-accepted : (m : List ℕ) (flight : Flight) (next : Connection) → helloStep m ≡ Server.accept flight next → LegalHello (s .suites) m
+  pub hello-accepted : (m : List ℕ) (flight : Flight) (next : Connection) → helloStep m ≡ Shared.accept flight next → LegalHello (s .suites) m
   hello-accepted m flight next e = go (hello-other s v m)
     where
       go : LegalHello (s .suites) m ⊎ Alerts (helloStep m) → LegalHello (s .suites) m
@@ -61,7 +62,7 @@ module _ (s : Settings) (v : View) where
       exchange : LegalKeyExchange m
       known : unknown (ruleOf (s .named)) (v .lookup (exchange .identity)) ≡ false
 
-    exchange-accepted : (m : List ℕ) (flight : Flight) (next : Connection) → exchangeStep m ≡ Server.accept flight next → Accepts m
+    exchange-accepted : (m : List ℕ) (flight : Flight) (next : Connection) → exchangeStep m ≡ Shared.accept flight next → Accepts m
     exchange-accepted m flight next e = of-table (v .refusal) refl
       where
         of-known : v .refusal ≡ none → (exchange : LegalKeyExchange m) → (b : Bool) → unknown (ruleOf (s .named)) (v .lookup (exchange .identity)) ≡ b
@@ -84,7 +85,7 @@ module _ (s : Settings) (v : View) where
         of-table none good = of-read good (readVector 16 m) refl
         of-table (some r) bad = of-header r bad (header 16 m) refl
 
-    exchange-accepts : {m : List ℕ} (a : Accepts m) → exchangeStep m ≡ Server.accept silence (keyed s legal m (v .lookup (a .exchange .identity)))
+    exchange-accepts : {m : List ℕ} (a : Accepts m) → exchangeStep m ≡ Shared.accept silence (keyed s legal m (v .lookup (a .exchange .identity)))
     exchange-accepts a = exchange-legal s v legal (a .good) (a .exchange) ∙ rw (a .known)
 
 exchange-passed : {m : List ℕ} → LegalKeyExchange m → HeaderPassed 16 m

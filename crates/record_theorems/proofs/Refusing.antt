@@ -13,7 +13,7 @@ use Rattle.endian.specs.Vector.{stated}
 use Rattle.refusal.specs.declared.Refusal.{Refusal}
 use Rattle.refusal.specs.declared.Refusal.the-variants.{UnexpectedMessage, IllegalParameter, DecodeError, DecryptError, ProtocolVersion}
 use Rattle.refusal.specs.Lent.{Outcome, gives, refuses}
-use Rattle.refusal.specs.Table.{toClient}
+use Rattle.refusal.specs.Table.{toPeer}
 use Rattle.sha256.specs.State.{absorb}
 use Rattle.keys.specs.declared.Side.the-variants.{Client, Server}
 use Rattle.keys.specs.Secrets.{finishedOf}
@@ -22,20 +22,24 @@ use Rattle.layout.specs.Types.{messageLimit}
 use Rattle.layout.specs.Header.{header}
 use Rattle.layout.specs.Place.{lastAt, filledBy, contents}
 use Rattle.hellos.specs.ClientHello.{ClientHello, clientBody, clientFields}
+use Rattle.handshake.specs.Finished.{isValue}
+use Rattle.handshake.specs.Header.{earlyTest}
+use Rattle.handshake.specs.Protocol.{tls12}
+use Rattle.handshake.specs.Step.{refuse, accept, afterTests, unlessRefused}
 use Rattle.server.specs.declared.Rule.{Rule}
 use Rattle.server.specs.declared.Phase.{Phase}
 use Rattle.server.specs.declared.Connection.{Connection}
 use Rattle.server.specs.Connection.{isOver}
-use Rattle.server.specs.Step.{Step, refuse, accept, afterTests, unlessRefused}
-use Rattle.server.specs.Hello.{tls12, chosen, offersNull, helloChosen, helloFields}
+use Rattle.server.specs.Step.{Step}
+use Rattle.server.specs.Hello.{chosen, offersNull, helloChosen, helloFields}
 use Rattle.server.specs.KeyExchange.{View, unlisted, keyFound, keyIdentity}
-use Rattle.server.specs.Finished.{isValue, completed, finishedValue}
-use Rattle.server.specs.Message.{earlyTest, messageStep}
-use Rattle.theorems.proofs.Settling.{Tested, header-tested}
+use Rattle.server.specs.Finished.{completed, finishedValue}
+use Rattle.server.specs.Message.{messageStep}
+use Rattle.handshake.proofs.Settling.{Tested, header-tested}
 
 -- the client, or the host of the key table's refusal
 abbrev pub Told : View → Refusal → Type 0
-Told v r = (toClient r ≡ true) ⊎ (v .refusal ≡ some r)
+Told v r = (toPeer r ≡ true) ⊎ (v .refusal ≡ some r)
 
 abbrev Tells : View → Step → Type 0
 Tells v (refuse r) = Told v r
@@ -93,7 +97,7 @@ module _ (v : View) where
       tested-tells 16 m _ (table-tells (v .refusal) refl _ (exchange-tells c m (contents m (lastAt 2 m 4))))
   message-tells c m Phase.Change going = inl (short-or-not (ltb (length m) 4))
     where
-      short-or-not : (b : Bool) → toClient (cond b DecodeError UnexpectedMessage) ≡ true
+      short-or-not : (b : Bool) → toPeer (cond b DecodeError UnexpectedMessage) ≡ true
       short-or-not true = refl
       short-or-not false = refl
   message-tells c m Phase.Finished going = tested-tells 20 m _ (finished-tells c m (contents m (filledBy 12 m)))
@@ -105,12 +109,12 @@ module _ (v : View) where
   message-told c m phase going r e = rw e at (message-tells c m phase going)
 
 -- what is judged by the header alone
-pub early-told : (kind : Option ℕ) (m : List ℕ) (r : Refusal) → earlyTest kind m ≡ Verdict.Refused r → toClient r ≡ true
+pub early-told : (kind : Option ℕ) (m : List ℕ) (r : Refusal) → earlyTest kind m ≡ Verdict.Refused r → toPeer r ≡ true
 early-told none m r e = let is : r ≡ UnexpectedMessage = cc in rw is
 early-told (some kind) m r e = go (eqb (getD m 0 0) kind) (leb (4 + stated 3 (drop 1 m)) messageLimit) e
   where
     go : (a b : Bool) → cond a (cond b Verdict.Accepted (Verdict.Refused DecodeError)) (Verdict.Refused UnexpectedMessage) ≡ Verdict.Refused r
-        → toClient r ≡ true
+        → toPeer r ≡ true
     go true true f = absurd (let z : _≡_ {A = ℕ} 0 1 = cc in omega arith)
     go true false f = let is : r ≡ DecodeError = cc in rw is
     go false b f = let is : r ≡ UnexpectedMessage = cc in rw is

@@ -13,11 +13,11 @@ use Rattle.lists.proofs.Equal.{same-eq, same-refl}
 use Rattle.refusal.specs.declared.Refusal.the-variants.{SequenceSpent}
 use Rattle.keytable.specs.Table.{keyOf}
 use Rattle.keytable.proofs.Laws.{removed-gone, removed-else}
+use Rattle.handshake.specs.Flight.{Flight}
 use Rattle.server.specs.declared.Rule.{Rule}
 use Rattle.server.specs.declared.Answer.{Answer}
 use Rattle.server.specs.declared.Phase.{Phase}
 use Rattle.server.specs.Connection.{Settings, ruleOf, started}
-use Rattle.server.specs.Flight.{Flight}
 use Rattle.server.specs.KeyExchange.{View, viewOf}
 use Rattle.records.specs.declared.ContentType.{ContentType}
 use Rattle.records.specs.declared.Read.{Read}
@@ -41,10 +41,8 @@ use Rattle.record_theorems.proofs.Series.{came-append}
 use Rattle.record_theorems.proofs.Taking.{took, accepted}
 use Rattle.record_theorems.proofs.Reaching.{keysMade, Reached, awaits-hello, awaits-exchange, awaits-change, exchange-judged}
 use Rattle.record_theorems.proofs.Reaching.{change-waits, reached}
-use Rattle.record_theorems.proofs.Standing.{plainly, StandsPlain, AfterPlain, still, changes, closes, Proper, plain-once, plainStep}
-use Rattle.record_theorems.proofs.Standing.{step-of}
-use Rattle.record_theorems.proofs.Standing.{none-protected, reached-going}
-use Rattle.record_theorems.proofs.Standing.{begins}
+use Rattle.record_theorems.proofs.Standing.{plainly, StandsPlain, AfterPlain, still, changes, closes, Proper, plain-once, plainStep, step-of}
+use Rattle.record_theorems.proofs.Standing.{none-protected, reached-going, begins}
 use Rattle.record_theorems.proofs.Onward.{plain-on}
 use Rattle.record_theorems.proofs.Beyond.{Beyond, beyond-same}
 use Rattle.record_theorems.proofs.Parting.{Pair, equal, parted, reached-pair}

@@ -10,7 +10,7 @@ use lib.Dec.{leb, eqb}
 use Rattle.refusal.specs.declared.Refusal.{Refusal}
 use Rattle.refusal.specs.declared.Refusal.the-variants.{BadValue, SequenceSpent}
 use Rattle.refusal.specs.declared.Written.the-variants.{Refused}
-use Rattle.refusal.specs.Table.{toClient, numberOf}
+use Rattle.refusal.specs.Table.{toPeer, numberOf}
 use Rattle.server.specs.KeyExchange.{View}
 use Rattle.records.specs.declared.State.{State}
 use Rattle.records.specs.Protection.{lastSequence}
@@ -31,7 +31,7 @@ near-self k = record { memory = refl; writing = refl; alert = refl }
 
 module _ {k k' : Kept} (near : Near k k') (out : List ℕ) where
   alert-alike : (r : Refusal) → alertOf (afterRefusal r (k .connection)) ≡ alertOf (afterRefusal r (k' .connection))
-  alert-alike r = rw (alerts-close r (k .connection), alerts-close r (k' .connection)) (go (toClient r))
+  alert-alike r = rw (alerts-close r (k .connection), alerts-close r (k' .connection)) (go (toPeer r))
     where
       go : (b : Bool) → alertOf (cond b (closedWith (closingAlert (k .connection .writing) (numberOf r))) (k .connection))
           ≡ alertOf (cond b (closedWith (closingAlert (k' .connection .writing) (numberOf r))) (k' .connection))
@@ -42,7 +42,7 @@ module _ {k k' : Kept} (near : Near k k') (out : List ℕ) where
   refused-seen r = ap (λ (l : List ℕ). record { said = Refused r; out = out; alert = l }) (alert-alike r)
 
   -- an alert closes both alike
-  pub refused-closed : (r : Refusal) → toClient r ≡ true → took k out (refuse r) .kept ≡ took k' out (refuse r) .kept
+  pub refused-closed : (r : Refusal) → toPeer r ≡ true → took k out (refuse r) .kept ≡ took k' out (refuse r) .kept
   refused-closed r told = rw (alerts-close r (k .connection), alerts-close r (k' .connection), told, near .writing, near .memory)
 
   pub accepted-seen : (a a' : Accepted) → a .answer ≡ a' .answer → a .held ≡ a' .held → a .next .alert ≡ a' .next .alert

@@ -14,13 +14,13 @@ use Rattle.refusal.specs.declared.Refusal.{Refusal}
 use Rattle.refusal.specs.declared.Refusal.the-variants.{UnexpectedMessage, SequenceSpent}
 use Rattle.refusal.specs.declared.Written.the-variants.{Refused}
 use Rattle.layout.specs.declared.Verdict.{Verdict}
+use Rattle.handshake.specs.Flight.{silence}
+use Rattle.handshake.specs.Step as Shared
 use Rattle.server.specs.declared.Phase.{Phase}
 use Rattle.server.specs.declared.Connection.{Connection}
 use Rattle.server.specs.Connection.{Settings, ruleOf, acceptable, started}
 use Rattle.server.specs.KeyExchange.{View}
-use Rattle.server.specs.Flight.{silence}
 use Rattle.server.specs.Change.{afterChange, changeStep}
-use Rattle.server.specs.Step as Server
 use Rattle.records.specs.declared.ContentType.{ContentType}
 use Rattle.records.specs.declared.Read.{Read}
 use Rattle.records.specs.declared.State.{State}
@@ -43,8 +43,7 @@ use Rattle.record_theorems.specs.Terms.{PlainRecord, Warning, Plain, non
 use Rattle.record_theorems.specs.Cutting.{withMore, judgeAll}
 use Rattle.record_theorems.specs.Demand3.{begun}
 use Rattle.record_theorems.proofs.Cutting.{onto, allOnto, cut, judged-onto}
-use Rattle.record_theorems.proofs.Reaching.{from, Reached, awaits-hello, awaits-exchange, awaits-change}
-use Rattle.record_theorems.proofs.Reaching.{change-waits, reached}
+use Rattle.record_theorems.proofs.Reaching.{from, Reached, awaits-hello, awaits-exchange, awaits-change, change-waits, reached}
 
 -- ---- where it stands
 
@@ -173,7 +172,7 @@ pub change-step : (v : View) (n : ℕ) (p : Progress) (b : List ℕ) → p .conn
     → plainStep v n p b (Read.Record ContentType.ChangeCipherSpec) ≡ accept (quiet (changed (plainly n p) (afterChange (p .connection))) (p .left))
 change-step v n p b awaits nothing-left one = rw (awaits, nothing-left, one)
 
-pub early-change : (v : View) (n : ℕ) (p : Progress) (b : List ℕ) → changeStep (p .connection) (p .connection .phase) ≡ Server.refuse UnexpectedMessage
+pub early-change : (v : View) (n : ℕ) (p : Progress) (b : List ℕ) → changeStep (p .connection) (p .connection .phase) ≡ Shared.refuse UnexpectedMessage
     → isEmpty (p .left) ≡ true → same (fragmentOf b) changeOfCipher ≡ true
     → plainStep v n p b (Read.Record ContentType.ChangeCipherSpec) ≡ refuse UnexpectedMessage
 early-change v n p b refuses nothing-left one = rw (nothing-left, one, refuses)

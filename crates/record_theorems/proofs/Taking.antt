@@ -12,11 +12,11 @@ use lib.Dec.{leb, eqb}
 use borrow.Author.Tests.{eqb-true, eqb-false, ne-eqb}
 use Rattle.refusal.specs.declared.Refusal.{Refusal}
 use Rattle.refusal.specs.declared.Refusal.the-variants.{UnexpectedMessage, RecordOverflow, DecodeError}
-use Rattle.refusal.specs.Table.{toClient}
-use Rattle.server.specs.declared.Heard.{Heard}
+use Rattle.refusal.specs.Table.{toPeer}
+use Rattle.handshake.specs.declared.Heard.{Heard}
+use Rattle.handshake.specs.Alert.{heard}
 use Rattle.server.specs.declared.Phase.{Phase}
 use Rattle.server.specs.KeyExchange.{View}
-use Rattle.server.specs.Alert.{heard}
 use Rattle.records.specs.declared.ContentType.{ContentType}
 use Rattle.records.specs.declared.Read.{Read}
 use Rattle.records.specs.Record.{whole, fragmentOf, typeOf, typeRead, recordRead}
@@ -43,7 +43,7 @@ module _ (v : View) (k : Kept) (bytes out : List ℕ) where
   abbrev step : Step
   step = takeStep v (k .connection) (k .memory) bytes
 
-  pub alerted : {r : Refusal} → step ≡ refuse r → toClient r ≡ true → call v k (takes bytes out) .kept .connection .handshake .phase ≡ Phase.Closed
+  pub alerted : {r : Refusal} → step ≡ refuse r → toPeer r ≡ true → call v k (takes bytes out) .kept .connection .handshake .phase ≡ Phase.Closed
   alerted {r} e told =
       ap (λ (t : Step). settled (k .connection) out (k .memory) t .next .handshake .phase) e ∙ rw (alerts-close r (k .connection), told)
 
@@ -74,17 +74,17 @@ held-short memory n bytes e = go (unfinished (take n memory)) refl e
 
 -- ---- the tests on a record refuse with alerts
 
-pub read-alerts : (added : ℕ) (b : List ℕ) {r : Refusal} → recordRead added b ≡ Read.Refused r → toClient r ≡ true
+pub read-alerts : (added : ℕ) (b : List ℕ) {r : Refusal} → recordRead added b ≡ Read.Refused r → toPeer r ≡ true
 read-alerts added b {r} e = of-whole (whole b) (typeOf (getD b 0 0)) e
   where
-    alike : (p : Refusal) → toClient p ≡ true → Read.Refused p ≡ Read.Refused r → toClient r ≡ true
+    alike : (p : Refusal) → toPeer p ≡ true → Read.Refused p ≡ Read.Refused r → toPeer r ≡ true
     alike p told e = let is : p ≡ r = cc in rw (← is) told
 
-    of-length : (t : Bool) (kind : ContentType) → cond t (Read.Record kind) (Read.Refused RecordOverflow) ≡ Read.Refused r → toClient r ≡ true
+    of-length : (t : Bool) (kind : ContentType) → cond t (Read.Record kind) (Read.Refused RecordOverflow) ≡ Read.Refused r → toPeer r ≡ true
     of-length true kind e = let z : _≡_ {A = ℕ} 0 1 = cc in absurd (omega arith)
     of-length false kind e = alike RecordOverflow refl e
 
-    of-whole : (t : Bool) (type : Option ContentType) → cond t (typeRead added b type) (Read.Refused DecodeError) ≡ Read.Refused r → toClient r ≡ true
+    of-whole : (t : Bool) (type : Option ContentType) → cond t (typeRead added b type) (Read.Refused DecodeError) ≡ Read.Refused r → toPeer r ≡ true
     of-whole false type e = alike DecodeError refl e
     of-whole true none e = alike UnexpectedMessage refl e
     of-whole true (some kind) e = of-length (leb (length (fragmentOf b)) (16384 + added)) kind e

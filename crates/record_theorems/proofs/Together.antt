@@ -8,7 +8,7 @@ use mathlib.Core.List.{List, [], _∷_, _++_, append-nil}
 use lib.ListN.{length}
 use Rattle.refusal.specs.declared.Refusal.{Refusal}
 use Rattle.refusal.specs.declared.Written.the-variants.{Refused}
-use Rattle.refusal.specs.Table.{toClient}
+use Rattle.refusal.specs.Table.{toPeer}
 use Rattle.server.specs.Connection.{Settings}
 use Rattle.server.specs.KeyExchange.{View}
 use Rattle.records.specs.Joining.{heldIn}
@@ -80,14 +80,14 @@ module _ (s : Settings) (Set : List ℕ → Type 0) (v v' : View) where
     abbrev stepOf : View → Kept → Step
     stepOf w l = takeStep w (l .connection) (l .memory) b
 
-    pub refused-goes : (r : Refusal) → (toClient r ≡ true) ⊎ (refusedToHost (Refused r) ≡ true) → stepOf v k ≡ refuse r → stepOf v' k' ≡ refuse r
+    pub refused-goes : (r : Refusal) → (toPeer r ≡ true) ⊎ (refusedToHost (Refused r) ≡ true) → stepOf v k ≡ refuse r → stepOf v' k' ≡ refuse r
         → Goes calls (takes b out) k k'
     refused-goes r told e e' =
         goes calls (takes b out) (ap (λ (t : Step). seen (took k out t)) e ∙ refused-seen near out r
         ∙ sym (ap (λ (t : Step). seen (took k' out t)) e')) stay
         (after told)
       where
-        after : (toClient r ≡ true) ⊎ (refusedToHost (Refused r) ≡ true) → refusedToHost (call v k (takes b out) .said) ≡ false
+        after : (toPeer r ≡ true) ⊎ (refusedToHost (Refused r) ≡ true) → refusedToHost (call v k (takes b out) .said) ≡ false
             → Together s v v' Set (calls ++ (takes b out ∷ [])) (call v k (takes b out) .kept) (call v' k' (takes b out) .kept)
         after (inl alerts) comes =
             same-beyond (subst Beyond (sym (alerted v k b out e alerts)) tt)

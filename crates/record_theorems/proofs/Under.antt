@@ -13,10 +13,10 @@ use borrow.Author.Tests.{eq-eqb, eqb-true}
 use Rattle.lists.specs.Lists.{same}
 use Rattle.refusal.specs.declared.Refusal.{Refusal}
 use Rattle.refusal.specs.declared.Refusal.the-variants.{UnexpectedMessage, BadRecordMac, IllegalParameter, DecodeError, DecryptError}
-use Rattle.refusal.specs.Table.{toClient, numberOf}
+use Rattle.refusal.specs.Table.{toPeer, numberOf}
+use Rattle.handshake.specs.declared.Heard.{Heard}
+use Rattle.handshake.specs.Alert.{heard}
 use Rattle.server.specs.declared.Phase.{Phase}
-use Rattle.server.specs.declared.Heard.{Heard}
-use Rattle.server.specs.Alert.{heard}
 use Rattle.server.specs.Connection.{Settings, acceptable, ended}
 use Rattle.server.specs.KeyExchange.{View}
 use Rattle.records.specs.declared.ContentType.{ContentType}
@@ -81,25 +81,25 @@ under-begins s v began k is = record { short = refl; waits = unfold Judging.judg
 
 -- ---- the tests on a record refuse with alerts
 
-opened-alerts : (state : State) (b : List ℕ) {r : Refusal} → opened state b ≡ Opened.Refused r → toClient r ≡ true
+opened-alerts : (state : State) (b : List ℕ) {r : Refusal} → opened state b ≡ Opened.Refused r → toPeer r ≡ true
 opened-alerts state b {r} e = of-read (recordRead (added state) b) refl e
   where
-    refusals : (q : Refusal) → toClient q ≡ true → Opened.Refused q ≡ Opened.Refused r → toClient r ≡ true
+    refusals : (q : Refusal) → toPeer q ≡ true → Opened.Refused q ≡ Opened.Refused r → toPeer r ≡ true
     refusals q told e = let is : q ≡ r = cc in rw (← is) told
 
     of-mac : (t : Bool) (kind : ContentType) (n : ℕ) → cond t (Opened.Refused BadRecordMac) (Opened.Content kind n) ≡ Opened.Refused r
-        → toClient r ≡ true
+        → toPeer r ≡ true
     of-mac true kind n e = refusals BadRecordMac refl e
     of-mac false kind n e = let z : _≡_ {A = ℕ} 0 1 = cc in absurd (omega arith)
 
-    of-read : (read : Read) → recordRead (added state) b ≡ read → macRead state b read ≡ Opened.Refused r → toClient r ≡ true
+    of-read : (read : Read) → recordRead (added state) b ≡ read → macRead state b read ≡ Opened.Refused r → toPeer r ≡ true
     of-read (Read.Record kind) is e = of-mac (state .protected && not (rightMac state b)) kind _ e
     of-read (Read.Refused q) is e = refusals q (read-alerts (added state) b is) e
 
-refused-alerts : (c : RecordConnection) (r : Refusal) → toClient r ≡ true → toClient (refusedAs c r) ≡ true
+refused-alerts : (c : RecordConnection) (r : Refusal) → toPeer r ≡ true → toPeer (refusedAs c r) ≡ true
 refused-alerts c r told = go (isFirst c && eqb (numberOf r) 20)
   where
-    go : (t : Bool) → toClient (cond t DecryptError r) ≡ true
+    go : (t : Bool) → toPeer (cond t DecryptError r) ≡ true
     go true = refl
     go false = told
 
@@ -157,7 +157,7 @@ module _ (s : Settings) (v : View) {first : List Call} (began : ChangeCame s fir
           → call v k x .kept ≡ record { connection = a .next; memory = front (a .held) memory }
       kept-is e = rw (sealed .is) (accepted v k b (sealed .out) (decided ∙ e) came)
 
-      closed-by : (r : Refusal) → contentDecided v c bytes content kind ≡ refuse r → toClient r ≡ true
+      closed-by : (r : Refusal) → contentDecided v c bytes content kind ≡ refuse r → toPeer r ≡ true
           → call v k x .kept .connection .handshake .phase ≡ Phase.Closed
       closed-by r e told = rw (sealed .is) (alerted v k b (sealed .out) (decided ∙ e) told)
 
@@ -202,7 +202,7 @@ module _ (s : Settings) (v : View) {first : List Call} (began : ChangeCame s fir
             → call v k x .kept .connection .handshake .phase ≡ Phase.Complete
         completes-on {p} over e = rw (kept-is key listed sealed comes (ap (handshakeStep c) e), over)
 
-        refused-on : {r : Refusal} → toClient r ≡ true → judged v (c .handshake) all ≡ Judging.refuse r
+        refused-on : {r : Refusal} → toPeer r ≡ true → judged v (c .handshake) all ≡ Judging.refuse r
             → call v k x .kept .connection .handshake .phase ≡ Phase.Closed
         refused-on {r} told e = closed-by key listed sealed comes r (ap (handshakeStep c) e) told
 
@@ -241,7 +241,7 @@ module _ (s : Settings) (v : View) {first : List Call} (began : ChangeCame s fir
               go (completes right p over e) = finishes (bytes ++ (d ∷ ds)) joined right
               go (refused r told e) = closes (refused-on key listed comes sealed (of-told told) e)
                 where
-                  of-told : Told v r → toClient r ≡ true
+                  of-told : Told v r → toPeer r ≡ true
                   of-told (inl client) = client
                   of-told (inr table) = absurd (Option·none-ne-some r (sym good ∙ table))
 

@@ -4,8 +4,8 @@ use Prim.Native.Nat.{ℕ}
 use mathlib.Core.List.{List, [], _∷_, _++_}
 use mathlib.Core.Option.{none}
 use lib.ListN.{length}
+use Rattle.handshake.specs.Flight.{silence, joined}
 use Rattle.server.specs.declared.Connection.{Connection}
-use Rattle.server.specs.Flight.{silence, joined}
 use Rattle.server.specs.KeyExchange.{View}
 use Rattle.record_server.specs.Joining.{Progress, Judged, refuse, goesOn, judgeBytes, judged}
 

@@ -5,7 +5,7 @@ use mathlib.Core.List.{List, [], _∷_}
 use lib.Dec.{eqb}
 use Rattle.refusal.specs.declared.Written.{Written}
 use Rattle.refusal.specs.declared.Written.the-variants.{Wrote, Refused}
-use Rattle.refusal.specs.Table.{numberOf, toClient}
+use Rattle.refusal.specs.Table.{numberOf, toPeer}
 use Rattle.server.specs.KeyExchange.{View}
 use Rattle.record_server.specs.declared.RecordConnection.{RecordConnection}
 use Rattle.record_server.specs.Connection.{alertOf}
@@ -72,7 +72,7 @@ answers v k (x ∷ xs) = seen (call v k x) ∷ answers v (call v k x .kept) xs
 -- Refused to the host with a number other than R4. Such a call counts as not come.
 abbrev pub refusedToHost : Written → Bool
 refusedToHost (Wrote n) = false
-refusedToHost (Refused r) = not (toClient r) && not (eqb (numberOf r) 4)
+refusedToHost (Refused r) = not (toPeer r) && not (eqb (numberOf r) 4)
 
 -- the calls of a series that count as come
 abbrev pub came : View → Kept → List Call → List Call

@@ -6,11 +6,11 @@ use Rattle.refusal.specs.declared.Refusal.{Refusal}
 use Rattle.refusal.specs.declared.Refusal.the-variants.{ShortOutput, BadTable, BadSetting, ConnectionOver, BadValue}
 use Rattle.refusal.specs.declared.Refusal.the-variants.{AlreadyListed, NotListed, TableFull, SequenceSpent, BadList}
 use Rattle.refusal.specs.declared.Refusal.the-variants.{UnexpectedMessage, BadRecordMac, RecordOverflow, HandshakeFailure, IllegalParameter, DecodeError}
-use Rattle.refusal.specs.declared.Refusal.the-variants.{DecryptError, ProtocolVersion, UnknownPskIdentity}
-use Rattle.refusal.specs.Table.{Effect, unchanged, closed, noneMade, noneInvolved, row, toClient}
+use Rattle.refusal.specs.declared.Refusal.the-variants.{DecryptError, ProtocolVersion, UnsupportedExtension, UnknownPskIdentity}
+use Rattle.refusal.specs.Table.{Effect, unchanged, closed, noneMade, noneInvolved, row, toPeer}
 
 module _ {A : Type 0} (f : Effect → A) {x y : A} (shut : f closed ≡ x) (same : f unchanged ≡ y) (none : f noneMade ≡ y) (apart : f noneInvolved ≡ y) where
-  pub by-receiver : (r : Refusal) → f (row r .connection) ≡ cond (toClient r) x y
+  pub by-receiver : (r : Refusal) → f (row r .connection) ≡ cond (toPeer r) x y
   by-receiver ShortOutput = same
   by-receiver BadTable = same
   by-receiver BadSetting = none
@@ -29,4 +29,5 @@ module _ {A : Type 0} (f : Effect → A) {x y : A} (shut : f closed ≡ x) (same
   by-receiver DecodeError = shut
   by-receiver DecryptError = shut
   by-receiver ProtocolVersion = shut
+  by-receiver UnsupportedExtension = shut
   by-receiver UnknownPskIdentity = shut

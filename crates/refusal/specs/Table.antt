@@ -1,4 +1,4 @@
--- Document 01, "Numbers that come back", and the numbers of document 02's P1, P5 and P6, as a table: for each refusal its number, who is given it, and what
+-- Document 01, "Numbers that come back", and the numbers of document 02's P1, P5, P6 and P7, as a table: for each refusal its number, who is given it, and what
 -- becomes of the connection.
 use Prim.Native.Nat.{ℕ}
 use mathlib.Core.Bool.{Bool, true, false}
@@ -6,11 +6,11 @@ use Rattle.refusal.specs.declared.Refusal.{Refusal}
 use Rattle.refusal.specs.declared.Refusal.the-variants.{ShortOutput, BadTable, BadSetting, ConnectionOver, BadValue}
 use Rattle.refusal.specs.declared.Refusal.the-variants.{AlreadyListed, NotListed, TableFull, SequenceSpent, BadList}
 use Rattle.refusal.specs.declared.Refusal.the-variants.{UnexpectedMessage, BadRecordMac, RecordOverflow, HandshakeFailure, IllegalParameter, DecodeError}
-use Rattle.refusal.specs.declared.Refusal.the-variants.{DecryptError, ProtocolVersion, UnknownPskIdentity}
+use Rattle.refusal.specs.declared.Refusal.the-variants.{DecryptError, ProtocolVersion, UnsupportedExtension, UnknownPskIdentity}
 
--- An R number is for the host, and any other for the client, as a fatal alert.
+-- An R number is for the host, and any other for the peer, as a fatal alert: for the client where a server gives it, for the server where a client does.
 pub data Receiver : Type 0 where
-  host client : Receiver
+  host peer : Receiver
 
 -- the column "Connection"
 pub data Effect : Type 0 where
@@ -27,7 +27,7 @@ R n e = record { no = n; receiver = host; connection = e }
 
 -- a fatal alert
 abbrev alert : ℕ → Row
-alert n = record { no = n; receiver = client; connection = closed }
+alert n = record { no = n; receiver = peer; connection = closed }
 
 abbrev pub row : Refusal → Row
 row ShortOutput = R 1 unchanged
@@ -48,14 +48,15 @@ row IllegalParameter = alert 47
 row DecodeError = alert 50
 row DecryptError = alert 51
 row ProtocolVersion = alert 70
+row UnsupportedExtension = alert 110
 row UnknownPskIdentity = alert 115
 
 abbrev pub numberOf : Refusal → ℕ
 numberOf r = row r .no
 
-abbrev pub isClient : Receiver → Bool
-isClient host = false
-isClient client = true
+abbrev pub isPeer : Receiver → Bool
+isPeer host = false
+isPeer peer = true
 
-abbrev pub toClient : Refusal → Bool
-toClient r = isClient (row r .receiver)
+abbrev pub toPeer : Refusal → Bool
+toPeer r = isPeer (row r .receiver)

@@ -4,7 +4,7 @@
 //
 // specs/Table.antt is document 01's table. specs/Lent.antt says what an answer leaves in lent memory.
 ghost use mathlib.Core.Path.{_≡_};
-ghost use Rattle.refusal.specs.Table.{numberOf, toClient};
+ghost use Rattle.refusal.specs.Table.{numberOf, toPeer};
 ghost use Rattle.refusal.specs.Lent.{Answers, gives};
 
 pub enum Refusal {
@@ -37,6 +37,7 @@ pub enum Refusal {
     DecodeError,
     DecryptError,
     ProtocolVersion,
+    UnsupportedExtension,
     UnknownPskIdentity,
 }
 
@@ -70,14 +71,15 @@ pub fn number(r: Refusal) -> u8
         Refusal::DecodeError => 50,
         Refusal::DecryptError => 51,
         Refusal::ProtocolVersion => 70,
+        Refusal::UnsupportedExtension => 110,
         Refusal::UnknownPskIdentity => 115,
     }
 }
 
-// Whether the number is a fatal alert for the client. If not, it is an R number for the host.
+// Whether the number is a fatal alert for the peer. If not, it is an R number for the host.
 // R10 and alert 10 share their number, so a caller that mixes both needs this too.
-pub fn for_client(r: Refusal) -> bool
-    ensures { λ b. ⌜ b ≡ toClient r ⌝ }
+pub fn for_peer(r: Refusal) -> bool
+    ensures { λ b. ⌜ b ≡ toPeer r ⌝ }
 {
     match r {
         Refusal::ShortOutput => false,
@@ -98,6 +100,7 @@ pub fn for_client(r: Refusal) -> bool
         Refusal::DecodeError => true,
         Refusal::DecryptError => true,
         Refusal::ProtocolVersion => true,
+        Refusal::UnsupportedExtension => true,
         Refusal::UnknownPskIdentity => true,
     }
 }

@@ -14,11 +14,11 @@ use Rattle.endian.specs.Number.{be, number}
 use Rattle.sha256.specs.Saved as Hash
 use Rattle.lists.specs.Lists.{part}
 use Rattle.lists.proofs.Parts.{part-there, take-window}
+use Rattle.handshake.specs.Flight.{joined}
 use Rattle.server.specs.declared.Rule.{Rule}
 use Rattle.server.specs.declared.Phase.{Phase}
 use Rattle.server.specs.declared.Connection.{Connection}
 use Rattle.server.specs.Connection.{ended}
-use Rattle.server.specs.Flight.{joined}
 use Rattle.saved.specs.Saved.{phaseByte, ruleByte, listedByte, parts, saved, toPhase, toRule, restored}
 
 -- ---- parts, one behind the other

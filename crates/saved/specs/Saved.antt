@@ -8,12 +8,12 @@ use lib.Dec.{leb, eqb}
 use Rattle.endian.specs.Number.{be, number}
 use Rattle.sha256.specs.Saved as Hash
 use Rattle.lists.specs.Lists.{part}
+use Rattle.handshake.specs.Flight.{joined}
 use Rattle.server.specs.declared.Rule.{Rule}
 use Rattle.server.specs.declared.Phase.{Phase}
 use Rattle.server.specs.declared.Setup.{Setup}
 use Rattle.server.specs.declared.Connection.{Connection}
 use Rattle.server.specs.Connection.{ended}
-use Rattle.server.specs.Flight.{joined}
 
 -- a phase in one byte, closed being 0
 abbrev pub phaseByte : Phase → ℕ

@@ -1,23 +1,26 @@
 -- What a decision means, and what a call makes of it.
 -- Assumes nothing.
-use mathlib.Core.Path.{_≡_, refl}
+use mathlib.Core.Path.{_≡_, refl, sym, ap}
 use Prim.Native.Nat.{ℕ, _≤_}
 use native.Mathlib.Omega.{arith}
 use mathlib.Core.List.{List, []}
 use lib.ListN.{length}
-use borrow.Author.Tests.{le-leb, lt-leb}
 use Rattle.refusal.specs.declared.Refusal.{Refusal}
 use Rattle.refusal.specs.declared.Written.{Written}
 use Rattle.refusal.specs.declared.Written.the-variants.{Wrote, Refused}
 use Rattle.refusal.specs.Lent.{gives, Answers}
-use Rattle.refusal.proofs.Laws.{wrote-all, refused-short}
+use Rattle.refusal.proofs.Laws.{wrote-all}
+use Rattle.handshake.specs.Flight.{Flight, flightBytes, longest}
+use Rattle.handshake.specs.Step.{refuse, accept}
+use Rattle.server.specs.declared.Phase.{Phase}
 use Rattle.server.specs.declared.Connection.{Connection}
 use Rattle.server.specs.declared.Answer.{Answer}
 use Rattle.server.specs.declared.step.Decision.{Decision}
-use Rattle.server.specs.Flight.{Flight, flightBytes, longest}
-use Rattle.server.specs.Step.{Step, refuse, accept, settled, answered}
+use Rattle.server.specs.Step.{Step, settled, answered}
+use Rattle.server.specs.Connection.{ended}
 use Rattle.server.specs.Decision.{Decides}
 use Rattle.server.specs.Inner.{Does}
+use Rattle.handshake.proofs.Settling.{sent-settles, short-settles}
 
 -- what is decided for one step is decided for the same step
 pub same-step : {d : Decision} {s t : Step} → s ≡ t → Decides d t → Decides d s
@@ -35,19 +38,11 @@ module _ (c next : Connection) (flight : Flight) (few : length (flightBytes flig
     (a : Answers (gives (flightBytes flight)) out said left) where
   pub sent : {n : ℕ} → said ≡ Wrote n → Does c out (accept flight next) (record { said = said; next = next }) left
   sent e =
-      record {
-        answers = rw (a .told, le-leb (length (flightBytes flight)) (length out) (wrote-all a e .0));
-        leaves = a .left;
-        brief = rw e
-            (omega (arith, wrote-all a e .1));
-      }
+      let whole = sent-settles (ended Phase.Closed) c flight next a e in
+      record { answers = ap answered (sym whole); leaves = a .left; brief = rw e (omega (arith, wrote-all a e .1)) }
 
   -- R1: the connection itself comes back
   pub not-sent : {r : Refusal} → said ≡ Refused r → Does c out (accept flight next) (record { said = said; next = c }) left
   not-sent e =
-      record {
-        answers = rw (a .told, lt-leb (length (flightBytes flight)) (length out) (refused-short a e));
-        leaves = a .left;
-        brief = rw e
-            (omega arith);
-      }
+      let whole = short-settles (ended Phase.Closed) c flight next a e in
+      record { answers = ap answered (sym whole); leaves = a .left; brief = rw e (omega arith) }

@@ -1,58 +1,16 @@
--- Messages that stand one behind the other, and the flight that they are by their lengths.
+-- The server's Finished at the front of an array is its flight.
 -- Assumes nothing.
-use mathlib.Core.Path.{_≡_, refl, sym, ap, _∙_}
-use Prim.Native.Nat.{ℕ, _+_, _<_}
-use native.Mathlib.Nat.{add-assoc, zero-add}
+use mathlib.Core.Path.{_≡_, ap, _∙_}
+use Prim.Native.Nat.{ℕ}
 use native.Mathlib.Omega.{arith}
-use mathlib.Core.Bool.{Bool, true, false, cond}
-use mathlib.Core.List.{List, [], _∷_, _++_, append-assoc}
-use lib.ListN.{length, take, drop, getD, take-append-drop}
-use lib.Dec.{eqb}
-use lib.Seq.{take-at, drop-at, take-add}
-use borrow.Author.Tests.{eqb-true, ne-eqb}
+use mathlib.Core.List.{List, [], _∷_, _++_}
+use lib.ListN.{length}
 use Rattle.layout.specs.Layout.{bytes}
 use Rattle.messages.specs.Fixed as Fixed
-use Rattle.server.specs.declared.step.Outgoing.{Outgoing}
-use Rattle.server.specs.Flight.{Flight, joined, flightBytes}
+use Rattle.handshake.specs.Flight.{Flight}
+use Rattle.handshake.specs.Outgoing.{cut, Sends}
 use Rattle.server.specs.Finished.{finishedFlight}
-use Rattle.server.specs.Decision.{total, cut, flightOf}
-use Rattle.server.specs.Inner.{Sends}
-
--- three lengths
-pub total-three : (ns : List ℕ) → length ns ≡ 3 → total ns ≡ getD ns 0 0 + getD ns 1 0 + getD ns 2 0
-total-three (a ∷ b ∷ c ∷ []) h = omega arith
-total-three [] h = absurd (omega arith)
-total-three (a ∷ []) h = absurd (omega arith)
-total-three (a ∷ b ∷ []) h = absurd (omega arith)
-total-three (a ∷ b ∷ c ∷ d ∷ ns) h = absurd (omega arith)
-
--- the first of them, where there is one
-pub cut-first : (m rest : List ℕ) (n : ℕ) (ns : List ℕ) → 0 < n → length m ≡ n → cut (n ∷ ns) (m ++ rest) ≡ m ∷ cut ns rest
-cut-first m rest n ns more size =
-    rw (ne-eqb n 0 (λ e. omega arith), take-at m rest n size, drop-at m rest n size)
-
--- messages that were cut are the bytes again
-joined-cut : (ns b : List ℕ) → joined (cut ns b) ≡ take (total ns) b
-joined-cut [] b = refl
-joined-cut (n ∷ ns) b = go (eqb n 0) refl (joined-cut ns b) (joined-cut ns (drop n b))
-  where
-    go : (t : Bool) → eqb n 0 ≡ t → joined (cut ns b) ≡ take (total ns) b → joined (cut ns (drop n b)) ≡ take (total ns) (drop n b)
-        → joined (cond t (cut ns b) (take n b ∷ cut ns (drop n b))) ≡ take (n + total ns) b
-    go true e without with-first = without ∙ rw (eqb-true n 0 e, zero-add)
-    go false e without with-first = rw (with-first, take-add)
-
-total-append : (ms ns : List ℕ) → total (ms ++ ns) ≡ total ms + total ns
-total-append [] ns = rw zero-add
-total-append (m ∷ ms) ns = rw (total-append ms ns, add-assoc)
-
--- the bytes of a flight stand at the front of its array
-pub flight-bytes : (o : Outgoing) → flightBytes (flightOf o) ≡ take (total (o .lengths)) (o .bytes)
-flight-bytes o =
-    let first : List ℕ = take (o .plain) (o .lengths) in
-    let second : List ℕ = drop (o .plain) (o .lengths) in
-    let all : total first + total second ≡ total (o .lengths) =
-    sym (total-append first second) ∙ ap total (take-append-drop (o .plain) (o .lengths)) in
-    rw (joined-cut first (o .bytes), joined-cut second (drop (total first) (o .bytes)), ← all, take-add)
+use Rattle.handshake.proofs.Flights.{cut-first}
 
 abbrev protectedly : List (List ℕ) → Flight
 protectedly messages = record { plain = []; protected = messages }
@@ -65,7 +23,3 @@ finished-sent value array rest size e =
     let all : cut (16 ∷ 0 ∷ 0 ∷ []) array ≡ message ∷ [] =
     ap (cut (16 ∷ 0 ∷ 0 ∷ [])) e ∙ cut-first message rest 16 (0 ∷ 0 ∷ []) (omega arith) (omega arith) in
     record { means = ap protectedly all; fits = omega arith }
-
-pub joined-append : (ms ns : List (List ℕ)) → joined (ms ++ ns) ≡ joined ms ++ joined ns
-joined-append [] ns = refl
-joined-append (m ∷ ms) ns = ap (λ (l : List ℕ). m ++ l) (joined-append ms ns) ∙ sym (append-assoc m (joined ms) (joined ns))

@@ -20,14 +20,14 @@ use Rattle.messages.specs.Fixed.{serverHelloDone}
 use Rattle.layout.proofs.Layouts.{valid-within}
 use Rattle.hellos.proofs.Hellos.{length-body}
 use Rattle.lists.proofs.Walks.{left-cons}
+use Rattle.handshake.specs.Flight.{Flight, joined, flightBytes}
+use Rattle.handshake.specs.Outgoing.{total, cut, Sends}
+use Rattle.handshake.specs.Step.{refuse}
 use Rattle.server.specs.declared.Connection.{Connection}
 use Rattle.server.specs.declared.hello.Choice.{Choice}
-use Rattle.server.specs.Step.{refuse}
 use Rattle.server.specs.Hello.{offers, chosen, offersNull, hintMessage, flight, helloChosen, helloFields}
-use Rattle.server.specs.Flight.{Flight, joined, flightBytes}
-use Rattle.server.specs.Decision.{total, cut}
-use Rattle.server.specs.Inner.{asChoice, hintMessageLength, restOf, Sends}
-use Rattle.server.proofs.Flights.{cut-first, joined-append}
+use Rattle.server.specs.Inner.{asChoice, hintMessageLength, restOf}
+use Rattle.handshake.proofs.Flights.{cut-first, joined-append}
 
 -- ---- the lists of a ClientHello
 

@@ -21,8 +21,8 @@ use Rattle.layout.specs.Place.{lastAt, filledBy, contents}
 use Rattle.keytable.specs.Table.{keyOf, found, judged}
 use Rattle.keytable.specs.declared.Judged.{Judged}
 use Rattle.keytable.proofs.Lookups.{key-size}
+use Rattle.handshake.specs.Step.{refuse}
 use Rattle.server.specs.declared.Connection.{Connection}
-use Rattle.server.specs.Step.{refuse}
 use Rattle.server.specs.Finished.{finishedValue}
 use Rattle.server.specs.Inner.{rightValue, completion}
 

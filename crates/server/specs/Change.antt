@@ -1,10 +1,11 @@
 -- Step 3: a change of cipher, a call without bytes (document 01, "The server's steps"): 10 where it is not awaited, R4 on a complete or closed connection.
 use mathlib.Core.List.{[]}
 use Rattle.refusal.specs.declared.Refusal.the-variants.{ConnectionOver, UnexpectedMessage}
+use Rattle.handshake.specs.Flight.{silence}
+use Rattle.handshake.specs.Step.{refuse, accept}
 use Rattle.server.specs.declared.Phase.{Phase}
 use Rattle.server.specs.declared.Connection.{Connection}
-use Rattle.server.specs.Flight.{silence}
-use Rattle.server.specs.Step.{Step, refuse, accept, Settled, settled}
+use Rattle.server.specs.Step.{Step, Settled, settled}
 
 abbrev pub afterChange : Connection → Connection
 afterChange c = record { phase = Phase.Finished; setup = c .setup; client = c .client; secrets = c .secrets; transcript = c .transcript }

@@ -1,11 +1,9 @@
 -- A connection, and start (document 01, "The server's steps").
 use Prim.Native.Nat.{ℕ, _-_}
 use mathlib.Core.Bool.{Bool, true, false, cond, _&&_}
-use mathlib.Core.List.{List, [], _∷_, _++_}
+use mathlib.Core.List.{List, _++_}
 use lib.ListN.{length, take, replicate}
 use lib.Dec.{leb, eqb}
-use Rattle.refusal.specs.declared.Refusal.{Refusal}
-use Rattle.refusal.specs.Table.{Effect, unchanged, closed, noneMade, noneInvolved, row}
 use Rattle.sha256.specs.State.{fresh}
 use Rattle.utf8.specs.Utf8.{validUtf8}
 use Rattle.server.specs.declared.Rule.{Rule}
@@ -19,7 +17,7 @@ use Rattle.server.specs.declared.Answer.{Answer}
 use Rattle.refusal.specs.declared.Refusal.the-variants.{BadSetting}
 use Rattle.refusal.specs.declared.Written.the-variants.{Wrote, Refused}
 
--- ---- start: what it is given, and the suites that such a server chooses from
+-- ---- start: what it is given
 
 pub record Settings : Type 0 where
   pub random : List ℕ
@@ -27,10 +25,6 @@ pub record Settings : Type 0 where
   pub standIn : List ℕ
   pub named : Named
   pub suites : List ℕ
-
--- TLS_PSK_WITH_AES_128_CBC_SHA256, TLS_PSK_WITH_AES_128_CBC_SHA and TLS_PSK_WITH_NULL_SHA256, in the order in which we choose
-abbrev pub suites : List ℕ
-suites = 0x00ae ∷ 0x008c ∷ 0x00b0 ∷ []
 
 -- where no rule is named, hide applies (document 02, P3)
 abbrev pub ruleOf : Named → Rule
@@ -104,17 +98,6 @@ isOver Phase.Closed = true
 -- the hint that the connection was started with
 abbrev pub hintOf : Setup → List ℕ
 hintOf s = take (s .«hint_length») (s .hint)
-
--- ---- what a refusal does to a connection: the table's last column
-
-abbrev pub afterEffect : Effect → Connection → Connection
-afterEffect unchanged c = c
-afterEffect closed c = ended Phase.Closed
-afterEffect noneMade c = c
-afterEffect noneInvolved c = c
-
-abbrev pub afterRefusal : Refusal → Connection → Connection
-afterRefusal r c = afterEffect (row r .connection) c
 
 -- ---- what start answers
 

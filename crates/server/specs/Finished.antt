@@ -1,6 +1,6 @@
 -- Step 4: a Finished (document 01, "The server's steps"; RFC 5246, section 7.4.9).
 use Prim.Native.Nat.{ℕ}
-use mathlib.Core.Bool.{Bool, false, cond, _&&_}
+use mathlib.Core.Bool.{cond, _&&_}
 use mathlib.Core.List.{List, [], _∷_}
 use mathlib.Core.Option.{Option, none, some}
 use Rattle.refusal.specs.declared.Refusal.the-variants.{DecodeError, DecryptError}
@@ -10,24 +10,13 @@ use Rattle.keys.specs.declared.Side.the-variants.{Client, Server}
 use Rattle.keys.specs.Secrets.{finishedOf}
 use Rattle.layout.specs.Layout.{bytes}
 use Rattle.messages.specs.Fixed as Fixed
-use Rattle.lists.specs.Lists.{same}
+use Rattle.handshake.specs.Finished.{isValue}
+use Rattle.handshake.specs.Flight.{Flight}
+use Rattle.handshake.specs.Step.{refuse, accept}
 use Rattle.server.specs.declared.Phase.{Phase}
 use Rattle.server.specs.declared.Connection.{Connection}
 use Rattle.server.specs.Connection.{ended}
-use Rattle.server.specs.Flight.{Flight}
-use Rattle.server.specs.Step.{Step, refuse, accept}
-
--- the bytes of a Finished value, and of the message that carries it
-abbrev pub verifyDataLength : ℕ
-verifyDataLength = 12
-
-abbrev pub finishedLength : ℕ
-finishedLength = 16
-
--- the value is that one; none is where the transcript is past the hash's limit, which no series of calls reaches
-abbrev pub isValue : List ℕ → Outcome → Bool
-isValue value (gives b) = same value b
-isValue value (refuses r) = false
+use Rattle.server.specs.Step.{Step}
 
 -- the server's Finished, behind its change of cipher
 abbrev pub finishedFlight : List ℕ → Flight

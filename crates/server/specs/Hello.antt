@@ -12,15 +12,13 @@ use Rattle.hellos.specs.ClientHello.{ClientHello}
 use Rattle.hellos.specs.ServerHello.{serverHello}
 use Rattle.messages.specs.KeyExchange.{serverKeyExchange}
 use Rattle.messages.specs.Fixed.{serverHelloDone}
+use Rattle.handshake.specs.Flight.{Flight, flightBytes}
+use Rattle.handshake.specs.Protocol.{tls12}
+use Rattle.handshake.specs.Step.{refuse, accept}
 use Rattle.server.specs.declared.Phase.{Phase}
 use Rattle.server.specs.declared.Connection.{Connection}
 use Rattle.server.specs.Connection.{hintOf}
-use Rattle.server.specs.Flight.{Flight, flightBytes}
-use Rattle.server.specs.Step.{Step, refuse, accept}
-
--- the version of the protocol that we speak, TLS 1.2
-abbrev pub tls12 : ℕ
-tls12 = 0x0303
+use Rattle.server.specs.Step.{Step}
 
 -- the client's list, two bytes a suite, has it
 abbrev pub offers : List ℕ → ℕ → Bool

@@ -11,22 +11,15 @@ use Rattle.keys.specs.Secrets.{finishedOf}
 use Rattle.keys.specs.declared.Side.the-variants.{Client, Server}
 use Rattle.layout.specs.Layout.{bytes}
 use Rattle.messages.specs.Fixed.{serverHelloDone}
+use Rattle.handshake.specs.Finished.{isValue}
+use Rattle.handshake.specs.Flight.{joined, longest, counted}
 use Rattle.server.specs.declared.Phase.{Phase}
 use Rattle.server.specs.declared.Connection.{Connection}
 use Rattle.server.specs.declared.Answer.{Answer}
-use Rattle.server.specs.declared.step.Outgoing.{Outgoing}
-use Rattle.server.specs.declared.calls.Awaited.{Awaited}
 use Rattle.server.specs.declared.hello.Choice.{Choice}
-use Rattle.server.specs.Flight.{Flight, joined, longest, counted}
-use Rattle.server.specs.Decision.{total, flightOf}
 use Rattle.server.specs.Step.{Step, settled, answered}
 use Rattle.server.specs.Hello.{hintMessage}
-use Rattle.server.specs.Finished.{isValue, completed}
-
--- messages that stand within their array
-pub record Sends (o : Outgoing) (flight : Flight) : Type 0 where
-  pub means : flightOf o ≡ flight
-  pub fits : total (o .lengths) ≤ longest
+use Rattle.server.specs.Finished.{completed}
 
 -- what a call gives back for a step, and what it leaves in the lent output
 pub record Does (c : Connection) (out : List ℕ) (step : Step) (given : Answer) (left : List ℕ) : Type 0 where
@@ -35,10 +28,6 @@ pub record Does (c : Connection) (out : List ℕ) (step : Step) (given : Answer)
   pub brief : counted (given .said) ≤ longest
 
 -- ---- parts of the steps
-
-abbrev pub asAwaited : Option ℕ → Awaited
-asAwaited none = Awaited.Nothing
-asAwaited (some kind) = Awaited.Message kind
 
 abbrev pub asChoice : Option ℕ → Choice
 asChoice none = Choice.Nothing

@@ -10,11 +10,12 @@ use Rattle.sha256.specs.State.{absorb}
 use Rattle.keys.specs.Secrets.{masterUnder}
 use Rattle.keytable.specs.Starts.{listRefusal}
 use Rattle.keytable.specs.Table.{keyOf}
+use Rattle.handshake.specs.Flight.{silence}
+use Rattle.handshake.specs.Step.{refuse, accept}
 use Rattle.server.specs.declared.Rule.{Rule}
 use Rattle.server.specs.declared.Phase.{Phase}
 use Rattle.server.specs.declared.Connection.{Connection}
-use Rattle.server.specs.Flight.{silence}
-use Rattle.server.specs.Step.{Step, refuse, accept}
+use Rattle.server.specs.Step.{Step}
 
 -- What the server knows of a key table and the list of its line starts: which refusal they come to, if any, and a lookup from identity to key. The list
 -- does not change what is looked up: one that is not the table's own is refused (document 02, P6).

@@ -3,7 +3,6 @@ pub mod Change
 pub mod Connection
 pub mod Decision
 pub mod Finished
-pub mod Flight
 pub mod Hello
 pub mod Inner
 pub mod KeyExchange

@@ -1,26 +1,25 @@
 -- A handshake message: which one is awaited, the order of its tests, and what the call gives back (document 01, "Numbers that come back").
-use Prim.Native.Nat.{ℕ, _+_}
+use Prim.Native.Nat.{ℕ}
 use mathlib.Core.Bool.{true, false, cond}
 use mathlib.Core.List.{List}
 use mathlib.Core.Option.{Option, none, some}
-use lib.ListN.{length, getD, drop, replicate}
-use lib.Dec.{leb, ltb, eqb}
-use Rattle.endian.specs.Vector.{stated}
-use Rattle.refusal.specs.declared.Refusal.the-variants.{ConnectionOver, UnexpectedMessage, DecodeError}
-use Rattle.layout.specs.declared.Verdict.{Verdict}
-use Rattle.layout.specs.Types.{clientHelloType, clientKeyExchangeType, finishedType, messageLimit}
-use Rattle.layout.specs.Header.{header}
+use lib.ListN.{replicate}
+use Rattle.refusal.specs.declared.Refusal.the-variants.{ConnectionOver, UnexpectedMessage}
+use Rattle.layout.specs.Types.{clientHelloType, clientKeyExchangeType, finishedType}
 use Rattle.hellos.specs.ClientHello.{clientBody, clientFields}
 use Rattle.layout.specs.Place.{lastAt, filledBy, contents}
+use Rattle.handshake.specs.Finished.{verifyDataLength}
+use Rattle.handshake.specs.Header.{headerTest}
+use Rattle.handshake.specs.Step.{refuse, accept, afterTests, unlessRefused}
 use Rattle.server.specs.declared.Phase.{Phase}
 use Rattle.server.specs.declared.Connection.{Connection}
 use Rattle.server.specs.declared.Answer.{Answer}
 use Rattle.server.specs.declared.Reply.{Reply}
 use Rattle.server.specs.Connection.{isOver}
-use Rattle.server.specs.Step.{Step, refuse, accept, afterTests, unlessRefused, Settled, settled, answered}
+use Rattle.server.specs.Step.{Step, Settled, settled, answered}
 use Rattle.server.specs.Hello.{helloFields}
 use Rattle.server.specs.KeyExchange.{View, keyIdentity}
-use Rattle.server.specs.Finished.{verifyDataLength, finishedValue}
+use Rattle.server.specs.Finished.{finishedValue}
 
 -- the type of the message that is awaited in each phase, if one is
 abbrev pub awaited : Phase → Option ℕ
@@ -31,22 +30,8 @@ awaited Phase.Finished = some finishedType
 awaited Phase.Complete = none
 awaited Phase.Closed = none
 
--- The tests on a header: fewer than 4 bytes 50, a type that isn't the awaited one 10, and so on; where none is awaited every type is 10.
-abbrev pub headerTest : Option ℕ → List ℕ → Verdict
-headerTest (some kind) m = header kind m
-headerTest none m = Verdict.Refused (cond (ltb (length m) 4) DecodeError UnexpectedMessage)
-
--- What is judged of a message as soon as the four bytes of its header are in, although the rest may not be (document 02, P5): the type is the awaited one, 10
--- otherwise, and the whole message is within the limit, 50 otherwise.
-abbrev pub earlyTest : Option ℕ → List ℕ → Verdict
-earlyTest (some kind) m =
-    cond (eqb (getD m 0 0) kind)
-    (cond (leb (4 + stated 3 (drop 1 m)) messageLimit) Verdict.Accepted (Verdict.Refused DecodeError))
-    (Verdict.Refused UnexpectedMessage)
-earlyTest none m = Verdict.Refused UnexpectedMessage
-
--- The step of each phase, of a message that passed those tests; for a ClientKeyExchange the refusal of the table and its list stands before the tests on the body.
--- No message passes in the other phases.
+-- The step of each phase, of a message that passed the tests on its header; for a ClientKeyExchange the refusal of the table and its list stands before the
+-- tests on the body. No message passes in the other phases.
 abbrev pub bodyStep : View → Connection → List ℕ → Phase → Step
 bodyStep v c m Phase.Hello = helloFields c m (clientFields m (clientBody m))
 bodyStep v c m Phase.KeyExchange = unlessRefused (v .refusal) (keyIdentity (v .lookup) c m (contents m (lastAt 2 m 4)))

@@ -2,21 +2,20 @@
 ghost use mathlib.Core.Path.{_≡_};
 ghost use mathlib.Core.Option.{none};
 ghost use Rattle.layout.specs.declared.Verdict.the-variants.{Accepted};
+ghost use Rattle.handshake.specs.Flight.{longest, counted};
+ghost use Rattle.handshake.specs.Header.{headerTest, earlyTest, kindAwaited};
 ghost use Rattle.server.specs.declared.Phase.{Phase};
 ghost use Rattle.server.specs.Connection.{isOver};
 ghost use Prim.Native.Nat.{_≤_};
-ghost use Rattle.server.specs.Flight.{longest, counted};
 ghost use Rattle.server.specs.Step.{answered};
 ghost use Rattle.server.specs.KeyExchange.{viewOf};
 ghost use Rattle.server.specs.Message as Message;
-ghost use Rattle.server.specs.Message.{headerTest, earlyTest, bodyStep, messageStep, messageCall, messageReply, handedOver, withMaster};
+ghost use Rattle.server.specs.Message.{bodyStep, messageStep, messageCall, messageReply, handedOver, withMaster};
 ghost use Rattle.server.specs.Change.{afterChange, changeCall};
-ghost use Rattle.server.specs.Alert.{heard, alertCall};
+ghost use Rattle.server.specs.Alert.{alertCall};
 ghost use Rattle.server.specs.Decision.{Decides, decided};
-ghost use Rattle.server.specs.Inner.{asAwaited};
 use crate::Answer;
 use crate::Connection;
-use crate::Heard;
 use crate::Phase;
 use crate::Reply;
 use crate::ended;
@@ -25,16 +24,12 @@ use crate::hello;
 use crate::key_exchange;
 use crate::step;
 use crate::step::Decision;
+use handshake::Awaited;
+use handshake::Heard;
 use layout::Verdict;
 use layout::types;
 use refusal::Refusal;
 use refusal::Written;
-
-// The type of the message that is awaited, if one is.
-pub enum Awaited {
-    Nothing,
-    Message(u8),
-}
 
 // Whether a connection is complete or closed.
 fn is_over(phase: Phase) -> bool
@@ -54,7 +49,7 @@ fn is_over(phase: Phase) -> bool
 
 // The table of what is awaited.
 fn awaited_in(phase: Phase) -> Awaited
-    ensures { λ r. ⌜ r ≡ asAwaited (Message.awaited phase) ⌝ }
+    ensures { λ r. ⌜ kindAwaited r ≡ Message.awaited phase ⌝ }
 {
     match phase {
         Phase::Hello => Awaited::Message(types::CLIENT_HELLO),
@@ -63,21 +58,6 @@ fn awaited_in(phase: Phase) -> Awaited
         Phase::Finished => Awaited::Message(types::FINISHED),
         Phase::Complete => Awaited::Nothing,
         Phase::Closed => Awaited::Nothing,
-    }
-}
-
-// The tests on a message's header.
-fn test_header(phase: Phase, m: &[u8]) -> Verdict
-    ensures { λ r. ⌜ r ≡ headerTest (Message.awaited phase) (now (m .entry)) ⌝ }
-{
-    match awaited_in(phase) {
-        Awaited::Message(kind) => layout::header::test(kind, m),
-        Awaited::Nothing => {
-            if m.len() < 4 {
-                return Verdict::Refused(Refusal::DecodeError);
-            }
-            Verdict::Refused(Refusal::UnexpectedMessage)
-        }
     }
 }
 
@@ -105,7 +85,7 @@ pub fn decide(c: Connection, table: &[u8], starts: &[u32], count: usize, m: &[u8
     if is_over(phase) {
         return step::refused(c, Refusal::ConnectionOver);
     }
-    match test_header(phase, m) {
+    match handshake::test_header(awaited_in(phase), m) {
         Verdict::Accepted => body(c, table, starts, count, m),
         Verdict::Refused(r) => step::refused(c, r),
     }
@@ -183,18 +163,7 @@ pub fn message(
 pub fn judge_header(phase: Phase, header: [u8; 4]) -> Verdict
     ensures { λ r. ⌜ r ≡ earlyTest (Message.awaited phase) header ⌝ }
 {
-    match awaited_in(phase) {
-        Awaited::Message(kind) => {
-            if header[0] != kind {
-                return Verdict::Refused(Refusal::UnexpectedMessage);
-            }
-            if types::MESSAGE_LIMIT - 4 < endian::number24(header[1], header[2], header[3]) {
-                return Verdict::Refused(Refusal::DecodeError);
-            }
-            Verdict::Accepted
-        }
-        Awaited::Nothing => Verdict::Refused(Refusal::UnexpectedMessage),
-    }
+    handshake::judge_header(awaited_in(phase), header)
 }
 
 // ---- a change of cipher
@@ -239,28 +208,6 @@ pub fn change_of_cipher(c: Connection) -> Answer
 
 // ---- a received alert
 
-const WARNING: u8 = 1;
-
-const FATAL: u8 = 2;
-
-const CLOSE_NOTIFY: u8 = 0;
-
-// What an alert of this level and description comes to.
-pub fn hear(level: u8, description: u8) -> Heard
-    ensures { λ r. ⌜ r ≡ heard level description ⌝ }
-{
-    if level == FATAL {
-        return Heard::Ends;
-    }
-    if level != WARNING {
-        return Heard::Illegal;
-    }
-    if description == CLOSE_NOTIFY {
-        return Heard::Ends;
-    }
-    Heard::Ignored
-}
-
 // A received alert.
 pub fn alert(c: Connection, level: u8, description: u8) -> Answer
     ensures { λ a. ⌜ a ≡ answered (alertCall c level description) ⌝ }
@@ -269,7 +216,7 @@ pub fn alert(c: Connection, level: u8, description: u8) -> Answer
     if is_over(phase) {
         return step::refuse(c, Refusal::ConnectionOver);
     }
-    match hear(level, description) {
+    match handshake::hear(level, description) {
         Heard::Illegal => step::refuse(c, Refusal::IllegalParameter),
         Heard::Ends => {
             let next = ended(Phase::Closed);

@@ -1,16 +1,16 @@
 // Step 4: the client's Finished, judged over every message before it, and the server's.
 ghost use mathlib.Core.Path.{_≡_};
 ghost use Rattle.layout.specs.Place.{filledBy, contents};
+ghost use Rattle.handshake.specs.Outgoing.{Sends};
 ghost use Rattle.server.specs.Finished.{finishedFlight, finishedValue};
 ghost use Rattle.server.specs.Inner as Inner;
 ghost use Rattle.server.specs.Decision.{Decides};
-ghost use Rattle.server.specs.Inner.{Sends};
 use crate::Connection;
 use crate::Phase;
 use crate::ended;
 use crate::step;
 use crate::step::Decision;
-use crate::step::Outgoing;
+use handshake::Outgoing;
 use keys::Side;
 use layout::Part;
 use layout::Verdict;
@@ -25,16 +25,10 @@ fn right(c: Connection, value: &[u8]) -> bool
     let secrets = c.secrets;
     let master = secrets.master;
     let client = c.client;
-    let mut expected = [0u8; 12];
-    match keys::finished_of(Side::Client, &master, c.transcript, &mut expected) {
-        Written::Wrote(_) => {
-            if !lists::same(value, &expected) {
-                return false;
-            }
-            client.listed
-        }
-        Written::Refused(_) => false,
+    if !handshake::is_value(value, Side::Client, &master, c.transcript) {
+        return false;
     }
+    client.listed
 }
 
 // The server's Finished.

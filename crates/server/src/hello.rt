@@ -4,14 +4,15 @@ ghost use mathlib.Core.List.{List};
 ghost use Prim.Native.Nat.{ℕ, _+_, _≤_};
 ghost use lib.ListN.{length, take};
 ghost use Rattle.hellos.specs.ClientHello.{clientBody, clientFields};
+ghost use Rattle.handshake.specs.Flight.{flightBytes, joined};
+ghost use Rattle.handshake.specs.Outgoing.{Sends};
+ghost use Rattle.handshake.specs.Step.{accept};
 ghost use Rattle.server.specs.Connection.{hintOf};
-ghost use Rattle.server.specs.Flight.{flightBytes, joined};
-ghost use Rattle.server.specs.Step.{accept};
 ghost use Rattle.server.specs.Hello as Hello;
 ghost use Rattle.server.specs.Hello.{hintMessage, flight, flightFor, helloFields};
 ghost use Rattle.server.specs.Inner as Inner;
 ghost use Rattle.server.specs.Decision.{Decides};
-ghost use Rattle.server.specs.Inner.{Sends, asChoice};
+ghost use Rattle.server.specs.Inner.{asChoice};
 use crate::Connection;
 use crate::Negotiated;
 use crate::Phase;
@@ -19,7 +20,7 @@ use crate::Setup;
 use crate::bytes32;
 use crate::step;
 use crate::step::Decision;
-use crate::step::Outgoing;
+use handshake::Outgoing;
 use hellos::client_hello::Client;
 use layout::Verdict;
 use refusal::Refusal;
@@ -172,8 +173,7 @@ fn accept(c: Connection, m: &[u8], suite: u16) -> Decision
     let setup = c.setup;
     let outgoing = answer(setup, suite);
     let bytes = outgoing.bytes;
-    let lengths = outgoing.lengths;
-    let n = step::size(lengths);
+    let n = handshake::size(outgoing);
     let next = after_hello(c, m, suite, &bytes[..n]);
     Decision {
         verdict: Verdict::Accepted,

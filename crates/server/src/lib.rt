@@ -2,7 +2,8 @@
 //
 // specs/Connection.antt has the connection and start, specs/Message.antt the order of a message's tests, and
 // the files named after the steps (Hello, KeyExchange, Change, Finished, Alert) what each comes to. A step
-// decides and writes nothing; specs/Step.antt says what a call makes of its decision.
+// decides and writes nothing; specs/Step.antt says what a call makes of its decision. What a client does alike is
+// in the crate `handshake`.
 mod calls;
 mod finished;
 mod hello;
@@ -13,7 +14,6 @@ mod step;
 pub use calls::alert;
 pub use calls::change_of_cipher;
 pub use calls::decide;
-pub use calls::hear;
 pub use calls::judge_header;
 pub use calls::message;
 use refusal::Written;
@@ -21,7 +21,6 @@ use sha256::Sha256;
 pub use starting::start;
 pub use starting::start_with;
 pub use step::Decision;
-pub use step::Outgoing;
 ghost use mathlib.Core.Path.{_≡_};
 ghost use lib.ListN.{length};
 ghost use Rattle.server.specs.Connection as Conn;
@@ -47,13 +46,6 @@ pub enum Phase {
     Finished,
     Complete,
     Closed,
-}
-
-// What a received alert comes to: a level that is none, the connection's end, or nothing.
-pub enum Heard {
-    Illegal,
-    Ends,
-    Ignored,
 }
 
 // What start was given. No call changes it.

@@ -2,6 +2,7 @@
 ghost use mathlib.Core.Path.{_≡_};
 ghost use Prim.Native.Nat.{_≤_};
 ghost use lib.ListN.{length};
+ghost use Rattle.handshake.specs.Protocol as Protocol;
 ghost use Rattle.server.specs.Connection as Conn;
 ghost use Rattle.server.specs.Connection.{setupOf, begun, badSetting, startAnswer};
 use crate::Answer;
@@ -119,7 +120,7 @@ pub fn start_with(
 
 // The same with document 01's three suites.
 pub fn start(random: &[u8], hint: &[u8], stand_in: &[u8], named: Named) -> Answer
-    ensures { λ r. ⌜ r ≡ startAnswer (record { random = now (random .entry); hint = now (hint .entry); standIn = now («stand_in» .entry); named = named; suites = Conn.suites }) ⌝ }
+    ensures { λ r. ⌜ r ≡ startAnswer (record { random = now (random .entry); hint = now (hint .entry); standIn = now («stand_in» .entry); named = named; suites = Protocol.suites }) ⌝ }
 {
     start_with(random, hint, stand_in, named, SUITES)
 }

@@ -2,29 +2,21 @@
 // tested, the output written and the connection changed, and nowhere else.
 ghost use mathlib.Core.Path.{_≡_};
 ghost use mathlib.Core.List.{[]};
-ghost use Prim.Native.Nat.{_≤_};
-ghost use Rattle.server.specs.Flight.{silence};
-ghost use Rattle.server.specs.Step as Step;
-ghost use Rattle.server.specs.Step.{accept, answered, settled};
-ghost use Rattle.server.specs.Decision.{Decides, decided, flightOf, total};
-ghost use Rattle.server.specs.Inner.{Does, Sends};
+ghost use Rattle.handshake.specs.Flight.{silence};
+ghost use Rattle.handshake.specs.Outgoing.{flightOf};
+ghost use Rattle.handshake.specs.Step as Step;
+ghost use Rattle.handshake.specs.Step.{accept};
+ghost use Rattle.server.specs.Step.{answered, settled};
+ghost use Rattle.server.specs.Decision.{Decides, decided};
+ghost use Rattle.server.specs.Inner.{Does};
 use crate::Answer;
 use crate::Connection;
 use crate::Phase;
 use crate::ended;
+use handshake::Outgoing;
 use layout::Verdict;
 use refusal::Refusal;
 use refusal::Written;
-
-// Messages for the client, one behind the other: the longest answer is a ServerHello of 42 bytes, a
-// ServerKeyExchange of 134 and a ServerHelloDone of 4.
-pub struct Outgoing {
-    pub bytes: [u8; 180],
-    // How long each message is; 0 stands for none.
-    pub lengths: [usize; 3],
-    // How many of these go out before the server's change of cipher.
-    pub plain: usize,
-}
 
 // What a step comes to: a refusal, or messages for the client and the connection as it is then.
 pub struct Decision {
@@ -33,21 +25,11 @@ pub struct Decision {
     pub next: Connection,
 }
 
-fn no_messages() -> Outgoing
-    ensures { λ o. ⌜ Sends o silence ⌝ }
-{
-    Outgoing {
-        bytes: [0u8; 180],
-        lengths: [0usize; 3],
-        plain: 0,
-    }
-}
-
 // A refusal; `settle` says what becomes of the connection.
 pub(crate) fn refused(c: Connection, r: Refusal) -> Decision
     ensures { λ d. ⌜ Decides d (Step.refuse r) ⌝ }
 {
-    let outgoing = no_messages();
+    let outgoing = handshake::no_messages();
     Decision {
         verdict: Verdict::Refused(r),
         outgoing,
@@ -59,7 +41,7 @@ pub(crate) fn refused(c: Connection, r: Refusal) -> Decision
 pub(crate) fn silent(next: Connection) -> Decision
     ensures { λ d. ⌜ Decides d (accept silence next) ⌝ }
 {
-    let outgoing = no_messages();
+    let outgoing = handshake::no_messages();
     Decision {
         verdict: Verdict::Accepted,
         outgoing,
@@ -67,19 +49,11 @@ pub(crate) fn silent(next: Connection) -> Decision
     }
 }
 
-// All messages together.
-pub(crate) fn size(lengths: [usize; 3]) -> usize
-    requires { ⌜ total lengths ≤ 180 ⌝ }
-    ensures { λ n. ⌜ n ≡ total lengths ⌝ }
-{
-    lengths[0] + lengths[1] + lengths[2]
-}
-
 // A refusal: an alert closes the connection, an R number leaves it as it was.
 pub(crate) fn refuse(c: Connection, r: Refusal) -> Answer
     ensures { λ a. ⌜ a ≡ answered (settled c [] (Step.refuse r)) ⌝ }
 {
-    if refusal::for_client(r) {
+    if refusal::for_peer(r) {
         let next = ended(Phase::Closed);
         return Answer {
             said: Written::Refused(r),
@@ -95,13 +69,9 @@ pub(crate) fn refuse(c: Connection, r: Refusal) -> Answer
 // The messages go to the lent output and the next connection is handed back, or R1 and the connection
 // as it was.
 fn send(c: Connection, outgoing: Outgoing, next: Connection, out: &mut [u8]) -> Answer
-    requires { ⌜ total (outgoing .lengths) ≤ 180 ⌝ }
     ensures { λ a. ⌜ Does c (now (out .entry)) (accept (flightOf outgoing) next) a (now (out .exit)) ⌝ }
 {
-    let bytes = outgoing.bytes;
-    let lengths = outgoing.lengths;
-    let n = size(lengths);
-    let said = refusal::put(&bytes[..n], out);
+    let said = handshake::send(outgoing, out);
     match said {
         Written::Wrote(_) => Answer { said, next },
         Written::Refused(_) => Answer { said, next: c },
@@ -110,7 +80,6 @@ fn send(c: Connection, outgoing: Outgoing, next: Connection, out: &mut [u8]) -> 
 
 // The answer that a decision comes to.
 pub(crate) fn settle(c: Connection, d: Decision, out: &mut [u8]) -> Answer
-    requires { ⌜ total (d .outgoing .lengths) ≤ 180 ⌝ }
     ensures { λ a. ⌜ Does c (now (out .entry)) (decided d) a (now (out .exit)) ⌝ }
 {
     let verdict = d.verdict;

@@ -12,7 +12,7 @@ use Rattle.lists.proofs.Equal.{same-eq, same-refl, same-not, same-either}
 use Rattle.lists.proofs.Every.{every-map}
 use Rattle.lists.proofs.Distinct.{distinct-snoc}
 use Rattle.refusal.specs.declared.Refusal.the-variants.{AlreadyListed, NotListed}
-use Rattle.keytable.specs.Table.{colon, upto, past, decoded, keyText, orElse, firstText, keyOfText, identityOf, validIdentity, validKey, validLine}
+use Rattle.keytable.specs.Table.{colon, upto, past, decoded, keyText, orElse, firstText, keyOfText, identityOf, validIdentity, validKey, validLine, validSecret}
 use Rattle.keytable.specs.WellFormed.{Plain}
 use Rattle.keytable.proofs.Tests.{identity-sound}
 use Rattle.keytable.proofs.Texts.{Without, upto-append, past-append, parted, valid-parted, identity-no-colon, hex-no-colon}
@@ -20,7 +20,7 @@ use Rattle.keytable.proofs.Agreement.{line-sound}
 use Rattle.keytable.proofs.Lookups.{own-text, other-text, key-is}
 use Rattle.keytable.proofs.Spots.{first-append}
 use Rattle.table_edits.specs.Edits.{Edit, add, replace, retire, subject, lineWith, lowerHex, isLineOf, listed}
-use Rattle.table_edits.specs.Edits.{others, linesAfter, validSecret, allowed, misplaced, keyAfter, OfBytes}
+use Rattle.table_edits.specs.Edits.{others, linesAfter, allowed, misplaced, keyAfter, OfBytes}
 use Rattle.table_edits.proofs.Digits.{decoded-hex, valid-hex}
 use Rattle.table_edits.proofs.Places.{others-append}
 

@@ -10,9 +10,9 @@ use lib.Dec.{ltb}
 use borrow.Author.Tests.{ltb-true, ltb-false, lt-ltb, le-leb, lt-leb, eq-eqb}
 use Rattle.lists.specs.Lists.{each, Each}
 use Rattle.lists.proofs.Tests.{both}
-use Rattle.keytable.specs.Table.{digit, hexDigit, validKey, decoded}
+use Rattle.keytable.specs.Table.{digit, hexDigit, validKey, decoded, validSecret}
 use Rattle.keytable.proofs.Tests.{between-sound}
-use Rattle.table_edits.specs.Edits.{lowerDigit, lowerHex, validSecret, LowerDigit}
+use Rattle.table_edits.specs.Edits.{lowerDigit, lowerHex, LowerDigit}
 
 pub length-hex : (key : List ℕ) → length (lowerHex key) ≡ 2 * length key
 length-hex [] = refl

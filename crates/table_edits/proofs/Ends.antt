@@ -10,12 +10,12 @@ use borrow.Author.Tests.{ne-eqb, eqb-false, not-true}
 use Rattle.lists.specs.Lists.{each}
 use Rattle.lists.proofs.Tests.{and-left, and-right}
 use Rattle.lists.proofs.Every.{each-sound, each-complete, every-append, every-map}
-use Rattle.keytable.specs.Table.{lineEnd, colon, joined, validIdentity, validLine}
+use Rattle.keytable.specs.Table.{lineEnd, colon, joined, validIdentity, validLine, validSecret}
 use Rattle.keytable.specs.WellFormed.{Plain}
 use Rattle.keytable.proofs.Tests.{identity-sound}
 use Rattle.keytable.proofs.Texts.{Without, lines-end, parted, valid-parted, line-no-end}
 use Rattle.keytable.proofs.Agreement.{line-sound}
-use Rattle.table_edits.specs.Edits.{Edit, add, replace, retire, lineWith, lowerDigit, lowerHex, linesAfter, validSecret, allowed}
+use Rattle.table_edits.specs.Edits.{Edit, add, replace, retire, lineWith, lowerDigit, lowerHex, linesAfter, allowed}
 use Rattle.table_edits.specs.Inner.{Unbroken}
 use Rattle.table_edits.proofs.After.{others-each, replaced-each, each-snoc}
 

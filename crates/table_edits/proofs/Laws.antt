@@ -18,13 +18,13 @@ use Rattle.refusal.specs.Lent.{gives}
 use Rattle.refusal.proofs.Laws.{refuses-gives}
 use Rattle.keytable.specs.declared.entries.Hit.{Hit}
 use Rattle.keytable.specs.declared.entries.Hit.the-variants.{Line, Nothing}
-use Rattle.keytable.specs.Table.{lines, joined, firstText, keyOfText, keyOf, identityOf, validIdentity, validLine, wellFormed}
+use Rattle.keytable.specs.Table.{lines, joined, firstText, keyOfText, keyOf, identityOf, validIdentity, validLine, wellFormed, validSecret}
 use Rattle.keytable.specs.Starts.{startsOf, placed}
 use Rattle.keytable.specs.WellFormed.{WellFormed, LineRemoved}
 use Rattle.keytable.proofs.Agreement.{identities-sound, well-formed-tests, joined-formed, complete}
 use Rattle.keytable.proofs.Texts.{joined-lines}
 use Rattle.table_edits.specs.Edits.{Edit, add, replace, retire, subject, lineWith, isLineOf, listed, others, linesAfter}
-use Rattle.table_edits.specs.Edits.{validSecret, allowed, misplaced, sized, unless, edited, keyAfter, OfBytes}
+use Rattle.table_edits.specs.Edits.{allowed, misplaced, sized, unless, edited, keyAfter, OfBytes}
 use Rattle.table_edits.proofs.Outcomes.{sized-fits}
 use Rattle.table_edits.proofs.After.{own-line, replaced-listed, replaced-twice, others-same, valid-after, distinct-after, others-after}
 use Rattle.table_edits.proofs.After.{unlisted-none, listed-some, others-first, first-after, may-add, may-replace}

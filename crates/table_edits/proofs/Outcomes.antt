@@ -20,7 +20,7 @@ use Rattle.refusal.proofs.Laws.{gives-answers, short-answers, refuses-answers}
 use Rattle.keytable.specs.declared.Judged.{Judged}
 use Rattle.keytable.specs.declared.entries.Hit.{Hit}
 use Rattle.keytable.specs.declared.entries.Hit.the-variants.{Line, Nothing}
-use Rattle.keytable.specs.Table.{lineEnd, lines, joined, ended, judged, validIdentity, validLine, wellFormed}
+use Rattle.keytable.specs.Table.{lineEnd, lines, joined, ended, judged, validIdentity, validLine, wellFormed, validSecret}
 use Rattle.keytable.specs.Starts.{startsFrom, startsOf, isList, listRefusal, placed}
 use Rattle.keytable.proofs.Tests.{between-sound, identity-sound}
 use Rattle.keytable.proofs.Texts.{joined-lines}
@@ -29,7 +29,7 @@ use Rattle.keytable.proofs.Listed.{count-lines, own-within, own-starts, passed-
 use Rattle.keytable.proofs.Spots.{joined-append}
 use Rattle.table_edits.specs.declared.Place.{Place}
 use Rattle.table_edits.specs.declared.Place.the-variants.{At, Absent, Refused}
-use Rattle.table_edits.specs.Edits.{Edit, subject, validSecret, secretAllowed, allowed, misplaced, listed, linesAfter}
+use Rattle.table_edits.specs.Edits.{Edit, subject, secretAllowed, allowed, misplaced, listed, linesAfter}
 use Rattle.table_edits.specs.Edits.{lineWith, lowerHex, sized, unless, edited, roomed, editedIn}
 use Rattle.table_edits.specs.Inner.{bounded, hitPlace, soughtIn, placeIn, sizeJudged, OwnList, Unbroken}
 use Rattle.table_edits.proofs.Digits.{length-hex}

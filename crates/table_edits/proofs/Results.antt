@@ -10,12 +10,12 @@ use Rattle.lists.proofs.Tests.{both}
 use Rattle.refusal.specs.declared.Refusal.the-variants.{AlreadyListed, NotListed}
 use Rattle.refusal.specs.Lent.{gives, refuses}
 use Rattle.keytable.specs.declared.entries.Hit.the-variants.{Line, Nothing}
-use Rattle.keytable.specs.Table.{lines, joined, ended}
+use Rattle.keytable.specs.Table.{lines, joined, ended, validSecret}
 use Rattle.keytable.specs.Starts.{startsFrom, startsOf, placed}
 use Rattle.keytable.proofs.Listed.{count-lines}
 use Rattle.table_edits.specs.declared.Place.the-variants.{At, Absent}
 use Rattle.table_edits.specs.Edits.{Edit, add, replace, retire, isLineOf, others, linesAfter, lineWith, lowerHex, subject, roomed, sized}
-use Rattle.table_edits.specs.Edits.{validSecret, secretAllowed, editedIn}
+use Rattle.table_edits.specs.Edits.{secretAllowed, editedIn}
 use Rattle.table_edits.specs.Inner.{bounded, spliced, placeIn, shifted, restarted, OwnList, Starting, Unbroken}
 use Rattle.table_edits.proofs.Writing.{length-spliced}
 use Rattle.table_edits.proofs.Starts.{restarted-front}

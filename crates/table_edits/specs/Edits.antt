@@ -14,7 +14,7 @@ use Rattle.refusal.specs.declared.Refusal.{Refusal}
 use Rattle.refusal.specs.declared.Refusal.the-variants.{ShortOutput, BadTable, BadValue, AlreadyListed, NotListed, TableFull}
 use Rattle.refusal.specs.declared.Written.{Written}
 use Rattle.refusal.specs.Lent.{Outcome, gives, refuses, within, Answers}
-use Rattle.keytable.specs.Table.{colon, lines, joined, between, identityOf, validIdentity, tableRefusal}
+use Rattle.keytable.specs.Table.{colon, lines, joined, identityOf, validIdentity, validSecret, tableRefusal}
 use Rattle.keytable.specs.Starts.{startsOf, listRefusal}
 
 -- ---- the line of an identity and a key
@@ -62,10 +62,6 @@ linesAfter (replace identity key) ls = map (λ l. cond (isLineOf identity l) (li
 linesAfter (retire identity) ls = others identity ls
 
 -- ---- refusals
-
--- a key's bytes, 1 to 64
-abbrev pub validSecret : List ℕ → Bool
-validSecret key = between 1 64 (length key)
 
 -- the key, where the edit names one
 abbrev pub secretAllowed : Edit → Bool

@@ -16,7 +16,7 @@ ghost use lib.ListN as ListN;
 ghost use lib.ListN.{take};
 ghost use Rattle.refusal.specs.Lent.{Answers};
 ghost use Rattle.keytable.specs.Table.{lines, ended};
-ghost use Rattle.table_edits.specs.Edits.{add, replace, retire, linesAfter, editedIn, EditsBoth, lowerHex, roomed, sized, validSecret};
+ghost use Rattle.table_edits.specs.Edits.{add, replace, retire, linesAfter, editedIn, EditsBoth, lowerHex, roomed, sized};
 ghost use Rattle.table_edits.specs.Inner.{bounded, spliced, soughtIn, placeIn, sizeJudged, OwnList, Unbroken};
 use keytable::Hit;
 use keytable::Judged;
@@ -29,16 +29,6 @@ enum Place {
     At(usize, usize, usize),
     Absent,
     Refused(Refusal),
-}
-
-// Whether a key of so many bytes may stand in a table.
-fn valid_secret(key: &[u8]) -> bool
-    ensures { λ r. ⌜ r ≡ validSecret (now (key .entry)) ⌝ }
-{
-    if key.len() < 1 {
-        return false;
-    }
-    key.len() <= 64
 }
 
 // The test of the edit's own bytes, and the search; `secret` says whether the key is allowed.
@@ -169,7 +159,14 @@ pub fn add(
     ensures { λ r. ⌜ EditsBoth (editedIn (now (memory .entry)) length (now (starts .entry)) (now (count .entry)) (add (now (identity .entry)) (now (key .entry))))
         (now (memory .entry)) (now (starts .entry)) (now (count .entry)) r (now (memory .exit)) (now (starts .exit)) (now (count .exit)) ⌝ }
 {
-    let found = locate(memory, length, starts, *count, identity, valid_secret(key));
+    let found = locate(
+        memory,
+        length,
+        starts,
+        *count,
+        identity,
+        keytable::valid_secret(key),
+    );
     match found {
         Place::At(_, _, _) => Written::Refused(Refusal::AlreadyListed),
         Place::Absent => append(memory, length, starts, count, identity, key),
@@ -189,7 +186,14 @@ pub fn replace(
     ensures { λ r. ⌜ EditsBoth (editedIn (now (memory .entry)) length (now (starts .entry)) (now (count .entry)) (replace (now (identity .entry)) (now (key .entry))))
         (now (memory .entry)) (now (starts .entry)) (now (count .entry)) r (now (memory .exit)) (now (starts .exit)) (now (count .exit)) ⌝ }
 {
-    let found = locate(memory, length, starts, *count, identity, valid_secret(key));
+    let found = locate(
+        memory,
+        length,
+        starts,
+        *count,
+        identity,
+        keytable::valid_secret(key),
+    );
     match found {
         Place::At(k, from, to) => {
             let written = put_digits(memory, length, from, to, key);

@@ -7,37 +7,21 @@ use Prim.Native.Nat.{ℕ}
 use mathlib.Core.Bool.{true, false}
 use mathlib.Core.List.{List, [], _∷_, _++_, append-nil, append-assoc}
 use mathlib.Core.Option.{Option, some}
-use Rattle.lists.specs.Lists.{Each}
+use Rattle.handshake.specs.Series.{Call, message, changeOfCipher, IgnoredWarning}
 use Rattle.server.specs.declared.Rule.{Rule}
 use Rattle.server.specs.declared.Phase.{Phase}
 use Rattle.server.specs.declared.Connection.{Connection}
 use Rattle.server.specs.Connection.{Settings, ruleOf, acceptable, started, ended}
 use Rattle.server.specs.KeyExchange.{View, viewOf}
-use Rattle.theorems.specs.Series.{Call, message, changeOfCipher, call, run}
-use Rattle.theorems.specs.Terms.{IgnoredWarning, Aside, ShortHello, BadTableCall, HelloCame, KeyExchangeCame, ChangeCame, named}
-use Rattle.theorems.specs.Terms.{ShortFinished, AwaitsFinished}
+use Rattle.theorems.specs.Series.{call, run}
+use Rattle.theorems.specs.Terms.{Aside, ShortHello, BadTableCall, HelloCame, KeyExchangeCame, ChangeCame, named, ShortFinished, AwaitsFinished}
 use Rattle.theorems.specs.Demand3.{CameRight, CompletesExactly}
+use Rattle.handshake.proofs.Series.{run-append, run-stays, run-comes}
 use Rattle.theorems.proofs.Stages.{helloed, unknown, hello-stays, hello-comes, exchange-stays, exchange-comes, change-stays}
 use Rattle.theorems.proofs.Stages.{change-comes, complete-stays}
 use Rattle.theorems.proofs.Finishing.{awaiting, finished-stays, finished-comes}
 use Rattle.theorems.proofs.Progress.{exchanged, Stands, awaits-hello, awaits-exchange, awaits-change, awaits-finished, complete}
 use Rattle.theorems.proofs.Progress.{closed, stands-on}
-
--- ---- runs
-
-run-append : (v : View) (c : Connection) (xs ys : List Call) → run v c (xs ++ ys) ≡ run v (run v c xs) ys
-run-append v c [] ys = refl
-run-append v c (x ∷ xs) ys = run-append v (call v c x .next) xs ys
-
-run-stays : (v : View) (c : Connection) (Stays : Call → Type 0) → ((x : Call) → Stays x → call v c x .next ≡ c)
-    → (xs : List Call) → Each Stays xs → run v c xs ≡ c
-run-stays v c Stays stays [] each = refl
-run-stays v c Stays stays (x ∷ xs) each = rw (stays x (each .0)) (run-stays v c Stays stays xs (each .1))
-
--- calls that leave c as it was, and then one that does not
-run-comes : (v : View) (c : Connection) (Stays : Call → Type 0) → ((x : Call) → Stays x → call v c x .next ≡ c)
-    → (xs : List Call) → Each Stays xs → (x : Call) → run v c (xs ++ (x ∷ [])) ≡ call v c x .next
-run-comes v c Stays stays xs each x = run-append v c xs (x ∷ []) ∙ rw (run-stays v c Stays stays xs each)
 
 abbrev IsComplete : Phase → Type 0
 IsComplete Phase.Hello = ⊥
@@ -61,7 +45,7 @@ module _ (s : Settings) (v : View) (ok : acceptable s ≡ true) where
   hello-came came =
       let x : Call = message (came .hello) (came .out) in
       ap from-start (came .is)
-      ∙ run-comes v (started s) (Aside (ShortHello s)) (hello-stays s v) (came .before) (came .aside) x
+      ∙ run-comes (call v) (started s) (Aside (ShortHello s)) (hello-stays s v) (came .before) (came .aside) x
       ∙ hello-comes s v x (record { hello = came .hello; out = came .out; is = refl; legal = came .legal; room = came .room })
 
   exchange-came : {calls : List Call} (came : KeyExchangeCame s v calls) → unknown (ruleOf (s .named)) (v .lookup (came .legal .identity)) ≡ false
@@ -70,9 +54,9 @@ module _ (s : Settings) (v : View) (ok : acceptable s ≡ true) where
       let x : Call = message (came .exchange) (came .out) in
       let legal = came .came .legal in
       ap from-start (came .is)
-      ∙ run-append v (started s) (came .first) (came .between ++ (x ∷ []))
+      ∙ run-append (call v) (started s) (came .first) (came .between ++ (x ∷ []))
       ∙ rw (hello-came (came .came))
-      (run-comes v (helloed s legal) (Aside (BadTableCall v)) (exchange-stays s v legal) (came .between) (came .aside) x
+      (run-comes (call v) (helloed s legal) (Aside (BadTableCall v)) (exchange-stays s v legal) (came .between) (came .aside) x
       ∙ exchange-comes s v legal x (record { exchange = came .exchange; out = came .out; is = refl; good = came .good; legal = came .legal })
       ∙ rw known)
 
@@ -83,9 +67,9 @@ module _ (s : Settings) (v : View) (ok : acceptable s ≡ true) where
       let exchange = came .came .exchange in
       let found = v .lookup (named s v came) in
       ap from-start (came .is)
-      ∙ run-append v (started s) (came .first) (came .between ++ (changeOfCipher ∷ []))
+      ∙ run-append (call v) (started s) (came .first) (came .between ++ (changeOfCipher ∷ []))
       ∙ rw (exchange-came (came .came) known)
-      (run-comes v (exchanged s v (came .came)) IgnoredWarning (change-stays s v legal exchange found) (came .between) (came .aside) changeOfCipher
+      (run-comes (call v) (exchanged s v (came .came)) IgnoredWarning (change-stays s v legal exchange found) (came .between) (came .aside) changeOfCipher
       ∙ change-comes s v legal exchange found)
 
   finished-awaited : {calls : List Call} (awaits : AwaitsFinished s v calls)
@@ -94,9 +78,9 @@ module _ (s : Settings) (v : View) (ok : acceptable s ≡ true) where
   finished-awaited awaits known =
       let came = awaits .came in
       ap from-start (awaits .is)
-      ∙ run-append v (started s) (awaits .first) (awaits .between)
+      ∙ run-append (call v) (started s) (awaits .first) (awaits .between)
       ∙ rw (change-came came known)
-      (run-stays v (awaiting s v came) (Aside (ShortFinished s v came)) (finished-stays s v ok came) (awaits .between) (awaits .aside))
+      (run-stays (call v) (awaiting s v came) (Aside (ShortFinished s v came)) (finished-stays s v ok came) (awaits .between) (awaits .aside))
 
   complete-kept : (xs : List Call) → run v (ended Phase.Complete) xs ≡ ended Phase.Complete
   complete-kept [] = refl
@@ -110,7 +94,7 @@ module _ (s : Settings) (v : View) (ok : acceptable s ≡ true) where
       let comes = finished-comes s v ok came x
       (record { finished = right .finished; out = right .out; is = refl; right = right .right; room = right .room }) in
       ap from-start (right .is)
-      ∙ run-append v (started s) (right .before) (x ∷ right .rest)
+      ∙ run-append (call v) (started s) (right .before) (x ∷ right .rest)
       ∙ rw (finished-awaited (right .awaits) known, comes) (complete-kept (right .rest))
 
   -- ---- a series that ends complete came right

@@ -12,7 +12,7 @@ use lib.ListN.{length, length-append}
 use lib.Dec.{leb, eqb}
 use borrow.Author.Tests.{leb-true, eqb-true}
 use Rattle.refusal.specs.Lent.{gives}
-use Rattle.refusal.specs.Table.{toClient}
+use Rattle.refusal.specs.Table.{toPeer}
 use Rattle.refusal.specs.declared.Refusal.{Refusal}
 use Rattle.refusal.specs.declared.Refusal.the-variants.{DecryptError}
 use Rattle.sha256.specs.State.{fresh, absorb}
@@ -26,24 +26,27 @@ use Rattle.layout.specs.Place.{lastAt, filledBy, afterHeader, contents}
 use Rattle.hellos.specs.ClientHello.{clientHeader, clientFields}
 use Rattle.messages.specs.Fixed as Fixed
 use Rattle.messages.specs.Fixed.{readFixed}
+use Rattle.handshake.specs.Finished.{isValue}
+use Rattle.handshake.specs.Flight.{Flight, flightBytes}
+use Rattle.handshake.specs.Series.{Call, message, changeOfCipher, alert}
+use Rattle.handshake.specs.Step.{refuse, accept}
 use Rattle.server.specs.declared.Phase.{Phase}
 use Rattle.server.specs.declared.Connection.{Connection}
 use Rattle.server.specs.Connection.{Settings, acceptable, started, ended}
-use Rattle.server.specs.Step.{Step, refuse, accept}
+use Rattle.server.specs.Step.{Step}
 use Rattle.server.specs.KeyExchange.{View}
 use Rattle.keys.specs.Secrets.{masterUnder}
 use Rattle.server.specs.Hello.{flight}
-use Rattle.server.specs.Finished.{isValue, judged, finishedValue, finishedFlight}
+use Rattle.server.specs.Finished.{judged, finishedValue, finishedFlight}
 use Rattle.keys.specs.Secrets.{finishedOf}
 use Rattle.server.specs.Message.{messageStep}
-use Rattle.server.specs.Flight.{Flight, flightBytes}
+use Rattle.handshake.proofs.Settling.{refused-closes, accepted-next, short-stays, unread, unread-alerts, orRefuse, step-read, read-size}
 use Rattle.server.proofs.Hellos.{flight-most}
-use Rattle.theorems.specs.Series.{Call, message, changeOfCipher, alert, call}
+use Rattle.theorems.specs.Series.{call}
 use Rattle.theorems.specs.Terms.{LegalHello, LegalKeyExchange, LegalFinished, flightTo, valueUnder, Aside, ChangeCame, named}
 use Rattle.theorems.specs.Terms.{RightFinished, ShortFinished}
 use Rattle.theorems.proofs.Values.{is-value, value-is, compared, servers-value}
-use Rattle.theorems.proofs.Settling.{refused-closes, accepted-next, short-stays, Fate, warning-stays, alert-fate, unread}
-use Rattle.theorems.proofs.Settling.{unread-alerts, orRefuse, step-read, read-size}
+use Rattle.theorems.proofs.Settling.{Fate, warning-stays, alert-fate}
 use Rattle.theorems.proofs.Stages.{helloed, keyed, changed, flight-is}
 
 -- a legal Finished that is right under the key that was found
@@ -62,10 +65,10 @@ wrongOf r (some value) = DecryptError
 abbrev pub wrong : List ℕ → Refusal
 wrong m = wrongOf (unread 20 m) (readFixed 20 12 m)
 
-pub wrong-alerts : (m : List ℕ) → toClient (wrong m) ≡ true
+pub wrong-alerts : (m : List ℕ) → toPeer (wrong m) ≡ true
 wrong-alerts m = go (readFixed 20 12 m)
   where
-    go : (o : Option (List ℕ)) → toClient (wrongOf (unread 20 m) o) ≡ true
+    go : (o : Option (List ℕ)) → toPeer (wrongOf (unread 20 m) o) ≡ true
     go none = unread-alerts 20 m
     go (some value) = refl
 
@@ -129,7 +132,7 @@ module _ (s : Settings) (v : View) {hello : List ℕ} (legal : LegalHello (s .su
     abbrev finishedStep : List ℕ → Step
     finishedStep m = messageStep v (changed s legal exchange found) m Phase.Finished
 
-    finished-read : (m : List ℕ) → finishedStep m ≡ orRefuse (unread 20 m) (judged (changed s legal exchange found) m) (readFixed 20 12 m)
+    pub finished-read : (m : List ℕ) → finishedStep m ≡ orRefuse (unread 20 m) (judged (changed s legal exchange found) m) (readFixed 20 12 m)
     finished-read m =
         step-read (λ h. contents m (afterHeader h (filledBy 12 m))) (λ r. refl) (finishedValue (changed s legal exchange found) m) refl (header 20 m)
 
@@ -189,13 +192,13 @@ module _ (s : Settings) (v : View) (ok : acceptable s ≡ true) {calls : List Ca
   finished-stays x (inr short) =
       let own = finished-accepted (short .finished) (short .right) in
       let less : length (short .out) < length (flightBytes (finishedFlight (own .0))) = rw (own .1) (short .short) in
-      rw (short .is) (short-stays (awaiting s v came) (short .out) _ (finishedFlight (own .0)) (ended Phase.Complete) (own .2) less)
+      rw (short .is) (short-stays (ended Phase.Closed) (awaiting s v came) (short .out) _ (finishedFlight (own .0)) (ended Phase.Complete) (own .2) less)
 
   pub finished-comes : (x : Call) → FinishedComes s v came x → call v (awaiting s v came) x .next ≡ ended Phase.Complete
   finished-comes x comes =
       let own = finished-accepted (comes .finished) (comes .right) in
       let room : length (flightBytes (finishedFlight (own .0))) ≤ length (comes .out) = rw (own .1) (comes .room) in
-      rw (comes .is) (accepted-next (awaiting s v came) (comes .out) _ (finishedFlight (own .0)) (ended Phase.Complete) (own .2) room)
+      rw (comes .is) (accepted-next (ended Phase.Closed) (awaiting s v came) (comes .out) _ (finishedFlight (own .0)) (ended Phase.Complete) (own .2) room)
 
   pub finished-fate : (x : Call) → Fate v (awaiting s v came) (Aside (ShortFinished s v came)) (FinishedComes s v came) x
   finished-fate (message m out) = go (finished-other s v (came .came .came .legal) (came .came .exchange) (v .lookup (named s v came)) m)
@@ -208,7 +211,7 @@ module _ (s : Settings) (v : View) (ok : acceptable s ≡ true) {calls : List Ca
       go : Right s (came .came .came .legal) (came .came .exchange) (v .lookup (named s v came)) m ⊎ (finishStep m ≡ refuse (wrong m))
           → Fate v (awaiting s v came) (Aside (ShortFinished s v came)) (FinishedComes s v came) (message m out)
       go (inl r) = rightly (record { legal = r .finished; key = r .key; listed = r .listed; right = r .right }) (decLe 16 (length out))
-      go (inr refused) = inr (inr (refused-closes (awaiting s v came) out (finishStep m) (wrong m) refused (wrong-alerts m)))
+      go (inr refused) = inr (inr (refused-closes (ended Phase.Closed) (awaiting s v came) out (finishStep m) (wrong m) refused (wrong-alerts m)))
   finished-fate changeOfCipher = inr (inr refl)
   finished-fate (alert level description) =
       alert-fate v (awaiting s v came) refl (Aside (ShortFinished s v came)) (FinishedComes s v came) (λ x. inl) level description

@@ -10,6 +10,7 @@ use lib.IntN.{ℤ}
 use native.Mathlib.Omega.{arith}
 use Rattle.refusal.specs.declared.Refusal.{Refusal}
 use Rattle.refusal.specs.declared.Written.the-variants.{Wrote, Refused}
+use Rattle.handshake.specs.Series.{Call}
 use Rattle.server.specs.declared.Phase.{Phase}
 use Rattle.server.specs.declared.Connection.{Connection}
 use Rattle.server.specs.declared.Answer.{Answer}
@@ -19,7 +20,7 @@ use Rattle.saved.specs.Saved.{restored, phaseByte}
 use Rattle.c_interface.specs.Codes.{coded}
 use Rattle.c_interface.specs.Connections.{startCall, namedOf}
 use Rattle.c_interface.proofs.Apart.{codes-apart}
-use Rattle.theorems.specs.Series.{Call, call, run, Seen, answers}
+use Rattle.theorems.specs.Series.{call, run, Seen, answers}
 use Rattle.theorems.specs.Demand3.{Hiding, Alike}
 use Rattle.theorems.specs.FromC.{Given, Series, none, one, settingsOf, Started, HidingInC, SamenessFromC, CompletesExactlyFromC}
 use Rattle.theorems.proofs.Sameness.{sameness}

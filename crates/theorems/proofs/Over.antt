@@ -4,12 +4,13 @@ use mathlib.Core.Path.{_≡_, refl, ap}
 use mathlib.Core.Bool.{true, false, false≢true}
 use mathlib.Core.List.{[]}
 use Rattle.refusal.specs.declared.Refusal.the-variants.{ConnectionOver}
+use Rattle.handshake.specs.Series.{message, changeOfCipher, alert}
+use Rattle.handshake.specs.Step.{refuse}
 use Rattle.server.specs.declared.Phase.{Phase}
 use Rattle.server.specs.declared.Connection.{Connection}
 use Rattle.server.specs.Connection.{isOver}
-use Rattle.server.specs.Step.{refuse, settled}
+use Rattle.server.specs.Step.{settled}
 use Rattle.server.specs.Change.{changeStep}
-use Rattle.theorems.specs.Series.{message, changeOfCipher, alert}
 use Rattle.theorems.specs.Over.{OverStays}
 
 change-over : (c : Connection) (p : Phase) → isOver p ≡ true → changeStep c p ≡ refuse ConnectionOver

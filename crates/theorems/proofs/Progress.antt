@@ -6,13 +6,13 @@ use mathlib.Core.Bool.{Bool, true, false, cond}
 use mathlib.Core.List.{List, [], _∷_, _++_, append-nil, append-assoc}
 use Rattle.lists.specs.Lists.{Each}
 use Rattle.lists.proofs.Every.{every-append}
+use Rattle.handshake.specs.Series.{Call, message, changeOfCipher, IgnoredWarning}
 use Rattle.server.specs.declared.Phase.{Phase}
 use Rattle.server.specs.declared.Connection.{Connection}
 use Rattle.server.specs.Connection.{Settings, ruleOf, acceptable, started, ended}
 use Rattle.server.specs.KeyExchange.{View}
-use Rattle.theorems.specs.Series.{Call, message, changeOfCipher, call}
-use Rattle.theorems.specs.Terms.{IgnoredWarning, Aside, ShortHello, BadTableCall, HelloCame, KeyExchangeCame, ChangeCame}
-use Rattle.theorems.specs.Terms.{ShortFinished, AwaitsFinished}
+use Rattle.theorems.specs.Series.{call}
+use Rattle.theorems.specs.Terms.{Aside, ShortHello, BadTableCall, HelloCame, KeyExchangeCame, ChangeCame, ShortFinished, AwaitsFinished}
 use Rattle.theorems.specs.Demand3.{CameRight}
 use Rattle.theorems.proofs.Settling.{Fate}
 use Rattle.theorems.proofs.Stages.{helloed, keyed, unknown, HelloComes, hello-fate, hello-stays, hello-comes, ExchangeComes}

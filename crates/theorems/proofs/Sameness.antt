@@ -14,24 +14,27 @@ use Rattle.keytable.specs.Table.{keyOf}
 use Rattle.lists.proofs.Equal.{same-eq, same-refl}
 use Rattle.keytable.proofs.Laws.{removed-gone, removed-else}
 use Rattle.lists.proofs.Every.{every-append, every-map}
+use Rattle.handshake.specs.declared.Heard.{Heard}
+use Rattle.handshake.specs.Alert.{heard, heardStep}
+use Rattle.handshake.specs.Flight.{silence}
+use Rattle.handshake.specs.Series.{Call, message, changeOfCipher, alert, IgnoredWarning}
+use Rattle.handshake.specs.Step.{refuse, accept, outcome}
 use Rattle.server.specs.declared.Rule.{Rule}
 use Rattle.server.specs.declared.Named.{Named}
-use Rattle.server.specs.declared.Heard.{Heard}
 use Rattle.server.specs.declared.Phase.{Phase}
 use Rattle.server.specs.declared.Connection.{Connection}
 use Rattle.server.specs.Connection.{Settings, ruleOf, acceptable, started, startAnswer, ended}
 use Rattle.server.specs.KeyExchange.{View, viewOf, keyFound}
-use Rattle.server.specs.Step.{Step, refuse, accept, Settled, outcome, settled}
+use Rattle.server.specs.Step.{Step, Settled, settled}
 use Rattle.server.specs.Connection.{isOver}
-use Rattle.server.specs.Flight.{silence}
 use Rattle.server.specs.Message.{messageStep}
-use Rattle.server.specs.Alert.{heard, heardStep, alertStep, alertCall}
-use Rattle.theorems.specs.Series.{Call, message, changeOfCipher, alert, call, Seen, seen, answers}
-use Rattle.theorems.specs.Terms.{LegalKeyExchange, IgnoredWarning, Aside, BadTableCall, HelloCame, KeyExchangeCame, ChangeCame, named}
-use Rattle.theorems.specs.Terms.{ShortFinished}
+use Rattle.server.specs.Alert.{alertStep, alertCall}
+use Rattle.theorems.specs.Series.{call, Seen, seen, answers}
+use Rattle.theorems.specs.Terms.{LegalKeyExchange, Aside, BadTableCall, HelloCame, KeyExchangeCame, ChangeCame, named, ShortFinished}
 use Rattle.theorems.specs.Demand3.{Hiding, Alike, JudgedRight, Sameness}
 use Rattle.theorems.specs.Agreeing.{AgreeOutside, NoneJudgedRightOf, SamenessOfLookups}
-use Rattle.theorems.proofs.Settling.{refused-closes, accepted-next, Closes, Fate, warning-stays, alert-fate, unread, orRefuse}
+use Rattle.handshake.proofs.Settling.{refused-closes, accepted-next, unread, orRefuse}
+use Rattle.theorems.proofs.Settling.{Closes, Fate, warning-stays, alert-fate}
 use Rattle.theorems.proofs.Stages.{helloed, keyed, exchange-read, exchange-legal, changed, change-stays, change-fate}
 use Rattle.theorems.proofs.Finishing.{Right, wrong, wrong-alerts, finished-other, awaiting}
 use Rattle.theorems.proofs.Progress.{exchanged, Stands, awaits-hello, awaits-exchange, awaits-change, awaits-finished, complete}
@@ -51,7 +54,7 @@ alert-alike c c' going going' level description =
     seen-outcome c c' [] {step = alertStep c level description} {step' = alertStep c' level description} refl refl
     (rw (going, going') (go (heard level description)))
   where
-    go : (h : Heard) → outcome (heardStep c h) ≡ outcome (heardStep c' h)
+    go : (h : Heard) → outcome (heardStep (ended Phase.Closed) c h) ≡ outcome (heardStep (ended Phase.Closed) c' h)
     go Heard.Illegal = refl
     go Heard.Ends = refl
     go Heard.Ignored = refl
@@ -167,7 +170,7 @@ module _ (s : Settings) (ok : acceptable s ≡ true) (hide : ruleOf (s .named) �
         accepted w h = exchange-legal s w (came .legal) h legal ∙ rw hide
 
         next : (w : View) → w .refusal ≡ none → call w here (message m out) .next ≡ keyed s (came .legal) m (w .lookup (legal .identity))
-        next w h = accepted-next here out _ silence _ (accepted w h) (omega arith)
+        next w h = accepted-next (ended Phase.Closed) here out _ silence _ (accepted w h) (omega arith)
 
         now : KeyExchangeCame s v (calls ++ (message m out ∷ []))
         now = exchange-now s v first came between split aside (record { exchange = m; out = out; is = refl; good = good; legal = legal })
@@ -271,8 +274,8 @@ module _ (s : Settings) (ok : acceptable s ≡ true) (hide : ruleOf (s .named) �
       finish-on (message m out) never =
           let e = refused-both m out never in (
             seen-outcome (changedBy v) (changedBy v') out (e .0) (e .1) refl,
-            same-yet (refused-closes (changedBy v) out _ (wrong m) (e .0) (wrong-alerts m)
-                ∙ sym (refused-closes (changedBy v') out _ (wrong m) (e .1) (wrong-alerts m))),
+            same-yet (refused-closes (ended Phase.Closed) (changedBy v) out _ (wrong m) (e .0) (wrong-alerts m)
+                ∙ sym (refused-closes (ended Phase.Closed) (changedBy v') out _ (wrong m) (e .1) (wrong-alerts m))),
           )
       finish-on changeOfCipher never = (refl, same-yet refl)
       finish-on (alert level description) never = (

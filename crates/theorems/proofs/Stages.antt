@@ -13,7 +13,7 @@ use lib.ListN.{length, replicate}
 use lib.Seq.{take-append-seam}
 use lib.Dec.{ltb}
 use Rattle.refusal.specs.declared.Refusal.{Refusal}
-use Rattle.refusal.specs.Table.{toClient}
+use Rattle.refusal.specs.Table.{toPeer}
 use Rattle.refusal.specs.declared.Refusal.the-variants.{UnexpectedMessage, HandshakeFailure, IllegalParameter, DecodeError, ProtocolVersion}
 use Rattle.refusal.specs.declared.Refusal.the-variants.{UnknownPskIdentity}
 use Rattle.layout.specs.declared.Verdict.{Verdict}
@@ -21,21 +21,24 @@ use Rattle.layout.specs.Header.{header}
 use Rattle.layout.specs.Place.{lastAt, afterHeader, contents}
 use Rattle.hellos.specs.ClientHello.{ClientHello, clientHeader, clientFields, readClientHello}
 use Rattle.messages.specs.KeyExchange.{readVector}
+use Rattle.handshake.specs.Flight.{silence}
+use Rattle.handshake.specs.Series.{Call, message, changeOfCipher, alert, IgnoredWarning}
+use Rattle.handshake.specs.Step.{refuse, accept}
 use Rattle.server.specs.declared.Rule.{Rule}
 use Rattle.server.specs.declared.Phase.{Phase}
 use Rattle.server.specs.declared.Connection.{Connection}
 use Rattle.server.specs.Connection.{Settings, ruleOf, started, ended, hintOf}
-use Rattle.server.specs.Flight.{silence}
-use Rattle.server.specs.Step.{Step, refuse, accept, settled}
+use Rattle.server.specs.Step.{Step, settled}
 use Rattle.server.specs.KeyExchange.{View, afterKeys, keyFound, keyIdentity}
 use Rattle.server.specs.Hello.{chosen, offersNull, flight, flightFor, afterHello, helloChosen, helloFields}
 use Rattle.server.specs.Message.{messageStep}
 use Rattle.server.specs.Change.{afterChange}
+use Rattle.handshake.proofs.Settling.{refused-closes, refused-stays, accepted-next, short-stays, Alerts, Tested, header-tested, unread, unread-alerts}
+use Rattle.handshake.proofs.Settling.{orRefuse, step-read}
 use Rattle.server.proofs.Hellos.{version-old, null-missing, null-there}
-use Rattle.theorems.specs.Series.{Call, message, changeOfCipher, alert, call}
-use Rattle.theorems.specs.Terms.{LegalHello, LegalKeyExchange, answerTo, flightTo, IgnoredWarning, Aside, ShortHello, BadTableCall}
-use Rattle.theorems.proofs.Settling.{refused-closes, refused-stays, accepted-next, short-stays, Alerts, Fate, warning-stays}
-use Rattle.theorems.proofs.Settling.{alert-fate, Tested, header-tested, unread, unread-alerts, orRefuse, step-read}
+use Rattle.theorems.specs.Series.{call}
+use Rattle.theorems.specs.Terms.{LegalHello, LegalKeyExchange, answerTo, flightTo, Aside, ShortHello, BadTableCall}
+use Rattle.theorems.proofs.Settling.{Fate, warning-stays, alert-fate}
 
 -- ---- awaiting the ClientHello
 
@@ -97,14 +100,14 @@ module _ (s : Settings) (v : View) where
   unfolding started
   hello-stays x (inl warning) = warning-stays v (started s) refl x warning
   hello-stays x (inr short) =
-      rw (short .is) (short-stays (started s) (short .out) _ (answerTo s (short .legal)) (helloed s (short .legal)) (hello-legal (short .legal))
+      rw (short .is) (short-stays (ended Phase.Closed) (started s) (short .out) _ (answerTo s (short .legal)) (helloed s (short .legal)) (hello-legal (short .legal))
       (short .short))
 
   pub hello-comes : (x : Call) (comes : HelloComes s x) → call v (started s) x .next ≡ helloed s (comes .legal)
   unfolding started
   hello-comes x comes =
       rw (comes .is)
-      (accepted-next (started s) (comes .out) _ (answerTo s (comes .legal)) (helloed s (comes .legal)) (hello-legal (comes .legal)) (comes .room))
+      (accepted-next (ended Phase.Closed) (started s) (comes .out) _ (answerTo s (comes .legal)) (helloed s (comes .legal)) (hello-legal (comes .legal)) (comes .room))
 
   pub hello-fate : (x : Call) → Fate v (started s) (Aside (ShortHello s)) (HelloComes s) x
   unfolding started
@@ -117,7 +120,7 @@ module _ (s : Settings) (v : View) where
 
       go : LegalHello (s .suites) m ⊎ Alerts (helloStep m) → Fate v (started s) (Aside (ShortHello s)) (HelloComes s) (message m out)
       go (inl legal) = legally legal (decLe (length (flightTo s legal)) (length out))
-      go (inr alerts) = inr (inr (refused-closes (started s) out (helloStep m) (alerts .0) (alerts .1) (alerts .2)))
+      go (inr alerts) = inr (inr (refused-closes (ended Phase.Closed) (started s) out (helloStep m) (alerts .0) (alerts .1) (alerts .2)))
   hello-fate changeOfCipher = inr (inr refl)
   hello-fate (alert level description) = alert-fate v (started s) refl (Aside (ShortHello s)) (HelloComes s) (λ x. inl) level description
 
@@ -180,7 +183,7 @@ module _ (s : Settings) (v : View) {hello : List ℕ} (legal : LegalHello (s .su
   pub exchange-stays : (x : Call) → Aside (BadTableCall v) x → call v (helloed s legal) x .next ≡ helloed s legal
   exchange-stays x (inl warning) = warning-stays v (helloed s legal) refl x warning
   exchange-stays x (inr bad) =
-      rw (bad .is) (refused-stays (helloed s legal) (bad .out) (exchangeStep (bad .exchange)) (bad .refusal) (rw (bad .fits, bad .bad)) (bad .toHost))
+      rw (bad .is) (refused-stays (ended Phase.Closed) (helloed s legal) (bad .out) (exchangeStep (bad .exchange)) (bad .refusal) (rw (bad .fits, bad .bad)) (bad .toHost))
 
   pub exchange-comes : (x : Call) (comes : ExchangeComes v x) → call v (helloed s legal) x .next
       ≡ cond (unknown (ruleOf (s .named)) (v .lookup (comes .legal .identity))) (ended Phase.Closed)
@@ -192,13 +195,13 @@ module _ (s : Settings) (v : View) {hello : List ℕ} (legal : LegalHello (s .su
       go : (b : Bool) (next : Connection)
           → settled (helloed s legal) (comes .out) (cond b (refuse UnknownPskIdentity) (accept silence next)) .next ≡ cond b (ended Phase.Closed) next
       go true next = refl
-      go false next = accepted-next (helloed s legal) (comes .out) (accept silence next) silence next refl (omega arith)
+      go false next = accepted-next (ended Phase.Closed) (helloed s legal) (comes .out) (accept silence next) silence next refl (omega arith)
 
   pub exchange-fate : (x : Call) → Fate v (helloed s legal) (Aside (BadTableCall v)) (ExchangeComes v) x
   exchange-fate (message m out) = of-table (v .refusal) refl
     where
       refused : Alerts (exchangeStep m) → Fate v (helloed s legal) (Aside (BadTableCall v)) (ExchangeComes v) (message m out)
-      refused alerts = inr (inr (refused-closes (helloed s legal) out (exchangeStep m) (alerts .0) (alerts .1) (alerts .2)))
+      refused alerts = inr (inr (refused-closes (ended Phase.Closed) (helloed s legal) out (exchangeStep m) (alerts .0) (alerts .1) (alerts .2)))
 
       of-read : v .refusal ≡ none → (o : Option (List ℕ)) → readVector 16 m ≡ o
           → Fate v (helloed s legal) (Aside (BadTableCall v)) (ExchangeComes v) (message m out)
@@ -206,25 +209,25 @@ module _ (s : Settings) (v : View) {hello : List ℕ} (legal : LegalHello (s .su
       of-read good (some identity) read =
           inr (inl (record { exchange = m; out = out; is = refl; good = good; legal = record { identity = identity; read = read } }))
 
-      of-header : (r : Refusal) → v .refusal ≡ some r → toClient r ≡ false → (h : Verdict) → header 16 m ≡ h → Tested m h
+      of-header : (r : Refusal) → v .refusal ≡ some r → toPeer r ≡ false → (h : Verdict) → header 16 m ≡ h → Tested m h
           → Fate v (helloed s legal) (Aside (BadTableCall v)) (ExchangeComes v) (message m out)
       of-header r bad host Verdict.Accepted fits t =
           inl (inr (record { exchange = m; out = out; is = refl; fits = fits; refusal = r; bad = bad; toHost = host }))
       of-header r bad host (Verdict.Refused q) refuses t = refused (q, rw refuses, t)
 
       -- a table that refused with an alert would close the connection; none does
-      alerting : (r : Refusal) → v .refusal ≡ some r → toClient r ≡ true → (h : Verdict) → header 16 m ≡ h → Tested m h → Alerts (exchangeStep m)
+      alerting : (r : Refusal) → v .refusal ≡ some r → toPeer r ≡ true → (h : Verdict) → header 16 m ≡ h → Tested m h → Alerts (exchangeStep m)
       alerting r bad told Verdict.Accepted fits t = (r, rw (fits, bad), told)
       alerting r bad told (Verdict.Refused q) refuses t = (q, rw refuses, t)
 
-      of-refusal : (r : Refusal) → v .refusal ≡ some r → (b : Bool) → toClient r ≡ b
+      of-refusal : (r : Refusal) → v .refusal ≡ some r → (b : Bool) → toPeer r ≡ b
           → Fate v (helloed s legal) (Aside (BadTableCall v)) (ExchangeComes v) (message m out)
       of-refusal r bad true told = refused (alerting r bad told (header 16 m) refl (header-tested 16 m))
       of-refusal r bad false host = of-header r bad host (header 16 m) refl (header-tested 16 m)
 
       of-table : (o : Option Refusal) → v .refusal ≡ o → Fate v (helloed s legal) (Aside (BadTableCall v)) (ExchangeComes v) (message m out)
       of-table none good = of-read good (readVector 16 m) refl
-      of-table (some r) bad = of-refusal r bad (toClient r) refl
+      of-table (some r) bad = of-refusal r bad (toPeer r) refl
   exchange-fate changeOfCipher = inr (inr refl)
   exchange-fate (alert level description) =
       alert-fate v (helloed s legal) refl (Aside (BadTableCall v)) (ExchangeComes v) (λ x. inl) level description

@@ -19,7 +19,7 @@ use Rattle.keys.specs.Secrets.{verifyData}
 use Rattle.keys.proofs.Lengths.{value-given, value-master}
 use Rattle.lists.proofs.Equal.{same-eq, same-refl}
 use Rattle.refusal.specs.Lent.{andThen, bytesOf}
-use Rattle.server.specs.Finished.{isValue}
+use Rattle.handshake.specs.Finished.{isValue}
 use Rattle.keys.specs.Secrets.{finishedOf}
 
 none-without-master : (o : Outcome) (value : List ℕ) → isValue value (andThen o (verifyData Client [])) ≡ false

@@ -6,9 +6,10 @@ use Prim.Native.Nat.{ℕ}
 use mathlib.Core.Bool.{true}
 use mathlib.Core.List.{List}
 use mathlib.Core.Option.{none}
+use Rattle.handshake.specs.Series.{Call}
 use Rattle.server.specs.Connection.{Settings, acceptable, startAnswer}
 use Rattle.server.specs.KeyExchange.{View}
-use Rattle.theorems.specs.Series.{Call, answers}
+use Rattle.theorems.specs.Series.{answers}
 use Rattle.theorems.specs.Demand3.{Hiding, Alike, NoneJudgedRight}
 
 -- both tables have the same for an identity, or the identity is one of the set

@@ -34,12 +34,12 @@ use Rattle.keytable.specs.Starts.{startsOf, lineAt, isList, listMade, lookedUp}
 use Rattle.keytable.specs.WellFormed.{Line, text, WellFormed, Listed, LineRemoved}
 use Rattle.table_edits.specs.Edits.{Edit, add, replace, retire, subject, lowerHex, lineWith, listed, others, edited, editedIn}
 use Rattle.table_edits.specs.Edits.{keyAfter, OfBytes, LowerDigit, startsAfter, countAfter}
+use Rattle.handshake.specs.Flight.{Flight}
+use Rattle.handshake.specs.Step.{accept}
 use Rattle.server.specs.declared.Phase.{Phase}
 use Rattle.server.specs.declared.Connection.{Connection}
 use Rattle.server.specs.KeyExchange.{View}
 use Rattle.server.specs.Connection.{ended}
-use Rattle.server.specs.Flight.{Flight}
-use Rattle.server.specs.Step.{accept}
 use Rattle.server.specs.Message.{messageStep, handedOver}
 use Rattle.saved.specs.Saved.{restored}
 use Rattle.c_interface.specs.Codes.{coded}

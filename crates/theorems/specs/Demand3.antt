@@ -9,12 +9,13 @@ use lib.ListN.{length}
 use Rattle.keytable.specs.Table.{wellFormed}
 use Rattle.keytable.specs.Starts.{isList}
 use Rattle.keytable.specs.WellFormed.{LineRemoved}
+use Rattle.handshake.specs.Finished.{finishedLength}
+use Rattle.handshake.specs.Series.{Call, message}
 use Rattle.server.specs.declared.Named.{Named}
 use Rattle.server.specs.declared.Phase.{Phase}
 use Rattle.server.specs.Connection.{Settings, acceptable, startAnswer}
-use Rattle.server.specs.Finished.{finishedLength}
 use Rattle.server.specs.KeyExchange.{View, viewOf}
-use Rattle.theorems.specs.Series.{Call, message, run, answers}
+use Rattle.theorems.specs.Series.{run, answers}
 use Rattle.theorems.specs.Terms.{AwaitsFinished, RightFinished, named}
 
 -- ---- first half: under the hiding rule, nothing tells which identities are listed

@@ -8,11 +8,13 @@ use lib.IntN.{ℤ, pos}
 use Rattle.keytable.specs.Table.{wellFormed}
 use Rattle.keytable.specs.Starts.{isList}
 use Rattle.keytable.specs.WellFormed.{LineRemoved}
-use Rattle.server.specs.Connection.{Settings, suites}
+use Rattle.handshake.specs.Protocol.{suites}
+use Rattle.handshake.specs.Series.{Call}
+use Rattle.server.specs.Connection.{Settings}
 use Rattle.server.specs.KeyExchange.{View, viewOf}
 use Rattle.saved.specs.Saved.{restored, phaseByte}
 use Rattle.c_interface.specs.Connections.{Keeps, Starts, startCall, namedOf}
-use Rattle.theorems.specs.Series.{Call, call}
+use Rattle.theorems.specs.Series.{call}
 use Rattle.theorems.specs.Demand3.{NoneJudgedRight, CameRight}
 
 -- what a C call gave back: its result, and the lent output afterwards

@@ -6,10 +6,11 @@ use mathlib.Core.Bool.{true}
 use mathlib.Core.List.{List, []}
 use Rattle.refusal.specs.declared.Refusal.the-variants.{ConnectionOver}
 use Rattle.refusal.specs.declared.Written.the-variants.{Refused}
+use Rattle.handshake.specs.Series.{Call, message, changeOfCipher, alert}
 use Rattle.server.specs.declared.Connection.{Connection}
 use Rattle.server.specs.Connection.{isOver}
 use Rattle.server.specs.KeyExchange.{View}
-use Rattle.theorems.specs.Series.{Call, message, changeOfCipher, alert, call}
+use Rattle.theorems.specs.Series.{call}
 
 -- the output that a call is lent
 abbrev pub lent : Call → List ℕ

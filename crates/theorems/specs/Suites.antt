@@ -5,7 +5,7 @@ use Prim.Native.Nat.{ℕ}
 use mathlib.Core.Bool.{true, false}
 use mathlib.Core.List.{List}
 use mathlib.Core.Option.{none, some}
-use Rattle.server.specs.Connection.{suites}
+use Rattle.handshake.specs.Protocol.{suites}
 use Rattle.server.specs.Hello.{offers, chosen}
 
 pub record SuitesInOrder : Type 0 where

@@ -8,7 +8,7 @@ use mathlib.Core.List.{List, [], _∷_, _++_}
 use mathlib.Core.Option.{none, some}
 use lib.ListN.{length}
 use Rattle.refusal.specs.declared.Refusal.{Refusal}
-use Rattle.refusal.specs.Table.{toClient}
+use Rattle.refusal.specs.Table.{toPeer}
 use Rattle.refusal.specs.Lent.{Outcome, gives}
 use Rattle.sha256.specs.Hash.{sha256}
 use Rattle.keys.specs.declared.Side.the-variants.{Client}
@@ -19,15 +19,16 @@ use Rattle.hellos.specs.ClientHello.{ClientHello, readClientHello}
 use Rattle.messages.specs.KeyExchange.{readVector}
 use Rattle.messages.specs.Fixed.{readFixed}
 use Rattle.lists.specs.Lists.{Each}
+use Rattle.handshake.specs.Finished.{verifyDataLength, finishedLength}
+use Rattle.handshake.specs.Flight.{Flight, flightBytes}
+use Rattle.handshake.specs.Protocol.{tls12}
+use Rattle.handshake.specs.Series.{Call, message, changeOfCipher, IgnoredWarning}
 use Rattle.server.specs.Connection.{Settings}
-use Rattle.server.specs.Flight.{Flight, flightBytes}
 use Rattle.server.specs.KeyExchange.{View}
 use Rattle.keys.specs.Secrets.{masterUnder}
 use Rattle.refusal.specs.Lent.{andThen}
 use Rattle.layout.specs.Types.{clientKeyExchangeType, finishedType}
-use Rattle.server.specs.Finished.{verifyDataLength, finishedLength}
-use Rattle.server.specs.Hello.{tls12, chosen, offersNull, flight}
-use Rattle.theorems.specs.Series.{Call, message, changeOfCipher, alert}
+use Rattle.server.specs.Hello.{chosen, offersNull, flight}
 
 -- ---- Legal: what meets the tests on header and limit, which the readers make, and those of its step that answer with an alert, apart from two: whether
 -- the identity is listed and the Finished value right. A change of cipher always is legal.
@@ -67,12 +68,6 @@ valueUnder s {hello} legal exchange key =
 
 -- ---- what leaves a series where it was
 
--- an ignored warning: level 1, and not close_notify
-abbrev pub IgnoredWarning : Call → Type 0
-IgnoredWarning (message m out) = ⊥
-IgnoredWarning changeOfCipher = ⊥
-IgnoredWarning (alert level description) = (level ≡ 1) × ¬ (description ≡ 0)
-
 -- what counts as not come: an ignored warning, or a call refused to the host; which calls those are depends on what came before
 abbrev pub Aside : (Call → Type 0) → Call → Type 0
 Aside RefusedToHost x = IgnoredWarning x ⊎ RefusedToHost x
@@ -93,7 +88,7 @@ pub record BadTableCall (v : View) (x : Call) : Type 0 where
   pub fits : header clientKeyExchangeType exchange ≡ Accepted
   pub refusal : Refusal
   pub bad : v .refusal ≡ some refusal
-  pub toHost : toClient refusal ≡ false
+  pub toHost : toPeer refusal ≡ false
 
 -- ---- what came, call by call: each record says that its message came in its place and that nothing else did
 

@@ -19,12 +19,12 @@ use Rattle.messages.specs.NewSessionTicket.{newSessionTicket}
 use Rattle.hellos.specs.ClientHello.{ClientHello, clientHello}
 use Rattle.utf8.specs.Utf8.{validUtf8}
 use Rattle.keytable.specs.Table.{wellFormed, keyOf}
+use Rattle.handshake.specs.Flight.{flightBytes}
+use Rattle.handshake.specs.Protocol.{suites}
+use Rattle.handshake.specs.Step.{refuse, accept}
 use Rattle.server.specs.declared.Phase.{Phase}
 use Rattle.server.specs.declared.Connection.{Connection}
 use Rattle.server.specs.KeyExchange.{View, viewOf}
-use Rattle.server.specs.Step.{refuse, accept}
-use Rattle.server.specs.Connection.{suites}
-use Rattle.server.specs.Flight.{flightBytes}
 use Rattle.server.specs.Hello.{chosen, offersNull, flightFor, afterHello, helloFields}
 use Rattle.server.specs.Message.{messageStep}
 

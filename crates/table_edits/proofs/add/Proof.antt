@@ -4,7 +4,8 @@ use mathlib.Core.Path.{_≡_, sym, ap, _∙_}
 use Prim.Native.Nat.{ℕ}
 use mathlib.Core.List.{List}
 use denote.Ref.{now}
-use Rattle.table_edits.specs.Edits.{add, validSecret}
+use Rattle.table_edits.specs.Edits.{add}
+use Rattle.keytable.specs.Table.{validSecret}
 use Rattle.table_edits.specs.Inner.{placeIn}
 use Rattle.table_edits.proofs.Both.{both-kept}
 use Rattle.table_edits.proofs.Outcomes.{edit-refused}

@@ -7,7 +7,8 @@ use denote.Ref.{now}
 use native.Mathlib.Omega.{arith}
 use lib.ListN.{length, take}
 use Rattle.table_edits.specs.declared.Place.the-variants.{At}
-use Rattle.table_edits.specs.Edits.{replace, lowerHex, validSecret}
+use Rattle.table_edits.specs.Edits.{replace, lowerHex}
+use Rattle.keytable.specs.Table.{validSecret}
 use Rattle.table_edits.specs.Inner.{spliced, placeIn}
 use Rattle.table_edits.proofs.Both.{both-kept, both-refused, both-bounded}
 use Rattle.table_edits.proofs.Outcomes.{edit-refused}

@@ -5,7 +5,7 @@ use Rattle.hellos.proofs.server_hello.read.Statement.{statement}
 use Rattle.hellos.proofs.server_hello.read.Tie as tie
 
 returns : tie.Need-returns
-returns c = rw (← c .before .before .before .test .ensures, c .before .enum-told .given .1) (c .body .ensures)
+returns c = rw (← c .before .before .before .test .ensures, c .before .enum-told .given .1) (c .read-body .ensures)
 
 returns-2 : tie.Need-returns-2
 returns-2 c = rw (← c .before .before .test .ensures, c .enum-told2 .given .1)

@@ -13,7 +13,7 @@ returns c =
     let a = at-test .before .args in
     rw (
       alerts-close (a .r) (a .c),
-      ← at-test .for-client .ensures,
+      ← at-test .for-peer .ensures,
       at-number .before .before .if1 .taken,
       c .closed-with .ensures,
       at-alert .closing-alert .ensures,
@@ -24,7 +24,7 @@ returns-2 : tie.Need-returns-2
 returns-2 c =
     let at-test = c .before in
     let a = at-test .before .args in
-    rw (alerts-close (a .r) (a .c), ← at-test .for-client .ensures, c .if1 .left)
+    rw (alerts-close (a .r) (a .c), ← at-test .for-peer .ensures, c .if1 .left)
 
 pub after-refusal-spec : {M : Type 1} → statement M
 after-refusal-spec =

@@ -2,7 +2,7 @@
 -- Assumes nothing.
 use mathlib.Core.List.{[], _∷_}
 use borrow.Author.Needs.{needs}
-use Rattle.server.specs.Alert.{warning, closeNotify}
+use Rattle.handshake.specs.Alert.{warning, closeNotify}
 use Rattle.records.specs.declared.ContentType.{ContentType}
 use Rattle.record_server.specs.Connection.{noAlert, closedWith}
 use Rattle.record_server.proofs.Settling.{seal-settles, not-over, over-settles}

@@ -8,7 +8,7 @@ use mathlib.Core.Bool.{true}
 use lib.ListN.{length}
 use lib.Seq.{length-take-le}
 use Rattle.lists.proofs.Tests.{failed, passed}
-use Rattle.server.specs.Decision.{flightOf}
+use Rattle.handshake.specs.Outgoing.{flightOf}
 use Rattle.record_server.specs.InnerFlight.{Sends}
 use Rattle.record_server.proofs.Putting.{total-parts, putBack}
 use Rattle.record_server.proofs.Flights.{PlainPut, first-fits, sends-plain, change-fits, second-asks, sends-change, sent-long}

@@ -8,7 +8,7 @@ use native.Mathlib.Omega.{arith}
 use lib.ListN.{length, getD, drop}
 use Rattle.lists.proofs.Parts.{length-part}
 use Rattle.lists.proofs.Walks.{left-cons}
-use Rattle.server.specs.Decision.{total}
+use Rattle.handshake.specs.Outgoing.{total}
 use Rattle.record_server.proofs.Putting.{Begun, counted-within, begin, skip, next, done}
 use Rattle.record_server.proofs.flight.put_messages.Statement.{statement}
 use Rattle.record_server.proofs.flight.put_messages.Tie as tie

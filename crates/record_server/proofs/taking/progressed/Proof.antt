@@ -3,7 +3,7 @@
 use mathlib.Core.Path.{_≡_, refl}
 use lib.ListN.{take}
 use lib.Seq.{take-append-seam}
-use Rattle.server.specs.Decision.{flightOf}
+use Rattle.handshake.specs.Outgoing.{flightOf}
 use Rattle.record_server.specs.Answering.{flightRecords}
 use borrow.Author.Needs.{needs}
 use Rattle.record_server.proofs.taking.progressed.Statement.{statement}

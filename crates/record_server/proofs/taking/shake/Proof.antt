@@ -7,7 +7,7 @@ use lib.ListN.{take}
 use Rattle.lists.specs.Lists.{part}
 use Rattle.server.specs.KeyExchange.{viewOf}
 use Rattle.record_server.specs.Joining.{judged}
-use Rattle.record_server.specs.InnerHandshake.{Ends}
+use Rattle.record_server.specs.InnerProgress.{Ends}
 use Rattle.record_server.proofs.Decisions.{same-step}
 use Rattle.record_server.proofs.Waiting.{as-lent, length-held, length-content, not-going, refused-means}
 use Rattle.record_server.proofs.Waiting.{all-few, all-decides, from-few, rest-decides}

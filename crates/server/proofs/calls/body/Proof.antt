@@ -2,9 +2,10 @@
 -- Assumes nothing.
 use mathlib.Core.Path.{_≡_, ap, subst}
 use Rattle.layout.specs.declared.Verdict.the-variants.{Accepted}
+use Rattle.handshake.specs.Header.{headerTest}
 use Rattle.server.specs.declared.Phase.{Phase}
 use Rattle.server.specs.KeyExchange.{viewOf}
-use Rattle.server.specs.Message.{awaited, headerTest, bodyStep}
+use Rattle.server.specs.Message.{awaited, bodyStep}
 use Rattle.server.proofs.Decisions.{same-step}
 use borrow.Author.Needs.{needs}
 use Rattle.server.proofs.calls.body.Statement.{statement}

@@ -4,9 +4,9 @@ use mathlib.Core.Path.{_≡_, refl, ap, _∙_}
 use Prim.Native.Nat.{ℕ}
 use mathlib.Core.List.{List}
 use mathlib.Core.Option.{Option, none, some}
+use Rattle.handshake.specs.Flight.{counted}
 use Rattle.server.specs.declared.Answer.{Answer}
 use Rattle.server.specs.declared.Reply.{Reply}
-use Rattle.server.specs.Flight.{counted}
 use Rattle.server.specs.Step.{Step, settled, answered}
 use Rattle.server.specs.Message.{handedOver, withMaster}
 use borrow.Author.Needs.{needs}
@@ -17,9 +17,6 @@ use Rattle.server.proofs.calls.message.Tie as tie
 said-kept : (a : Answer) (o : Option (List ℕ)) → counted (withMaster a o .said) ≡ counted (a .said)
 said-kept a none = refl
 said-kept a (some secret) = refl
-
-settle-requires : tie.Need-settle-requires
-settle-requires c κs = c .before .decide .ensures .fits
 
 returns : tie.Need-returns
 returns c =
@@ -40,4 +37,4 @@ returns c =
 
 pub message-spec : {M : Type 1} → statement M
 message-spec =
-    tie.close (tie.spec (λ c κs. search needs) settle-requires (λ c κs. search needs) (λ c. search needs) returns)
+    tie.close (tie.spec (λ c κs. search needs) (λ c κs. search needs) (λ c κs. search needs) (λ c. search needs) returns)

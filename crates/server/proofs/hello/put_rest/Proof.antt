@@ -9,8 +9,8 @@ use Rattle.lists.proofs.Parts.{part-to-end}
 use Rattle.layout.specs.Layout.{bytes}
 use Rattle.messages.specs.KeyExchange.{serverKeyExchange}
 use Rattle.messages.specs.Fixed.{serverHelloDone}
+use Rattle.handshake.specs.Flight.{joined}
 use Rattle.server.specs.Hello.{hintMessage}
-use Rattle.server.specs.Flight.{joined}
 use Rattle.server.specs.Inner.{front}
 use Rattle.layout.proofs.Layouts.{at-front}
 use Rattle.layout.proofs.Puts.{put-behind}

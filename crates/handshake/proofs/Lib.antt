@@ -1,0 +1,5 @@
+pub mod Fates
+pub mod Flights
+pub mod Refusals
+pub mod Series
+pub mod Settling
