@@ -1,0 +1,43 @@
+-- What a call makes of a decision.
+-- Assumes nothing.
+use mathlib.Core.Path.{_≡_, refl, sym, ap}
+use Prim.Native.Nat.{ℕ, _≤_}
+use native.Mathlib.Omega.{arith}
+use mathlib.Core.List.{List, []}
+use lib.ListN.{length}
+use Rattle.refusal.specs.declared.Refusal.{Refusal}
+use Rattle.refusal.specs.declared.Written.{Written}
+use Rattle.refusal.specs.declared.Written.the-variants.{Wrote, Refused}
+use Rattle.refusal.specs.Lent.{gives, Answers}
+use Rattle.refusal.proofs.Laws.{wrote-all}
+use Rattle.handshake.specs.Flight.{Flight, flightBytes, longest}
+use Rattle.handshake.specs.Step.{refuse, accept}
+use Rattle.handshake.proofs.Settling.{sent-settles, short-settles}
+use Rattle.client.specs.declared.Phase.{Phase}
+use Rattle.client.specs.declared.Connection.{Connection}
+use Rattle.client.specs.declared.Answer.{Answer}
+use Rattle.client.specs.Connection.{ended}
+use Rattle.client.specs.Step.{Step, Settled, settled, answered}
+use Rattle.client.specs.Inner.{Does}
+
+-- what is done for one step is done for the same step
+pub same-does : {c : Connection} {out left : List ℕ} {a : Answer} {s t : Step} → s ≡ t → Does c out t a left → Does c out s a left
+same-does e h = rw e h
+
+-- a refusal writes nothing
+pub refused-does : (c : Connection) (out : List ℕ) (r : Refusal) {a : Answer} → a ≡ answered (settled c [] (refuse r)) → Does c out (refuse r) a out
+refused-does c out r e = record { answers = e; leaves = refl; brief = rw e (omega arith) }
+
+-- a flight that was put to the lent output, by what was said
+module _ (c next : Connection) (flight : Flight) (few : length (flightBytes flight) ≤ longest) {out left : List ℕ} {said : Written}
+    (a : Answers (gives (flightBytes flight)) out said left) where
+  pub sent : {n : ℕ} → said ≡ Wrote n → Does c out (accept flight next) (record { said = said; next = next }) left
+  sent e =
+      let all = sent-settles (ended Phase.Closed) c flight next a e in
+      record { answers = sym (ap answered all); leaves = sym (ap (λ (s : Settled). s .out) all); brief = rw e (omega (arith, wrote-all a e .1)) }
+
+  -- R1: the connection itself comes back
+  pub not-sent : {r : Refusal} → said ≡ Refused r → Does c out (accept flight next) (record { said = said; next = c }) left
+  not-sent e =
+      let all = short-settles (ended Phase.Closed) c flight next a e in
+      record { answers = sym (ap answered all); leaves = sym (ap (λ (s : Settled). s .out) all); brief = rw e (omega arith) }

@@ -1,0 +1,4 @@
+pub mod Decisions
+pub mod Exchanges
+pub mod Hellos
+pub mod Starts

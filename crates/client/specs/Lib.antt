@@ -1,0 +1,9 @@
+pub mod Alert
+pub mod Change
+pub mod Connection
+pub mod Exchange
+pub mod Finished
+pub mod Hello
+pub mod Inner
+pub mod Message
+pub mod Step
