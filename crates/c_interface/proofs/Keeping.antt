@@ -1,36 +1,35 @@
--- From what the server said to the code that comes back, to the connection's bytes and to what the next call reads there.
+-- From what a call said to the code that comes back, to the connection's bytes and to what the next call reads there: of every kind of connection, and then
+-- the server's own.
 -- Assumes nothing.
-use mathlib.Core.Path.{_≡_, refl, sym, ap, subst, _∙_}
-use Prim.Native.Nat.{ℕ, _≤_, _<_, _^_}
+use mathlib.Core.Path.{_≡_, refl, sym, ap, _∙_}
+use Prim.Native.Nat.{ℕ, _<_, _^_}
 use native.Mathlib.Omega.{arith}
 use mathlib.Core.Bool.{Bool, true, false, cond, true≢false}
 use mathlib.Core.List.{List}
 use mathlib.Core.Option.{Option, none, some}
 use lib.ListN.{length}
+use lib.Dec.{leb}
 use lib.IntN.{ℤ}
 use lib.Signed.{mag}
 use mir.Syntax.{w32}
 use mir.Val.{toZ, ofZ}
+use borrow.Author.Tests.{leb-true}
+use Rattle.refusal.specs.declared.Refusal.the-variants.{ShortOutput}
 use Rattle.refusal.specs.declared.Written.{Written}
 use Rattle.refusal.specs.declared.Written.the-variants.{Wrote, Refused}
-use Rattle.refusal.specs.Table.{toClient}
+use Rattle.refusal.specs.Table.{toPeer}
 use Rattle.refusal.specs.Lent.{Outcome, gives, refuses, within, answer}
-use Rattle.server.specs.declared.Phase.{Phase}
-use Rattle.server.specs.declared.Connection.{Connection}
+use Rattle.handshake.specs.Step.{Step, outcome, nextAfter, settled}
+use Rattle.handshake.proofs.Refusals.{alerts-close}
 use Rattle.server.specs.declared.Answer.{Answer}
 use Rattle.server.specs.declared.Reply.{Reply}
-use Rattle.server.specs.Connection.{Settings, ended, acceptable, badSetting, started, startAnswer}
-use Rattle.server.specs.Flight.{longest, counted}
-use Rattle.server.specs.Step.{Step, Settled, outcome, nextAfter, settled, answered}
+use Rattle.server.specs.Connection.{Settings, acceptable, badSetting, started, startAnswer}
+use Rattle.server.specs.Step.{Settled, answered}
 use Rattle.server.specs.Message.{withMaster}
-use Rattle.saved.specs.Saved.{restored}
-use Rattle.server.proofs.Refusals.{alerts-close}
 use Rattle.c_interface.specs.Codes.{coded}
-use Rattle.c_interface.specs.Connections.{Keeps, Starts, masterAfter}
-use Rattle.c_interface.specs.Inner.{count, changes, readAfter, KeptAs, Kept}
+use Rattle.c_interface.specs.Kept.{KeepsAs, StartsAs, masterAfter}
+use Rattle.c_interface.specs.Inner.{count, changes, readAfter, KeptAs}
 use Rattle.c_interface.proofs.Signed.{handed-on}
-use Rattle.c_interface.proofs.Answers.{answer-count-small}
-use Rattle.c_interface.proofs.Sizes.{Brief}
 
 -- ---- the connection's bytes
 
@@ -50,36 +49,69 @@ pub closed-read : {A : Type 0} (t : Bool) (closed c : A) {next : A} → next ≡
 closed-read true closed c e = refl
 closed-read false closed c e = sym e
 
-next-read : (c : Connection) (step : Step) (o : Outcome) → readAfter (answer o) (nextAfter c step o) c ≡ nextAfter c step o
-next-read c step (gives b) = refl
-next-read c step (refuses r) = closed-read (toClient r) (ended Phase.Closed) c (alerts-close r c)
+next-read : {A : Type 0} (over c : A) (step : Step A) (o : Outcome) → readAfter (answer o) (nextAfter over c step o) c ≡ nextAfter over c step o
+next-read over c step (gives b) = refl
+next-read over c step (refuses r) = closed-read (toPeer r) over c (alerts-close over r c)
 
 -- ---- a call
 
-pub step-count : (c : Connection) (out : List ℕ) (step : Step) {said : Written} → said ≡ settled c out step .said → Brief step → count said < 2 ^ 31
-step-count c out step e small = answer-count-small {wanted = outcome step} {out = out} (record { told = e; left = refl }) small
+-- one that is lent no output writes nothing
+pub silent-count : (o : Outcome) {said : Written} → said ≡ answer (within 0 o) → count said < 2 ^ 31
+silent-count (refuses r) e = rw e (omega arith)
+silent-count (gives bytes) e = rw e (go (leb (length bytes) 0) refl)
+  where
+    go : (t : Bool) → leb (length bytes) 0 ≡ t → count (answer (cond t (gives bytes) (refuses ShortOutput))) < 2 ^ 31
+    go true empty = omega (arith, leb-true (length bytes) 0 empty)
+    go false empty = omega arith
 
--- a message's answer is never long, as the server promises
-pub flight-count-small : (said : Written) → counted said ≤ longest → count said < 2 ^ 31
-flight-count-small (Wrote n) h = omega arith
-flight-count-small (Refused r) h = omega arith
+module _ {A : Type 0} {save : A → List ℕ} {restore : List ℕ → A} {bytes bytes' : List ℕ} {result : ℤ} {said said' : Written} {next next' : A}
+    (e : said ≡ said') (f : next ≡ next') (fits : mag result < 2 ^ 31) (told : result ≡ coded said) (kept : KeptAs save restore said next bytes bytes') where
+  pub call-keeps : readAfter said' next' (restore bytes) ≡ next' → KeepsAs save restore said' next' bytes (toZ w32 (ofZ w32 result)) bytes'
+  call-keeps reads =
+      record {
+        told = handed-on result fits ∙ told ∙ ap coded e;
+        left = kept .left ∙ rw (e, f);
+        reads = kept .read ∙ rw (e, f) reads;
+      }
 
--- of a step on the connection that was restored
-pub step-keeps : (bytes out : List ℕ) (step : Connection → Step) {c : Connection} {said : Written} {next : Connection} {bytes' : List ℕ} {result : ℤ}
-    → c ≡ restored bytes → said ≡ settled c out (step c) .said → next ≡ settled c out (step c) .next
-    → mag result < 2 ^ 31 → result ≡ coded said → Kept said next bytes bytes'
-    → Keeps (settled (restored bytes) out (step (restored bytes))) bytes (toZ w32 (ofZ w32 result)) bytes'
-step-keeps bytes out step {result = result} same e f fits told kept =
-    let now = restored bytes in
-    let said-now = e ∙ ap (λ (x : Connection). settled x out (step x) .said) same in
-    let next-now = f ∙ ap (λ (x : Connection). settled x out (step x) .next) same in
-    record {
-      told = handed-on result fits ∙ told ∙ ap coded said-now;
-      left = kept .left ∙ rw (said-now, next-now);
-      reads = kept .read ∙ rw (said-now, next-now) (next-read now (step now) (within (length out) (outcome (step now))));
-    }
+  -- a start
+  pub start-keeps : StartsAs save restore said' next' bytes (toZ w32 (ofZ w32 result)) bytes'
+  start-keeps =
+      record {
+        told = handed-on result fits ∙ told ∙ ap coded e;
+        left = kept .left ∙ rw (e, f);
+        reads = λ wrote. kept .read ∙ rw (e, wrote, f);
+      }
 
--- ---- start
+-- of a step on the connection that was restored, `over` being a closed one
+pub step-keeps : {A : Type 0} {save : A → List ℕ} {restore : List ℕ → A} (over : A) (bytes out : List ℕ) (step : A → Step A) {c : A} {said : Written}
+    {next : A} {bytes' : List ℕ} {result : ℤ} → c ≡ restore bytes → said ≡ settled over c out (step c) .said → next ≡ settled over c out (step c) .next
+    → mag result < 2 ^ 31 → result ≡ coded said → KeptAs save restore said next bytes bytes'
+    → KeepsAs save restore (settled over (restore bytes) out (step (restore bytes)) .said) (settled over (restore bytes) out (step (restore bytes)) .next) bytes
+    (toZ w32 (ofZ w32 result)) bytes'
+step-keeps {A} {restore = restore} over bytes out step same e f fits told kept =
+    let now = restore bytes in
+    call-keeps (e ∙ ap (λ (x : A). settled over x out (step x) .said) same) (f ∙ ap (λ (x : A). settled over x out (step x) .next) same) fits told kept
+    (next-read over now (step now) (within (length out) (outcome (step now))))
+
+-- ---- a master secret
+
+-- what a reply says of the secret that is handed over, if one is
+pub data Handed : Option (List ℕ) → Bool → List ℕ → Type 0 where
+  nothing : {zeros : List ℕ} → Handed none false zeros
+  handed : {secret : List ℕ} → Handed (some secret) true secret
+
+pub master-handed : {o : Option (List ℕ)} {told : Bool} {secret : List ℕ} (master : List ℕ) → Handed o told secret → told ≡ true
+    → secret ≡ masterAfter o master
+master-handed master nothing t = absurd (true≢false (sym t))
+master-handed master handed t = refl
+
+pub master-kept : {o : Option (List ℕ)} {told : Bool} {secret : List ℕ} (master : List ℕ) → Handed o told secret → told ≡ false
+    → master ≡ masterAfter o master
+master-kept master nothing t = refl
+master-kept master handed t = absurd (true≢false t)
+
+-- ---- the server's own
 
 pub start-count : (s : Settings) {a : Answer} → a ≡ startAnswer s → count (a .said) < 2 ^ 31
 start-count s e = rw e (go (acceptable s))
@@ -88,24 +120,7 @@ start-count s e = rw e (go (acceptable s))
     go true = omega arith
     go false = omega arith
 
-pub answer-starts : {a wanted : Answer} {bytes bytes' : List ℕ} {result : ℤ} → a ≡ wanted → mag result < 2 ^ 31 → result ≡ coded (a .said)
-    → Kept (a .said) (a .next) bytes bytes' → Starts wanted bytes (toZ w32 (ofZ w32 result)) bytes'
-answer-starts {bytes = bytes} {bytes' = bytes'} {result = result} e fits told kept =
-    subst (λ (w : Answer). Starts w bytes (toZ w32 (ofZ w32 result)) bytes') e
-    (record { told = handed-on result fits ∙ told; left = kept .left; reads = λ wrote. kept .read ∙ rw wrote })
-
--- ---- a message's reply
-
-pub reply-parts : (s : Settled) (o : Option (List ℕ)) {r : Reply} → r ≡ withMaster (answered s) o → (r .said ≡ s .said) × (r .next ≡ s .next)
-reply-parts s none e = rw e (refl, refl)
-reply-parts s (some secret) e = rw e (refl, refl)
-
-pub master-handed : (s : Settled) (o : Option (List ℕ)) {r : Reply} (master : List ℕ) → r ≡ withMaster (answered s) o → r .handed ≡ true
-    → r .master ≡ masterAfter o master
-master-handed s none master e t = absurd (true≢false (sym t ∙ ap (λ (x : Reply). x .handed) e))
-master-handed s (some secret) master e t = rw e
-
-pub master-kept : (s : Settled) (o : Option (List ℕ)) {r : Reply} (master : List ℕ) → r ≡ withMaster (answered s) o → r .handed ≡ false
-    → master ≡ masterAfter o master
-master-kept s none master e t = refl
-master-kept s (some secret) master e t = absurd (true≢false (sym (ap (λ (x : Reply). x .handed) e) ∙ t))
+pub reply-parts : (s : Settled) (o : Option (List ℕ)) {r : Reply} → r ≡ withMaster (answered s) o
+    → (r .said ≡ s .said) × (r .next ≡ s .next) × Handed o (r .handed) (r .master)
+reply-parts s none e = rw e (refl, refl, nothing)
+reply-parts s (some secret) e = rw e (refl, refl, handed)

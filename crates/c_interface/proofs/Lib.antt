@@ -1,5 +1,6 @@
 pub mod Answers
 pub mod Apart
+pub mod ClientKeeping
 pub mod Keeping
 pub mod Places
 pub mod Readings

@@ -1,8 +1,8 @@
 -- From what a call on a record connection said to the code that comes back, to the connection's bytes and to what the next call reads there.
 -- Assumes nothing.
-use mathlib.Core.Path.{_≡_, refl, sym, ap, subst, _∙_}
+use mathlib.Core.Path.{_≡_, refl, sym, ap, _∙_}
 use Prim.Native.Nat.{ℕ, _<_, _^_}
-use mathlib.Core.Bool.{Bool, true, false, cond, _&&_, true≢false}
+use mathlib.Core.Bool.{Bool, true, false, cond, _&&_}
 use mathlib.Core.List.{List, _∷_}
 use mathlib.Core.Option.{Option, none, some}
 use lib.ListN.{length}
@@ -13,9 +13,8 @@ use mir.Syntax.{w32}
 use mir.Val.{toZ, ofZ}
 use Rattle.refusal.specs.declared.Refusal.{Refusal}
 use Rattle.refusal.specs.declared.Refusal.the-variants.{ShortOutput}
-use Rattle.refusal.specs.declared.Written.{Written}
 use Rattle.refusal.specs.declared.Written.the-variants.{Wrote, Refused}
-use Rattle.refusal.specs.Table.{toClient, numberOf}
+use Rattle.refusal.specs.Table.{toPeer, numberOf}
 use Rattle.refusal.specs.Lent.{Outcome, gives, refuses, within, answer}
 use Rattle.server.specs.KeyExchange.{View}
 use Rattle.server.specs.Connection.{Settings, startAnswer}
@@ -30,18 +29,16 @@ use Rattle.record_server.specs.Taking.{Step, Settled, refuse, accept, refused, 
 use Rattle.record_server.proofs.Settling.{alerts-close}
 use Rattle.saved_records.specs.Saved.{restored}
 use Rattle.c_interface.specs.Codes.{coded}
-use Rattle.c_interface.specs.Connections.{masterAfter}
-use Rattle.c_interface.specs.Records.{KeepsRecord, StartsRecord, handedField, dataFields, toldAfter}
+use Rattle.c_interface.specs.Records.{KeepsRecord, handedField, dataFields, toldAfter}
 use Rattle.c_interface.specs.Inner.{count, readAfter, KeptRecord}
-use Rattle.c_interface.proofs.Signed.{handed-on}
 use Rattle.c_interface.proofs.Answers.{answer-count-small}
 use Rattle.c_interface.proofs.Sizes.{Small}
-use Rattle.c_interface.proofs.Keeping.{closed-read, start-count}
+use Rattle.c_interface.proofs.Keeping.{closed-read, start-count, call-keeps, Handed, nothing}
 
 -- ---- what the bytes stand for
 
-refused-read : (r : Refusal) (c : RecordConnection) → cond (toClient r) (afterRefusal r c) c ≡ afterRefusal r c
-refused-read r c = closed-read (toClient r) (closedWith (closingAlert (c .writing) (numberOf r))) c (alerts-close r c)
+refused-read : (r : Refusal) (c : RecordConnection) → cond (toPeer r) (afterRefusal r c) c ≡ afterRefusal r c
+refused-read r c = closed-read (toPeer r) (closedWith (closingAlert (c .writing) (numberOf r))) c (alerts-close r c)
 
 sent-read : (c next : RecordConnection) (o : Outcome) → readAfter (answer o) (nextAfter c next o) c ≡ nextAfter c next o
 sent-read c next (gives b) = refl
@@ -69,26 +66,10 @@ took-read c out memory (accept a) = go (leb (length (a .answer)) (length out) &&
     go true = refl
     go false = refused-read ShortOutput c
 
-module _ {bytes bytes' : List ℕ} {said said' : Written} {next next' : RecordConnection} {result : ℤ} where
-  pub keeps-record : said ≡ said' → next ≡ next' → readAfter said' next' (restored bytes) ≡ next' → mag result < 2 ^ 31 → result ≡ coded said
-      → KeptRecord said next bytes bytes' → KeepsRecord said' next' bytes (toZ w32 (ofZ w32 result)) bytes'
-  keeps-record e f reads fits told kept =
-      record {
-        told = handed-on result fits ∙ told ∙ ap coded e;
-        left = kept .left ∙ rw (e, f);
-        reads = kept .read ∙ rw (e, f) reads;
-      }
-
 -- ---- start
 
 pub record-start-count : (s : Settings) {a : Answer} → a ≡ recordStart s → count (a .said) < 2 ^ 31
 record-start-count s e = rw e (start-count s {a = startAnswer s} refl)
-
-pub record-starts : {a wanted : Answer} {bytes bytes' : List ℕ} {result : ℤ} → a ≡ wanted → mag result < 2 ^ 31 → result ≡ coded (a .said)
-    → KeptRecord (a .said) (a .next) bytes bytes' → StartsRecord wanted bytes (toZ w32 (ofZ w32 result)) bytes'
-record-starts {bytes = bytes} {bytes' = bytes'} {result = result} e fits told kept =
-    subst (λ (w : Answer). StartsRecord w bytes (toZ w32 (ofZ w32 result)) bytes') e
-    (record { told = handed-on result fits ∙ told; left = kept .left; reads = λ wrote. kept .read ∙ rw wrote })
 
 -- ---- a call that sends, on the connection that was restored
 
@@ -107,9 +88,9 @@ module _ (bytes out : List ℕ) (next : RecordConnection → RecordConnection) (
       × (out' ≡ sentOn (restored bytes) .out)
   sent-keeps same e fits told kept =
       let now = restored bytes in (
-        keeps-record (ap (λ (y : Answer). y .said) (e .0) ∙ ap (λ (x : RecordConnection). sentOn x .said) same)
-            (ap (λ (y : Answer). y .next) (e .0) ∙ ap (λ (x : RecordConnection). sentOn x .next) same)
-            (sent-read now (next now) (within (length out) (wanted now))) fits told kept,
+        call-keeps (ap (λ (y : Answer). y .said) (e .0) ∙ ap (λ (x : RecordConnection). sentOn x .said) same)
+            (ap (λ (y : Answer). y .next) (e .0) ∙ ap (λ (x : RecordConnection). sentOn x .next) same) fits told kept
+            (sent-read now (next now) (within (length out) (wanted now))),
         e .1 ∙ ap (λ (x : RecordConnection). sentOn x .out) same,
       )
 
@@ -117,17 +98,9 @@ module _ (bytes out : List ℕ) (next : RecordConnection → RecordConnection) (
 
 module _ (s : Settled) where
   pub taken-parts : (o : Option (List ℕ)) {t : Taken} → t ≡ handed o s
-      → (t .said ≡ s .said) × (t .next ≡ s .next) × (t .holds ≡ s .holds) × (cond (t .handed) 1 0 ≡ handedField o)
-  taken-parts none e = rw e (refl, refl, refl, refl)
-  taken-parts (some secret) e = rw e (refl, refl, refl, refl)
-
-  pub master-taken : (o : Option (List ℕ)) {t : Taken} (master : List ℕ) → t ≡ handed o s → t .handed ≡ true → t .master ≡ masterAfter o master
-  master-taken none master e h = absurd (true≢false (sym h ∙ ap (λ (x : Taken). x .handed) e))
-  master-taken (some secret) master e h = rw e
-
-  pub master-stays : (o : Option (List ℕ)) {t : Taken} (master : List ℕ) → t ≡ handed o s → t .handed ≡ false → master ≡ masterAfter o master
-  master-stays none master e h = refl
-  master-stays (some secret) master e h = absurd (true≢false (sym (ap (λ (x : Taken). x .handed) e) ∙ h))
+      → (t .said ≡ s .said) × (t .next ≡ s .next) × (t .holds ≡ s .holds) × (cond (t .handed) 1 0 ≡ handedField o) × Handed o (t .handed) (t .master)
+  taken-parts none e = rw e (refl, refl, refl, refl, nothing)
+  taken-parts (some secret) e = rw e (refl, refl, refl, refl, Handed.handed)
 
   -- the four numbers
   pub told-accepted : (told : List ℕ) {t : Taken} {n : ℕ} {told' : List ℕ} → t ≡ taken s → t .said ≡ Wrote n
@@ -152,4 +125,4 @@ module _ (v : View) (bytes received memory out : List ℕ) where
       let now = restored bytes in
       let s = takeCall v now received memory out in
       let p = taken-parts s (s .master) e in
-      keeps-record (p .0) (p .1) (took-read now out memory (takeStep v now memory received)) fits told kept
+      call-keeps (p .0) (p .1) fits told kept (took-read now out memory (takeStep v now memory received))

@@ -15,9 +15,10 @@ use Rattle.layout.specs.declared.Verdict.{Verdict}
 use Rattle.endian.specs.Number.{Bytes}
 use Rattle.endian.specs.Vector.{stated}
 use Rattle.endian.proofs.Numbers.{bytes-drop}
-use Rattle.server.specs.declared.Heard.{Heard}
+use Rattle.handshake.specs.declared.Heard.{Heard}
+use Rattle.handshake.specs.Alert.{warning, closeNotify, heard}
+use Rattle.handshake.specs.Step as Shared
 use Rattle.server.specs.Step as Server
-use Rattle.server.specs.Alert.{warning, closeNotify, heard}
 use Rattle.server.specs.Change.{changeStep}
 use Rattle.server.specs.KeyExchange.{View}
 use Rattle.records.specs.declared.ContentType.{ContentType}
@@ -89,8 +90,8 @@ module _ (v : View) (c : RecordConnection) where
   content-fits held content ContentType.ChangeCipherSpec few = go (changeStep (c .handshake) (c .handshake .phase))
     where
       go : (s : Server.Step) → StepFits (changedBy c held s)
-      go (Server.refuse r) = tt
-      go (Server.accept flight next) = tt
+      go (Shared.refuse r) = tt
+      go (Shared.accept flight next) = tt
   content-fits held content ContentType.Handshake few = go (judged v (c .handshake) (held ++ content))
     where
       go : (j : Judged) → StepFits (handshakeStep c j)

@@ -1,5 +1,5 @@
 -- Every outcome of the layers below has fewer than 2 ^ 31 bytes, or numbers where it is a list: digests and secrets by their lengths, messages by their
--- limit, and what comes of a table by the limits of keys and tables; of a message's answer the server promises it.
+-- limit, and what comes of a table by the limits of keys and tables; of a message's answer the sides promise it.
 -- Assumes nothing.
 use mathlib.Core.Path.{_≡_, refl}
 use Prim.Native.Nat.{ℕ, _-_, _≤_, _<_, _^_}
@@ -11,7 +11,7 @@ use lib.ListN.{length, take, length-take}
 use lib.Dec.{leb, ltb, eqb}
 use borrow.Author.Tests.{leb-true, ltb-true}
 use Rattle.refusal.specs.declared.Refusal.{Refusal}
-use Rattle.refusal.specs.declared.Refusal.the-variants.{ShortOutput, BadTable, BadList, BadValue, TableFull, ConnectionOver}
+use Rattle.refusal.specs.declared.Refusal.the-variants.{ShortOutput, BadTable, BadList, BadValue, TableFull}
 use Rattle.refusal.specs.Lent.{Outcome, gives, refuses}
 use Rattle.endian.specs.Vector.{writable}
 use Rattle.sha256.specs.Hash.{limit, sha256, digest}
@@ -23,7 +23,6 @@ use Rattle.keys.specs.Prf.{prf, expanded, text}
 use Rattle.keys.specs.Secrets.{premaster, premasterBytes, master, keys, verifyData, isRandom, keyBlockLength, finishedLabel}
 use Rattle.keys.proofs.Lengths.{length-premaster}
 use Rattle.layout.specs.Layout.{Layout, bytes, written, valid}
-use Rattle.layout.specs.Place.{contents}
 use Rattle.extensions.specs.Extensions.{Ext, extensionBytes, extensionWritten}
 use Rattle.keytable.specs.Table.{lines, joined, validKey, decoded, wellFormed, tableRefusal, firstText, keyOfText, found}
 use Rattle.keytable.specs.Starts.{startsOf, listMade, listRefusal, lineAt, keyAt, lookedUp}
@@ -32,14 +31,6 @@ use Rattle.keytable.proofs.Pairs.{length-decoded}
 use Rattle.keytable.proofs.Agreement.{well-formed-tests}
 use Rattle.keytable.proofs.Listed.{count-lines}
 use Rattle.table_edits.specs.Edits.{Edit, subject, listed, linesAfter, allowed, misplaced, sized, unless, edited, roomed, editedIn}
-use Rattle.server.specs.declared.Heard.{Heard}
-use Rattle.server.specs.declared.Phase.{Phase}
-use Rattle.server.specs.declared.Connection.{Connection}
-use Rattle.server.specs.Step.{Step, refuse}
-use Rattle.server.specs.Change.{changeStep}
-use Rattle.server.specs.Connection.{isOver}
-use Rattle.server.specs.Alert.{heard, heardStep, alertStep}
-use Rattle.server.specs.Step.{outcome}
 use Rattle.c_interface.proofs.Answers.{size}
 
 abbrev pub Small : Outcome → Type 0
@@ -171,29 +162,3 @@ edit-small memory n starts count e =
     (unless-small (tableRefusal t) named
     (unless-small (cond (allowed e) none (some BadValue)) placed
     (unless-small (misplaced e (listed (subject e) (lines t))) made (sized-small (linesAfter e (lines t))))))))
-
--- ---- the server's steps
-
-abbrev pub Brief : Step → Type 0
-Brief step = Small (outcome step)
-
-either-brief : (t : Bool) (a b : Step) → Brief a → Brief b → Brief (cond t a b)
-either-brief true a b p q = p
-either-brief false a b p q = q
-
-pub change-brief : (c : Connection) (p : Phase) → Brief (changeStep c p)
-change-brief c Phase.Hello = omega arith
-change-brief c Phase.KeyExchange = omega arith
-change-brief c Phase.Change = omega arith
-change-brief c Phase.Finished = omega arith
-change-brief c Phase.Complete = omega arith
-change-brief c Phase.Closed = omega arith
-
-heard-brief : (c : Connection) (h : Heard) → Brief (heardStep c h)
-heard-brief c Heard.Illegal = omega arith
-heard-brief c Heard.Ends = omega arith
-heard-brief c Heard.Ignored = omega arith
-
-pub alert-brief : (c : Connection) (level description : ℕ) → Brief (alertStep c level description)
-alert-brief c level description =
-    either-brief (isOver (c .phase)) (refuse ConnectionOver) _ (omega arith) (heard-brief c (heard level description))

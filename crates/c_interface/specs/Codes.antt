@@ -10,12 +10,12 @@ use lib.IntN.{ℤ, pos, negℤ}
 use Rattle.refusal.specs.declared.Refusal.{Refusal}
 use Rattle.refusal.specs.declared.Written.{Written}
 use Rattle.refusal.specs.declared.Written.the-variants.{Wrote, Refused}
-use Rattle.refusal.specs.Table.{numberOf, toClient}
+use Rattle.refusal.specs.Table.{numberOf, toPeer}
 use Rattle.refusal.specs.Lent.{Outcome, within, answer, after}
 use Rattle.table_edits.specs.Edits.{startsAfter, countAfter}
 
 abbrev pub refusalCode : Refusal → ℤ
-refusalCode r = negℤ (pos (cond (toClient r) (1000 + numberOf r) (numberOf r)))
+refusalCode r = negℤ (pos (cond (toPeer r) (1000 + numberOf r) (numberOf r)))
 
 abbrev pub coded : Written → ℤ
 coded (Wrote n) = pos n

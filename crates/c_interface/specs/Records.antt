@@ -25,17 +25,15 @@ use Rattle.record_server.specs.declared.Data.{Data}
 use Rattle.record_server.specs.Connection.{offered, noAlert, closedWith, recordStart}
 use Rattle.record_server.specs.Taking as Taking
 use Rattle.saved_records.specs.Saved.{saved, restored}
-use Rattle.c_interface.specs.Codes.{refusalCode, coded, Reading, accepted, rejected}
-use Rattle.c_interface.specs.Connections.{keptBytes, namedOf, masterAfter}
+use Rattle.c_interface.specs.Codes.{refusalCode, Reading, accepted, rejected}
+use Rattle.c_interface.specs.Connections.{namedOf}
+use Rattle.c_interface.specs.Kept.{KeepsAs, StartsAs, masterAfter}
 
 -- ---- a connection
 
--- A call that was lent the connection's bytes, said this and led to `next` returned `result` and left `bytes'`. What it left is what the next call
--- reads.
-pub record KeepsRecord (said : Written) (next : RecordConnection) (bytes : List ℕ) (result : ℤ) (bytes' : List ℕ) : Type 0 where
-  pub told : result ≡ coded said
-  pub left : bytes' ≡ keptBytes said (saved next) bytes
-  pub reads : restored bytes' ≡ next
+-- a call that was lent the connection's bytes
+abbrev pub KeepsRecord : Written → RecordConnection → (bytes : List ℕ) → ℤ → (bytes' : List ℕ) → Type 0
+KeepsRecord = KeepsAs saved restored
 
 -- a rule of 3 and above is R3
 abbrev pub recordStartCall : (random hint standIn : List ℕ) → ℕ → Answer
@@ -43,11 +41,9 @@ recordStartCall random hint standIn rule =
     cond (leb rule 2) (recordStart (record { random = random; hint = hint; standIn = standIn; named = namedOf rule; suites = offered }))
     (record { said = Refused BadSetting; next = closedWith noAlert })
 
--- where R3 is given no connection is made, and the bytes stay
-pub record StartsRecord (wanted : Answer) (bytes : List ℕ) (result : ℤ) (bytes' : List ℕ) : Type 0 where
-  pub told : result ≡ coded (wanted .said)
-  pub left : bytes' ≡ keptBytes (wanted .said) (saved (wanted .next)) bytes
-  pub reads : wanted .said ≡ Wrote 0 → restored bytes' ≡ wanted .next
+-- the call that makes a connection
+abbrev pub StartsRecord : Answer → (bytes : List ℕ) → ℤ → (bytes' : List ℕ) → Type 0
+StartsRecord wanted = StartsAs saved restored (wanted .said) (wanted .next)
 
 -- ---- a record that was taken
 

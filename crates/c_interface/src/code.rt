@@ -19,7 +19,7 @@ pub(crate) fn of_refusal(r: Refusal) -> i32
     ensures { λ c. ⌜ c ≡ refusalCode r ⌝ }
 {
     let n = refusal::number(r) as u16;
-    if refusal::for_client(r) {
+    if refusal::for_peer(r) {
         return below_zero(1000 + n);
     }
     below_zero(n)
@@ -42,6 +42,6 @@ pub(crate) fn changes(said: Written) -> bool
 {
     match said {
         Written::Wrote(_) => true,
-        Written::Refused(r) => refusal::for_client(r),
+        Written::Refused(r) => refusal::for_peer(r),
     }
 }

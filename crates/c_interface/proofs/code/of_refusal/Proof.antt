@@ -8,7 +8,7 @@ use Rattle.c_interface.proofs.code.of_refusal.Tie as tie
 
 returns : tie.Need-returns
 returns c =
-    let r = c .before .before .for-client in
+    let r = c .before .before .for-peer in
     handed-on _ (c .below-zero .ok) ∙ c .below-zero .ensures ∙ rw (
       c .before .before .before .number .ensures,
       sym (r .ensures)
@@ -17,7 +17,7 @@ returns c =
 
 returns-2 : tie.Need-returns-2
 returns-2 c =
-    let r = c .before .before .for-client in
+    let r = c .before .before .for-peer in
     handed-on _ (c .below-zero2 .ok) ∙ c .below-zero2 .ensures ∙ rw (
       c .before .before .before .number .ensures,
       sym (r .ensures)

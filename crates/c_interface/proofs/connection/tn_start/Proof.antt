@@ -3,10 +3,13 @@
 -- Assumes nothing.
 use borrow.Author.Needs.{needs}
 use native.Mathlib.Omega.{arith}
-use mathlib.Core.Path.{refl, _∙_}
+use mathlib.Core.Path.{_≡_, refl, ap, _∙_}
 use borrow.Author.Tests.{le-leb, lt-leb}
-use Rattle.server.specs.Connection.{Settings, suites, badSetting}
-use Rattle.c_interface.proofs.Keeping.{kept-same, start-count, answer-starts}
+use Rattle.handshake.specs.Protocol.{suites}
+use Rattle.server.specs.declared.Answer.{Answer}
+use Rattle.server.specs.Connection.{Settings, badSetting}
+use Rattle.c_interface.specs.Connections.{startCall}
+use Rattle.c_interface.proofs.Keeping.{kept-same, start-count, start-keeps}
 use Rattle.c_interface.proofs.connection.tn_start.Statement.{statement}
 use Rattle.c_interface.proofs.connection.tn_start.Tie as tie
 
@@ -14,7 +17,7 @@ returns : tie.Need-returns
 returns c =
     let a = c .before .before .before .before .before .args in
     rw (lt-leb (a .rule) 2 (omega (arith, c .before .if1 .taken)))
-    (answer-starts {a = badSetting} refl (c .of-refusal .ok) (c .of-refusal .ensures) (kept-same refl refl))
+    (start-keeps {said = badSetting .said} {next = badSetting .next} refl refl (c .of-refusal .ok) (c .of-refusal .ensures) (kept-same refl refl))
 
 keep-requires : tie.Need-keep-requires
 keep-requires c κs =
@@ -28,9 +31,9 @@ returns-2 : tie.Need-returns-2
 returns-2 c =
     let n = c .before .before .before .before in
     let a = n .before .before .before .before .before .args in
-    let answer = c .before .before .before .start .ensures in
-    answer-starts (answer ∙ rw (n .named .ensures, le-leb (a .rule) 2 (n .before .if1 .left)))
-    (c .keep .ok) (c .keep .ensures .0) (c .keep .ensures .1)
+    let answer : c .before .before .before .start .result ≡ startCall (a .random .now) (a .hint .now) (a .stand-in .now) (a .rule) =
+    c .before .before .before .start .ensures ∙ rw (n .named .ensures, le-leb (a .rule) 2 (n .before .if1 .left)) in
+    start-keeps (ap (λ (y : Answer). y .said) answer) (ap (λ (y : Answer). y .next) answer) (c .keep .ok) (c .keep .ensures .0) (c .keep .ensures .1)
 
 pub tn-start-spec : {M : Type 1} → statement M
 tn-start-spec =

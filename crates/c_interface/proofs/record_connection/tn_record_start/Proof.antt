@@ -3,14 +3,16 @@
 -- Assumes nothing.
 use borrow.Author.Needs.{needs}
 use native.Mathlib.Omega.{arith}
-use mathlib.Core.Path.{refl, _∙_}
+use mathlib.Core.Path.{_≡_, refl, ap, _∙_}
 use borrow.Author.Tests.{le-leb, lt-leb}
 use Rattle.refusal.specs.declared.Refusal.the-variants.{BadSetting}
 use Rattle.refusal.specs.declared.Written.the-variants.{Refused}
 use Rattle.server.specs.Connection.{Settings}
+use Rattle.record_server.specs.declared.Answer.{Answer}
 use Rattle.record_server.specs.Connection.{offered, noAlert, closedWith}
-use Rattle.c_interface.proofs.Keeping.{kept-same}
-use Rattle.c_interface.proofs.RecordKeeping.{record-start-count, record-starts}
+use Rattle.c_interface.specs.Records.{recordStartCall}
+use Rattle.c_interface.proofs.Keeping.{kept-same, start-keeps}
+use Rattle.c_interface.proofs.RecordKeeping.{record-start-count}
 use Rattle.c_interface.proofs.record_connection.tn_record_start.Statement.{statement}
 use Rattle.c_interface.proofs.record_connection.tn_record_start.Tie as tie
 
@@ -18,8 +20,7 @@ returns : tie.Need-returns
 returns c =
     let a = c .before .before .before .before .before .args in
     rw (lt-leb (a .rule) 2 (omega (arith, c .before .if1 .taken)))
-    (record-starts {a = record { said = Refused BadSetting; next = closedWith noAlert }} refl
-    (c .of-refusal .ok) (c .of-refusal .ensures) (kept-same refl refl))
+    (start-keeps {said = Refused BadSetting} {next = closedWith noAlert} refl refl (c .of-refusal .ok) (c .of-refusal .ensures) (kept-same refl refl))
 
 keep-requires : tie.Need-keep-requires
 keep-requires c κs =
@@ -33,9 +34,9 @@ returns-2 : tie.Need-returns-2
 returns-2 c =
     let n = c .before .before .before .before in
     let a = n .before .before .before .before .before .args in
-    let answer = c .before .before .before .start .ensures in
-    record-starts (answer ∙ rw (n .named .ensures, le-leb (a .rule) 2 (n .before .if1 .left)))
-    (c .keep .ok) (c .keep .ensures .0) (c .keep .ensures .1)
+    let answer : c .before .before .before .start .result ≡ recordStartCall (a .random .now) (a .hint .now) (a .stand-in .now) (a .rule) =
+    c .before .before .before .start .ensures ∙ rw (n .named .ensures, le-leb (a .rule) 2 (n .before .if1 .left)) in
+    start-keeps (ap (λ (y : Answer). y .said) answer) (ap (λ (y : Answer). y .next) answer) (c .keep .ok) (c .keep .ensures .0) (c .keep .ensures .1)
 
 pub tn-record-start-spec : {M : Type 1} → statement M
 tn-record-start-spec =

@@ -8,8 +8,9 @@ use Rattle.server.specs.KeyExchange.{View, viewOf}
 use Rattle.record_server.specs.declared.RecordConnection.{RecordConnection}
 use Rattle.record_server.specs.Taking.{Settled, takeCall, taken}
 use Rattle.saved_records.specs.Saved.{restored}
+use Rattle.c_interface.proofs.Keeping.{master-handed, master-kept}
 use Rattle.c_interface.proofs.RecordSizes.{data-fits}
-use Rattle.c_interface.proofs.RecordKeeping.{taken-parts, master-taken, master-stays, told-accepted, told-refused, took-keeps}
+use Rattle.c_interface.proofs.RecordKeeping.{taken-parts, told-accepted, told-refused, took-keeps}
 use Rattle.c_interface.proofs.record_connection.tn_take_record.Statement.{statement}
 use Rattle.c_interface.proofs.record_connection.tn_take_record.Tie as tie
 
@@ -47,8 +48,9 @@ returns c =
     let a = entry m .args in
     let w = wanted m in
     let master = a .master .now in
-    let secret = ⊎-elim (λ x. x .2 ∙ master-taken w (w .master) master (given m) (x .0 .taken))
-    (λ x. x .1 ∙ master-stays w (w .master) master (given m) (x .0 .left)) (c .before .before .before .if1 .came) in
+    let over = taken-parts w (w .master) (given m) .4 in
+    let secret = ⊎-elim (λ x. x .2 ∙ master-handed master over (x .0 .taken))
+    (λ x. x .1 ∙ master-kept master over (x .0 .left)) (c .before .before .before .if1 .came) in
     let told = ⊎-elim (λ x. told-accepted w (a .told .now) (given m) (x .1 .given .1) (x .3 ∙ x .2 .ensures))
     (λ x. told-refused w (a .told .now) (given m) (x .1 .given .1) (x .2)) (c .before .before .match .came) in (
       took-keeps (view m) (a .connection .now) (a .received .now) (a .memory .now) (a .out .now) (given m) (c .keep .ok) (c .keep .ensures .0)
