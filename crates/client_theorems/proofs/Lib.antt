@@ -1,0 +1,9 @@
+pub mod BothEnds
+pub mod Claims
+pub mod Completion
+pub mod Finishing
+pub mod Handed
+pub mod Over
+pub mod Progress
+pub mod Ready
+pub mod Stages
