@@ -1,16 +1,17 @@
 /*
- * turretnail.h: the server side of the TLS 1.2 handshake with pre-shared keys (RFC 4279, RFC 5246), for a host program in C or C++.
+ * turretnail.h: the server's and the client's side of the TLS 1.2 handshake with pre-shared keys (RFC 4279, RFC 5246), for a host program in C or C++.
  *
  * The library is proved: for any bytes in any order each call has one answer, fixed by definitions that follow the RFCs. What the proofs assume of the
  * caller is on this page and nowhere else.
  *
- *   - The host opens sockets. There are two kinds of connection, and it chooses one: on a connection of tn_start it cuts and joins records and protects them
+ *   - The host opens sockets. A server has two kinds of connection, and chooses one: on a connection of tn_start it cuts and joins records and protects them
  *     itself, and hands over one whole handshake message a call, header included; on one of tn_record_start the library does that too, for the one suite
- *     without a cipher, and the host hands over one whole record a call. "Record connections" below says which is for whom.
+ *     without a cipher, and the host hands over one whole record a call. "Record connections" below says which is for whom. A client has one kind, that of
+ *     tn_client_start, and deals with records itself.
  *   - The host lends all memory. The library allocates nothing, keeps nothing between two calls, has no global state and calls nothing of the host's.
  *     Calls from several threads at once are fine where no two of them are lent the same writable memory.
- *   - The host lends all randomness: 32 fresh bytes for each connection, from a source that never repeats. Two connections with the same 32 bytes can be
- *     recorded and played again.
+ *   - The host lends all randomness: 32 fresh bytes for each connection, on either side, from a source that never repeats. Two connections with the same 32
+ *     bytes can be recorded and played again.
  *
  * POINTERS AND LENGTHS
  *
@@ -19,8 +20,8 @@
  * elements, and `size_t *count` to one. The caller sees to it that
  *
  *   - each pointer points to as many bytes or elements as its length or its type says, and is not null, also where the length is 0;
- *   - memory that is lent to be written (`out`, `memory`, `fields`, `connection`, `master`, `told`, and `starts` and `count` without `const`) overlaps no
- *     other argument of the same call;
+ *   - memory that is lent to be written (`out`, `memory`, `fields`, `connection`, `told`, and `client`, `master`, `starts` and `count` without `const`)
+ *     overlaps no other argument of the same call;
  *   - nobody else writes to any of it before the call returns.
  *
  * Nothing else is asked: there is no length, no byte and no order of calls that may not be given.
@@ -31,7 +32,9 @@
  *
  *   0 and above   accepted. Of a call that is lent an `out`: so many bytes were written at its front, and the rest of it is as it was.
  *   -1 .. -10     refused to the host: TN_R1 .. TN_R10. Nothing that was lent is changed.
- *   -1000 - a     refused to the client: the host sends the fatal alert a. Nothing that was lent is changed, except that the connection is closed.
+ *   -1000 - a     refused to the peer: the host sends it the fatal alert a. Nothing that was lent is changed, except that the connection is closed.
+ *
+ * The peer is the client where the host is a server, and the server where it is a client.
  *
  * So a refusal never writes to `out`, `memory`, `starts`, `count`, `fields`, `master` or `told`. The tests `tn_is_count`, `tn_is_host_refusal` and
  * `tn_is_alert` below tell the kinds apart.
@@ -52,7 +55,7 @@ extern "C" {
 
 /* ==== Sizes ================================================================================================================================== */
 
-#define TN_RANDOM_SIZE 32       /* a hello's random, and the bytes lent to tn_start */
+#define TN_RANDOM_SIZE 32       /* a hello's random, and the bytes lent to a start */
 #define TN_STAND_IN_SIZE 32     /* the stand-in key lent to tn_start */
 #define TN_HINT_LIMIT 128       /* a hint has at most so many bytes */
 #define TN_MESSAGE_LIMIT 16384  /* a handshake message has at most so many bytes, its header included */
@@ -78,13 +81,16 @@ extern "C" {
 #define TN_RECORD_MEMORY 16383  /* so much memory is always enough for what came of an unfinished message */
 #define TN_RECORD_ANSWER 195    /* the longest answer of tn_take_record, on a connection that calls have made */
 #define TN_CLOSING_ALERT_SIZE 39 /* the longest record of tn_closing_alert and of tn_send_close */
+#define TN_CLIENT_SIZE 413      /* a client's connection, see tn_client_start */
+#define TN_CLIENT_HELLO_SIZE 49 /* the ClientHello of tn_client_start */
+#define TN_CLIENT_FLIGHT_SIZE 150 /* the longest answer of tn_client_message: 22 bytes and the identity's */
 
 /* ==== Results ================================================================================================================================ */
 
-/* Refusals to the host. The client is told nothing, and a connection stays as it was. */
+/* Refusals to the host. The peer is told nothing, and a connection stays as it was. */
 #define TN_R1 (-1) /* the lent output is shorter than the answer */
 #define TN_R2 (-2) /* the key table is not well formed */
-#define TN_R3 (-3) /* a bad setting at tn_start; no connection was made */
+#define TN_R3 (-3) /* a bad setting at a start; no connection was made */
 #define TN_R4 (-4) /* the connection is complete or closed; of a record connection: it is closed */
 #define TN_R5 (-5) /* a value to be written that its layout forbids, or a length outside its limit */
 #define TN_R6 (-6) /* the identity is listed already (tn_table_add) */
@@ -95,27 +101,30 @@ extern "C" {
 
 /*
  * The alerts that the library gives (RFC 5246 section 7.2, RFC 4279 section 6). The library sends nothing: where a call on a connection gives an alert, the
- * host sends an alert record with the bytes 2 (fatal) and this number, under the write protection of the moment, and closes the transport. For a record
- * connection tn_closing_alert makes that record. A layout reader or the table used alone gives the same numbers and touches no connection.
+ * host sends its peer an alert record with the bytes 2 (fatal) and this number, under the write protection of the moment, and closes the transport. For a
+ * record connection tn_closing_alert makes that record. A layout reader or the table used alone gives the same numbers and touches no connection.
  *
  * What is said of tn_message here holds for the handshake messages in the records of tn_take_record too.
  *
  *   alert                          given by
- *   10 unexpected_message          tn_message: another message than the one awaited. tn_change_of_cipher: none awaited. tn_take_record: what has no place
- *                                  where it stands. Every reader of a record: an unknown content type.
+ *   10 unexpected_message          tn_message, tn_client_message: another message than the one awaited. tn_change_of_cipher, tn_client_change_of_cipher: none
+ *                                  awaited. tn_take_record: what has no place where it stands. Every reader of a record: an unknown content type.
  *   20 bad_record_mac              tn_take_record: a wrong MAC, but in the first protected record. tn_open_record.
  *   22 record_overflow             tn_take_record, tn_read_record, tn_open_record: a fragment that is too long.
  *   40 handshake_failure           tn_message: the ClientHello lists none of our suites.
- *   47 illegal_parameter           tn_message: the ClientHello lists no null compression. tn_alert, tn_take_record: an alert's level other than 1 and 2.
- *   50 decode_error                tn_message: a wrong layout, or a message over 16,384 bytes. Every tn_read_ function and tn_next_extension.
- *                                  tn_take_record, tn_open_record: bytes that are not one whole record. tn_take_record: an empty handshake fragment, an
- *                                  alert that is not of two bytes, a change of cipher that is not the one byte 01.
- *   51 decrypt_error               tn_message: a wrong Finished, or any Finished after an identity that is not listed. tn_take_record: a wrong MAC in the first
- *                                  protected record, or any such record after an identity that is not listed.
- *   70 protocol_version            tn_message: a ClientHello below TLS 1.2.
+ *   47 illegal_parameter           tn_message: the ClientHello lists no null compression. tn_client_message: a ServerHello with a suite that was not offered,
+ *                                  not of TLS 1.2 with 0x00AE or 0x00B0, or with a compression. tn_alert, tn_client_alert, tn_take_record: an alert's level
+ *                                  other than 1 and 2.
+ *   50 decode_error                tn_message, tn_client_message: a wrong layout, or a message over 16,384 bytes. Every tn_read_ function and
+ *                                  tn_next_extension. tn_take_record, tn_open_record: bytes that are not one whole record. tn_take_record: an empty handshake
+ *                                  fragment, an alert that is not of two bytes, a change of cipher that is not the one byte 01.
+ *   51 decrypt_error               tn_message, tn_client_message: a wrong Finished. tn_message: any Finished after an identity that is not listed.
+ *                                  tn_take_record: a wrong MAC in the first protected record, or any such record after an identity that is not listed.
+ *   70 protocol_version            tn_message: a ClientHello below TLS 1.2. tn_client_message: a ServerHello not of TLS 1.2 with 0x008C.
+ *   110 unsupported_extension      tn_client_message: a ServerHello with an extension, since the client asks for none.
  *   115 unknown_psk_identity       tn_message under TN_RULE_TELL: the identity is not listed. tn_table_lookup.
  *
- * On a connection of tn_start the alerts on records (bad_record_mac, record_overflow) and close_notify are the host's own.
+ * On a connection of tn_start or tn_client_start the alerts on records (bad_record_mac, record_overflow) and close_notify are the host's own.
  */
 #define TN_ALERT_UNEXPECTED_MESSAGE 10
 #define TN_ALERT_BAD_RECORD_MAC 20
@@ -125,6 +134,7 @@ extern "C" {
 #define TN_ALERT_DECODE_ERROR 50
 #define TN_ALERT_DECRYPT_ERROR 51
 #define TN_ALERT_PROTOCOL_VERSION 70
+#define TN_ALERT_UNSUPPORTED_EXTENSION 110
 #define TN_ALERT_UNKNOWN_PSK_IDENTITY 115
 
 /* The result that stands for an alert, to compare with: `result == TN_ALERT_RESULT(TN_ALERT_DECODE_ERROR)`. */
@@ -142,7 +152,7 @@ static inline bool tn_is_host_refusal(int32_t result)
     return result < 0 && result > -1000;
 }
 
-/* Whether it was refused to the client, with an alert. */
+/* Whether it was refused to the peer, with an alert. */
 static inline bool tn_is_alert(int32_t result)
 {
     return result <= -1000;
@@ -156,8 +166,8 @@ static inline uint8_t tn_alert_number(int32_t result)
 
 /* ==== Numbers of the protocol ================================================================================================================ */
 
-/* The cipher suites, in the order in which the server chooses. Key block, cut by the host as RFC 5246 section 6.3 says: client's and server's MAC keys,
- * then client's and server's cipher keys. */
+/* The cipher suites, in the order in which the client lists them and the server chooses. Key block, cut by the host as RFC 5246 section 6.3 says: client's and
+ * server's MAC keys, then client's and server's cipher keys. */
 #define TN_SUITE_PSK_AES_128_CBC_SHA256 0x00AE /* 96 bytes: 32, 32, 16, 16 */
 #define TN_SUITE_PSK_AES_128_CBC_SHA 0x008C    /* 72 bytes: 20, 20, 16, 16 */
 #define TN_SUITE_PSK_NULL_SHA256 0x00B0        /* 64 bytes: 32, 32 */
@@ -174,6 +184,15 @@ static inline uint8_t tn_alert_number(int32_t result)
 #define TN_PHASE_CHANGE_OF_CIPHER 3    /* awaits it */
 #define TN_PHASE_FINISHED 4            /* awaits it */
 #define TN_PHASE_COMPLETE 5
+
+/* What tn_client_phase answers. */
+#define TN_CLIENT_PHASE_CLOSED 0
+#define TN_CLIENT_PHASE_SERVER_HELLO 1        /* awaits it */
+#define TN_CLIENT_PHASE_SERVER_KEY_EXCHANGE 2 /* awaits it or, where the server has no hint, ServerHelloDone */
+#define TN_CLIENT_PHASE_SERVER_HELLO_DONE 3   /* awaits it */
+#define TN_CLIENT_PHASE_CHANGE_OF_CIPHER 4    /* awaits it */
+#define TN_CLIENT_PHASE_FINISHED 5            /* awaits it */
+#define TN_CLIENT_PHASE_COMPLETE 6
 
 /* The content types of records (RFC 5246 section 6.2.1). */
 #define TN_TYPE_CHANGE_OF_CIPHER 20
@@ -449,6 +468,101 @@ int32_t tn_closing_alert(const uint8_t connection[TN_RECORD_CONNECTION_SIZE], ui
 /* What the connection awaits, or how it ended: one of the TN_PHASE_ numbers. TN_PHASE_CLOSED also for cleared bytes. */
 int32_t tn_record_phase(const uint8_t connection[TN_RECORD_CONNECTION_SIZE]);
 
+/* ==== The client ============================================================================================================================= */
+
+/*
+ * For a gate with a record layer of its own. A client's connection is TN_CLIENT_SIZE bytes of the host's, which the calls of this section, and no others, read
+ * and write whole. Their meaning is the library's own; no alignment is needed.
+ *
+ *   - Cleared bytes are a closed connection, and so are bytes of which the first names no phase: they are answered with TN_R4. Other bytes that no call has
+ *     written stand for some connection, and get its answers. A connection that a call closed is not all zeros: ask tn_client_phase, and do not compare bytes.
+ *   - Bytes may be moved and copied between calls. They hold the identity and secrets, the pre-shared key from tn_client_start on, until the connection is
+ *     complete or closed; then they hold no secret and no trace of either end. A host that drops a connection earlier clears them.
+ *
+ * The way of a gate's login:
+ *
+ *   tn_client_start        send its ClientHello                 phase 1
+ *   ServerHello            tn_client_message                    phase 2    keep its random for tn_key_block
+ *   ServerKeyExchange      tn_client_message                    phase 3    it comes where the server has a hint; else phase 2 goes on to phase 4
+ *   ServerHelloDone        tn_client_message, keep the master   phase 4    tn_key_block makes the keys of both directions; send the answer as said below
+ *   a change of cipher     tn_client_change_of_cipher           phase 5    from here on records of the server are protected
+ *   Finished               tn_client_message                    phase 6    nothing is to be sent: the server knows the key, and data may pass
+ *
+ * An alert of the server goes to tn_client_alert whenever it comes before phase 6. Records after phase 6, alerts among them, are the host's alone.
+ *
+ * WHERE TO CUT. The answer to ServerHelloDone is two messages, and the host's change of cipher goes between them. Of its n bytes send the first
+ * n - TN_FINISHED_SIZE, the ClientKeyExchange, without protection; then a change of cipher; then the last TN_FINISHED_SIZE, the Finished, as the first record
+ * under the client's keys. An alert that a call gives goes to the server, without protection before that change of cipher and under the client's keys behind it.
+ *
+ * KEYS. The randoms of tn_key_block are, of the ServerHello, TN_RANDOM_SIZE bytes from TN_HELLO_RANDOM_AT on, and the bytes that were lent to
+ * tn_client_start; the suite is tn_client_suite's. A server may choose any of the three that the ClientHello lists, TN_SUITE_PSK_NULL_SHA256 among them, which
+ * hides nothing: a host whose data must not be read asks tn_client_suite in phase 2, and drops the connection there. `master` and the key block are the
+ * host's to clear.
+ *
+ * THE FIRST PROTECTED RECORD. The server's Finished comes in it, and where it does not open tn_client_message never sees it. The host then sends alert 51
+ * (decrypt_error), as the library does for a wrong Finished, clears the connection and closes the transport; in later records a bad MAC is alert 20, as usual.
+ * Where the two ends have different keys it does not come so far: the server judges first, and its alert comes in place of its change of cipher.
+ *
+ * WHO ANSWERS. Until phase 6 nobody has shown that he knows the key, and whatever came may be anybody's: send no data sooner, and believe no hint.
+ */
+
+/*
+ * Starts a client's connection and gives its ClientHello: version 0x0303, the random, no session id, the three suites in their order, null compression, no
+ * extension block.
+ *
+ *   random     TN_RANDOM_SIZE bytes that no other connection was or will be started with
+ *   identity   the gate's name in the server's key table, of such bytes as one may have there: "The key table" says which
+ *   key        its pre-shared key, 1 to TN_PSK_LIMIT bytes; the bytes themselves and not their hex digits
+ *   out        room for the ClientHello, TN_CLIENT_HELLO_SIZE bytes
+ *
+ *   49         the ClientHello is at the front of `out`, and `client` awaits a ServerHello
+ *   TN_R3      another length, or an identity that no table may have; `client` and `out` as they were
+ *   TN_R1      `out` is shorter than the ClientHello; `client` and `out` as they were
+ *
+ * The tests stand in this order.
+ */
+int32_t tn_client_start(uint8_t client[TN_CLIENT_SIZE], const uint8_t *random, size_t random_len, const uint8_t *identity, size_t identity_len,
+                        const uint8_t *key, size_t key_len, uint8_t *out, size_t out_len);
+
+/*
+ * Hands over one handshake message of the server, header included, without its record. A refused message is not added to the transcript.
+ *
+ *   out        room for the answer to ServerHelloDone: TN_CLIENT_FLIGHT_SIZE bytes are always enough
+ *
+ *   result                 when                                            out                                 master            client
+ *   0                      ServerHello accepted                            as it was                           as it was         phase 2
+ *   0                      ServerKeyExchange accepted                      as it was                           as it was         phase 3
+ *   22 + identity_len      ServerHelloDone accepted                        ClientKeyExchange, and the          master secret     phase 4
+ *                                                                          client's Finished
+ *   0                      Finished accepted                               as it was                           as it was         phase 6, complete
+ *   TN_R1                  all is right, and out is shorter than that      as it was                           as it was         as it was
+ *   TN_R4                  the connection is complete or closed            as it was                           as it was         as it was
+ *   an alert               10, 47, 50, 51, 70, 110 as listed above         as it was                           as it was         closed
+ *
+ * After TN_R1 the connection still awaits the same message, and the call may be made again with more room.
+ *
+ * Order of the tests: TN_R4; fewer than 4 bytes 50; another type than is awaited 10; the length in the header not that of the rest 50; over TN_MESSAGE_LIMIT
+ * bytes 50; the body's; TN_R1. So a header that promises too much can be handed over alone, and is refused with 10 or 50. A HelloRequest and a NewSessionTicket
+ * are never awaited, nor is a second ServerKeyExchange.
+ *
+ * Of a ServerHello: the layout 50; a suite that is none of the three 47; a version other than 0x0303 70 with 0x008C, and 47 with the other two; a compression
+ * other than 0 47; any extension 110. An empty extension block passes, and the session id is not judged. Of a ServerKeyExchange the layout alone is judged: the
+ * hint may be any bytes, and none of it matters (RFC 4279 section 5.2). tn_read_server_key_exchange reads it for a host that wants to show it.
+ */
+int32_t tn_client_message(uint8_t client[TN_CLIENT_SIZE], const uint8_t *message, size_t message_len, uint8_t *out, size_t out_len,
+                          uint8_t master[TN_MASTER_SIZE]);
+
+/* A change of cipher came from the server, or an alert. The results are those of tn_change_of_cipher and tn_alert; tn_client_phase tells a warning from an
+ * end. */
+int32_t tn_client_change_of_cipher(uint8_t client[TN_CLIENT_SIZE]);
+int32_t tn_client_alert(uint8_t client[TN_CLIENT_SIZE], uint8_t level, uint8_t description);
+
+/* What the connection awaits, or how it ended: one of the TN_CLIENT_PHASE_ numbers. TN_CLIENT_PHASE_CLOSED also for cleared bytes. */
+int32_t tn_client_phase(const uint8_t client[TN_CLIENT_SIZE]);
+
+/* The suite that the server chose, as tn_key_block takes it: from the accepted ServerHello on; 0 before it, and when the connection is complete or closed. */
+int32_t tn_client_suite(const uint8_t client[TN_CLIENT_SIZE]);
+
 /* ==== Secrets ================================================================================================================================ */
 
 /*
@@ -684,14 +798,14 @@ int32_t tn_valid_utf8(const uint8_t *bytes, size_t bytes_len);
 
 /*
  * The library leaves in lent memory what is said at each call, and clears nothing else. What a call has computed with stays on the stack below its caller's
- * frame until later calls overwrite it: the pre-shared key, the premaster and the master secret after tn_message, and so on for every call that is given a
- * connection, a table, a key or a secret. Not a byte of it is on the heap or in global memory.
+ * frame until later calls overwrite it: the pre-shared key, the premaster and the master secret after tn_message or tn_client_message, and so on for every
+ * call that is given a connection, a table, a key or a secret. Not a byte of it is on the heap or in global memory.
  *
  * A host that wants no key to outlive its use clears that part of the stack by tn_clear_stack(TN_STACK_LIMIT) after such a call, in the function that made
  * the call or in one above it, with more depth for the frames between; and clears its own copies. gateway/wipe.c and gateway/connection.c show it.
  *
- * Both limits are measured, not proved (`make bench`, bench/frames). TN_STACK_LIMIT is for all calls but one: the deepest of them, tn_message with a
- * ClientKeyExchange, reaches less than 8,000 bytes below its caller. TN_RECORD_STACK_LIMIT is for tn_take_record, which has room on the stack to join a
+ * Both limits are measured, not proved (`make bench`, bench/frames). TN_STACK_LIMIT is for all calls but one: the deepest of them, tn_client_message
+ * with a ServerHelloDone, reaches less than 10,000 bytes below its caller. TN_RECORD_STACK_LIMIT is for tn_take_record, which has room on the stack to join a
  * message that came in several records, and reaches less than 26 KiB.
  */
 #define TN_STACK_LIMIT 16384
@@ -707,13 +821,29 @@ int32_t tn_valid_utf8(const uint8_t *bytes, size_t bytes_len);
 #define TN_CLEARS_REGISTERS
 #endif
 
-/* Overwrites so many bytes of the stack below the caller's frame and, where the compiler can, the registers that a call may change. The bytes must be
- * there: a thread's stack may be small. */
+/* The wide registers, in which memcpy copies and of which the attribute above clears the low halves of the first sixteen alone. Only from a function that is
+ * not inlined: a call may change them all. */
+static inline __attribute__((unused, always_inline)) void tn_clear_wide_registers(void)
+{
+#ifdef __x86_64__
+#define TN_CLEAR_ZMM(n) "vpxord %zmm" #n ", %zmm" #n ", %zmm" #n "\n\t"
+    if (__builtin_cpu_supports("avx"))
+        __asm__ __volatile__("vzeroall");
+    if (__builtin_cpu_supports("avx512f"))
+        __asm__ __volatile__(TN_CLEAR_ZMM(16) TN_CLEAR_ZMM(17) TN_CLEAR_ZMM(18) TN_CLEAR_ZMM(19) TN_CLEAR_ZMM(20) TN_CLEAR_ZMM(21) TN_CLEAR_ZMM(22) TN_CLEAR_ZMM(23)
+            TN_CLEAR_ZMM(24) TN_CLEAR_ZMM(25) TN_CLEAR_ZMM(26) TN_CLEAR_ZMM(27) TN_CLEAR_ZMM(28) TN_CLEAR_ZMM(29) TN_CLEAR_ZMM(30) TN_CLEAR_ZMM(31));
+#undef TN_CLEAR_ZMM
+#endif
+}
+
+/* Overwrites so many bytes of the stack below the caller's frame and, where compiler and machine let it, the registers that a call may change. The bytes must
+ * be there: a thread's stack may be small. */
 static __attribute__((noinline, unused)) TN_CLEARS_REGISTERS void tn_clear_stack(size_t depth)
 {
     void *space = __builtin_alloca(depth);
     __builtin_memset(space, 0, depth);
     __asm__ __volatile__("" : : "r"(space) : "memory"); /* the bytes count as read, so that the compiler keeps the line above */
+    tn_clear_wide_registers();
 }
 
 #ifdef __cplusplus

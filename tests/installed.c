@@ -1,6 +1,7 @@
 /*
  * A first program over the installed library, valid as C and as C++: document 01's worked bytes (V1 to V12) through the C interface, edits of its key
- * table and the list beside it, a session on a record connection, and the way that the three kinds of results are told apart. Run by tests/installed.
+ * table and the list beside it, a session on a record connection, a gate's login to the library's own server, and the way that the three kinds of results
+ * are told apart. Run by tests/installed.
  */
 #include <stdio.h>
 #include <stdlib.h>
@@ -261,6 +262,67 @@ static void records(void)
     tn_clear_stack(TN_RECORD_STACK_LIMIT);
 }
 
+/* A gate and its server, the answer of each that is on the way to the other, and what each has of the keys. */
+struct ends {
+    uint8_t client[TN_CLIENT_SIZE], server[TN_CONNECTION_SIZE], answer[TN_CLIENT_FLIGHT_SIZE], flight[TN_FLIGHT_SIZE];
+    uint8_t client_master[TN_MASTER_SIZE], server_master[TN_MASTER_SIZE];
+};
+
+static int32_t start_client(struct ends *e, const char *key, size_t key_len, size_t out_len)
+{
+    uint8_t random[TN_RANDOM_SIZE] = {1};
+    return tn_client_start(e->client, random, sizeof random, bytes("gate7"), 5, bytes(key), key_len, e->answer, out_len);
+}
+
+static int32_t to_server(struct ends *e, const uint8_t *message, size_t n)
+{
+    return tn_message(e->server, bytes("gate7:abcd\n"), 11, first, 1, 1, message, n, e->flight, sizeof e->flight, e->server_master);
+}
+
+static int32_t to_client(struct ends *e, const uint8_t *message, size_t n)
+{
+    return tn_client_message(e->client, message, n, e->answer, sizeof e->answer, e->client_master);
+}
+
+/* Each end's messages and change of cipher to the other, as the host would pass them on: the answer to ServerHelloDone is cut before its Finished. */
+static void gate_login(struct ends *e)
+{
+    uint8_t random[TN_RANDOM_SIZE] = {2};
+    expect("a client, R3", start_client(e, "", 0, sizeof e->answer) == TN_R3 && start_client(e, "\xAB\xCD", 2, TN_CLIENT_HELLO_SIZE - 1) == TN_R1);
+    expect("no client was made", tn_client_phase(e->client) == TN_CLIENT_PHASE_CLOSED);
+    expect("a client", start_client(e, "\xAB\xCD", 2, sizeof e->answer) == TN_CLIENT_HELLO_SIZE && tn_client_phase(e->client) == TN_CLIENT_PHASE_SERVER_HELLO);
+    expect("its suites", memcmp(e->answer + TN_HELLO_SESSION_ID_AT - 1, "\x00\x00\x06\x00\xAE\x00\x8C\x00\xB0\x01\x00", 11) == 0);
+    expect("its server", tn_start(e->server, random, sizeof random, bytes("barn"), 4, random, sizeof random, TN_RULE_HIDE) == 0);
+    expect("ClientHello", to_server(e, e->answer, TN_CLIENT_HELLO_SIZE) == 56);
+    expect("ServerHello", to_client(e, e->flight, 42) == 0 && tn_client_suite(e->client) == TN_SUITE_PSK_AES_128_CBC_SHA256);
+    expect("ServerKeyExchange", to_client(e, e->flight + 42, 10) == 0 && tn_client_phase(e->client) == TN_CLIENT_PHASE_SERVER_HELLO_DONE);
+    expect("ServerHelloDone", to_client(e, e->flight + 52, 4) == 27 && tn_client_phase(e->client) == TN_CLIENT_PHASE_CHANGE_OF_CIPHER);
+    expect("ClientKeyExchange", to_server(e, e->answer, 27 - TN_FINISHED_SIZE) == 0);
+    expect("the client's change of cipher", tn_change_of_cipher(e->server) == 0);
+    expect("the client's Finished", to_server(e, e->answer + 27 - TN_FINISHED_SIZE, TN_FINISHED_SIZE) == TN_FINISHED_SIZE);
+    expect("a warning", tn_client_alert(e->client, 1, 90) == 0);
+    expect("the server's change of cipher", tn_client_change_of_cipher(e->client) == 0 && tn_client_phase(e->client) == TN_CLIENT_PHASE_FINISHED);
+    expect("the server's Finished", to_client(e, e->flight, TN_FINISHED_SIZE) == 0);
+    expect("both complete", tn_client_phase(e->client) == TN_CLIENT_PHASE_COMPLETE && tn_phase(e->server) == TN_PHASE_COMPLETE);
+    expect("no suite any more", tn_client_suite(e->client) == 0 && tn_client_alert(e->client, 1, 90) == TN_R4);
+}
+
+/* The masters are equal, and an extension is refused. */
+static void gate(void)
+{
+    static struct ends e;
+    uint8_t message[48], random[TN_RANDOM_SIZE] = {2};
+    const int32_t unsupported = TN_ALERT_RESULT(TN_ALERT_UNSUPPORTED_EXTENSION);
+    e.server_master[0] = (uint8_t)~e.client_master[0]; /* so that they differ until both are written */
+    gate_login(&e);
+    expect("equal masters", memcmp(e.client_master, e.server_master, TN_MASTER_SIZE) == 0);
+    start_client(&e, "\xAB\xCD", 2, sizeof e.answer);
+    int32_t n = tn_write_server_hello(0x0303, random, sizeof random, random, 0, TN_SUITE_PSK_NULL_SHA256, 0, true, bytes("\x00\x23\x00\x00"), 4, message,
+                                      sizeof message);
+    expect("an extension", n == 48 && to_client(&e, message, 48) == unsupported && tn_client_phase(e.client) == TN_CLIENT_PHASE_CLOSED);
+    tn_clear_stack(TN_STACK_LIMIT);
+}
+
 int main(void)
 {
     uint8_t answer[TN_FLIGHT_SIZE];
@@ -275,6 +337,7 @@ int main(void)
     expect("V12, 0x0304", hello(0x0304, answer) == 46 && answer[4] == 3 && answer[5] == 3);
     expect("the suite", suite_is_found(answer, 46));
     records();
+    gate();
     expect("the version", strlen(TN_VERSION) >= 3);
     if (failures == 0)
         printf("tests/installed.c: all as expected\n");

@@ -16,6 +16,7 @@ struct bytes plain_text(size_t slot, size_t n);               /* of small letter
 struct bytes drawn_block(size_t slot, size_t most);           /* extensions, now and then damaged */
 struct bytes drawn_hello(struct hello *h, bool of_client);    /* fields and the whole message, allowed or not */
 struct bytes drawn_login(void);                               /* mostly a hello that the server accepts */
+struct bytes drawn_server_hello(void);                        /* and one that the client accepts */
 struct bytes drawn_table(size_t slot);
 struct bytes drawn_identity(size_t slot, struct bytes table); /* mostly one that the table has */
 struct starts starts_in(struct bytes text, size_t more);      /* of its lines, in memory for so many numbers more */
@@ -65,7 +66,56 @@ void memory_set(struct memory *m, struct bytes text, size_t n, const struct star
 /* One edit, compared; memory and list are as the call left them, and what the call gave comes back. */
 int32_t memory_edit(struct memory *m, enum edit kind, struct bytes identity, struct bytes key);
 
-/* ---- a connection and its model */
+/* ---- an end of a handshake */
+
+/* The calls that either end has, by its names. A phase of 0 is closed; the one before `complete` awaits a Finished. */
+struct end {
+    const char *message_name, *change_name, *alert_name, *phase_name, *suite_name;
+    int32_t (*message)(struct lent *c, const struct keys *keys, struct lent *m, struct lent *out, struct lent *master); /* may lend more */
+    int32_t (*change)(uint8_t *);
+    int32_t (*alert)(uint8_t *, uint8_t, uint8_t);
+    int32_t (*phase)(const uint8_t *);
+    int32_t (*suite)(const uint8_t *);
+    size_t size;
+    int32_t complete;
+    bool (*is_result)(int32_t result);                             /* of a message, on any bytes */
+    bool (*hands_master)(int32_t result);                          /* of a message that was accepted */
+    void (*expect_over)(const uint8_t *connection, int32_t phase); /* closed or complete by a call, it has no trace of its peer */
+};
+
+extern const struct end server_end, client_end;
+
+/* What comes beside messages: a change of cipher, or an alert. */
+struct signal {
+    bool change;
+    uint8_t level, description;
+};
+
+/* A message, and what is lent with it; a client takes no keys. */
+struct coming {
+    const struct keys *keys;
+    struct bytes message;
+    size_t room;
+};
+
+int32_t told(const char *name, int32_t (*call)(const uint8_t *), struct bytes connection); /* by a call that only reads a connection of any kind */
+void settle_connection(struct lent *c, int32_t result, bool stays); /* before `finish`: it has its own bytes after an R number, and where it stays */
+
+/* After `finish`: the bytes are kept for the next call, and their phase and suite looked at. */
+void keep_connection(const struct end *e, uint8_t *connection, const struct lent *c, int32_t result, int32_t phase, int32_t suite);
+
+/* One call, and what it leaves. */
+void compare_signal(const struct end *e, uint8_t *connection, struct signal s, int32_t said, int32_t phase, int32_t suite);
+
+/* Whether something else than a message comes next: a change of cipher mostly where it is awaited, otherwise once in so many times. */
+bool drawn_signal(size_t wildness, bool change_awaited, struct signal *s);
+
+/* Bytes of any kind as a connection: one call of each kind, of which no more is known than the header says. */
+void probe(const struct end *e, const uint8_t *connection, const struct coming *m);
+void probe_damaged(const struct end *e, const uint8_t *connection, const uint8_t *other, const struct coming *m); /* as damage_connection does it */
+void probe_flipped(const struct end *e, const uint8_t *connection, size_t bit, const struct coming *m);           /* that bit changed */
+
+/* ---- a server's connection and its model */
 
 struct pair {
     uint8_t connection[TN_CONNECTION_SIZE];
@@ -73,18 +123,28 @@ struct pair {
 };
 
 void pair_start(struct pair *p, struct bytes random, struct bytes hint, struct bytes stand_in, uint8_t rule);
-void pair_message(struct pair *p, const struct keys *keys, struct bytes message, size_t room);
-void pair_change(struct pair *p);
-void pair_alert(struct pair *p, uint8_t level, uint8_t description);
+struct bytes pair_message(struct pair *p, const struct keys *keys, struct bytes message, size_t room); /* the answer, until the next one */
+void pair_signal(struct pair *p, struct signal s);
 
-/* Bytes of any kind as a connection: one call of each kind, of which no more is known than the header says. */
-void probe(const uint8_t connection[TN_CONNECTION_SIZE], const struct keys *keys, struct bytes message, size_t room);
+/* ---- a client's connection and its model */
 
-/* ---- what a call tells of a connection, and leaves in one, of either kind: a record connection begins with one of the server's */
+struct client_pair {
+    uint8_t connection[TN_CLIENT_SIZE];
+    struct client model;
+    bool forged; /* no call wrote it: what else than its answers is known of it is left open */
+};
 
-int32_t told(const char *name, int32_t (*call)(const uint8_t *), struct bytes connection); /* by a call that only reads it */
-void settle_connection(struct lent *c, int32_t result, bool stays); /* before `finish`: it has its own bytes after an R number, and where it stays */
-void expect_over(const uint8_t connection[TN_CONNECTION_SIZE], int32_t phase); /* closed or complete, it has no trace of its client */
+/* What a client is started with. */
+struct gate {
+    struct bytes random, identity, key;
+};
+
+struct bytes client_start(struct client_pair *p, struct gate g, size_t room); /* the ClientHello, until the next answer */
+struct bytes client_message(struct client_pair *p, struct bytes message, size_t room);
+void client_signal(struct client_pair *p, struct signal s);
+
+/* The connection with other bytes in front of its transcript, which no call need have written: one call of each kind, as the model has it. */
+void client_probe_forged(const struct client_pair *p, const uint8_t fields[CLIENT_FIELDS], struct bytes message, size_t room);
 
 /* ---- a record connection and its model */
 
@@ -113,6 +173,7 @@ void layouts_round(void);
 void table_round(void);
 void edits_round(void);
 void server_round(void);
+void client_round(void);
 void records_round(void);
 
 /* ---- sweeps, the same in every run */
@@ -129,5 +190,9 @@ void every_cut(void);
 void every_record_bit(void);
 void every_record_room(void);
 void every_number(void);
+void every_server_hello(void);
+void every_client_message(void);
+void every_client_byte(void);
+void every_client_room(void);
 
 #endif

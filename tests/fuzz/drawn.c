@@ -211,6 +211,18 @@ struct bytes drawn_login(void)
     return composed(&h, true);
 }
 
+struct bytes drawn_server_hello(void)
+{
+    static const uint32_t ours[] = {0x00AE, 0x008C, 0x00B0}, others[] = {0x00AF, 0x0000, 0xAE00, 0x01AE};
+    struct hello h = {.version = once_in(8) ? (uint32_t)(once_in(2) ? between(0x0300, 0x0304) : below(65536)) : 0x0303, .random = drawn(0, 32)};
+    h.session_id = drawn(1, once_in(2) ? 0 : below(33));
+    h.suite = once_in(8) ? others[below(4)] : ours[below(3)];
+    h.compression = (uint8_t)(once_in(10) ? draw() : 0);
+    h.present = once_in(3);
+    h.block = once_in(3) ? drawn_block(4, once_in(6) ? 16340 : 300) : drawn(4, 0);
+    return composed(&h, false);
+}
+
 struct settings drawn_settings(void)
 {
     struct settings s;

@@ -11,8 +11,8 @@ FUZZ_ROUNDS ?=
 FUZZ_SEED ?=
 FUZZ_CLANG ?= clang
 FUZZ_FLAGS := -std=c11 -D_GNU_SOURCE -Wall -Wextra -Wconversion -Wshadow -Werror -g -O1 -fno-sanitize-recover=all -Iinclude
-FUZZ_MODELS := $(addprefix tests/fuzz/,lent.c drawn.c model_secrets.c model_layouts.c model_table.c model_server.c model_records.c layouts.c table.c server.c \
-	records.c)
+FUZZ_MODELS := $(addprefix tests/fuzz/,lent.c drawn.c model_secrets.c model_layouts.c model_table.c model_ends.c model_server.c model_client.c model_records.c \
+	layouts.c table.c ends.c server.c client.c records.c)
 FUZZ_HEADERS := $(wildcard tests/fuzz/*.h) include/turretnail.h
 
 .PHONY: differential planted fuzz fuzz-replay

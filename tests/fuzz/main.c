@@ -27,6 +27,12 @@ static const struct {
     {"tn_alert", {0, TN_R4, ALERT(47), 99}},
     {"tn_phase", {0, 1, 2, 99}},
     {"tn_suite", {0, 2, 99}},
+    {"tn_client_start", {2, TN_R1, TN_R3, 99}},
+    {"tn_client_message", {0, 2, TN_R1, TN_R4, ALERT(10), ALERT(47), ALERT(50), ALERT(51), ALERT(70), ALERT(110), 99}},
+    {"tn_client_change_of_cipher", {0, TN_R4, ALERT(10), 99}},
+    {"tn_client_alert", {0, TN_R4, ALERT(47), 99}},
+    {"tn_client_phase", {0, 1, 2, 99}},
+    {"tn_client_suite", {0, 2, 99}},
     {"tn_sha256", {2, TN_R1, 99}},
     {"tn_hmac", {2, TN_R1, 99}},
     {"tn_prf", {0, 2, TN_R1, TN_R5, 99}},
@@ -92,15 +98,8 @@ void __ubsan_on_report(void)
     say_where();
 }
 
-int main(int count, char **arguments)
+static void sweep(void)
 {
-    unsigned long rounds = count > 1 ? strtoul(arguments[1], NULL, 0) : ROUNDS;
-    uint64_t seed = count > 2 ? strtoull(arguments[2], NULL, 0) : 1;
-    time_t start = time(NULL);
-    run_again = "build/differential 1";
-    run_seed = seed;
-    __sanitizer_set_death_callback(say_where);
-    draw_from(seed);
     every_suite();
     every_character();
     every_odd_table();
@@ -113,6 +112,22 @@ int main(int count, char **arguments)
     every_record_bit();
     every_record_room();
     every_number();
+    every_server_hello();
+    every_client_message();
+    every_client_byte();
+    every_client_room();
+}
+
+int main(int count, char **arguments)
+{
+    unsigned long rounds = count > 1 ? strtoul(arguments[1], NULL, 0) : ROUNDS;
+    uint64_t seed = count > 2 ? strtoull(arguments[2], NULL, 0) : 1;
+    time_t start = time(NULL);
+    run_again = "build/differential 1";
+    run_seed = seed;
+    __sanitizer_set_death_callback(say_where);
+    draw_from(seed);
+    sweep();
     for (unsigned long i = 0; i < rounds; i++) {
         run_seed = seed + i;
         draw_from(run_seed);
@@ -122,6 +137,7 @@ int main(int count, char **arguments)
         edits_round();
         server_round();
         records_round();
+        client_round();
     }
     if (rounds >= FEW)
         expect_every_result(count > 3);

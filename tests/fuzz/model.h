@@ -1,6 +1,6 @@
 /*
- * The library's functions a second time, written from document 01, the requests for the table's edits, for its list and for records and the RFCs alone, over
- * libcrypto.
+ * The library's functions a second time, written from document 01, the requests for the table's edits, for its list, for records and for the client, and the
+ * RFCs alone, over libcrypto.
  * Nothing here was taken from the library; each gives what the export of its name has to come to, the test of the room (R1) left out where it says "answer".
  */
 #ifndef MODEL_H
@@ -72,6 +72,7 @@ struct keys {
 };
 
 bool model_utf8(struct bytes text);
+bool model_identity(struct bytes text); /* whether a table may have it */
 bool model_table_test(struct bytes table);
 bool model_list(struct bytes table, struct starts *list); /* the table's own, in memory for just so many numbers; false: R2 */
 int32_t model_keys(const struct keys *keys);              /* R2, R10, or 0 where the list is the table's */
@@ -88,9 +89,22 @@ struct edited {
 /* Of the table that is the first `length` bytes of the memory. To retire an identity takes no key: any may be given. */
 void model_edit(struct bytes memory, size_t length, const struct starts *list, enum edit kind, struct bytes identity, struct bytes key, struct edited *e);
 
-/* ---- the server (model_server.c) */
+/* ---- what both ends of a handshake have (model_ends.c) */
 
 #define TRANSCRIPT_LIMIT 40000
+
+/* The handshake's messages so far. */
+struct messages {
+    uint8_t bytes[TRANSCRIPT_LIMIT];
+    size_t n;
+};
+
+void model_add(struct messages *so_far, struct bytes message);
+void model_verify_data(const struct messages *so_far, const uint8_t master[48], uint8_t side, struct answer *a); /* of a Finished behind them */
+int32_t model_header(struct bytes message, int awaited, int other);              /* 0, or what its tests give where one of two types is awaited */
+int32_t model_received_alert(int32_t *phase, uint8_t level, uint8_t description); /* where the connection is not over */
+
+/* ---- the server (model_server.c) */
 
 struct server {
     int32_t phase;
@@ -101,8 +115,7 @@ struct server {
     uint8_t client[32], master[48];
     uint32_t suite;
     bool listed;
-    uint8_t transcript[TRANSCRIPT_LIMIT];
-    size_t transcript_n;
+    struct messages messages;
 };
 
 int32_t model_start(struct server *s, struct bytes random, struct bytes hint, struct bytes stand_in, uint8_t rule);
@@ -111,7 +124,27 @@ int32_t model_change(struct server *s);
 int32_t model_alert(struct server *s, uint8_t level, uint8_t description);
 int32_t model_suite(const struct server *s);
 int model_awaited(const struct server *s); /* the type of the message that is awaited, none where a change of cipher is */
-void model_verify_data(const struct server *s, uint8_t side, struct answer *a); /* of a Finished after this transcript */
+
+/* ---- the client (model_client.c) */
+
+enum { CLIENT_SUITE = 3, CLIENT_FIELDS = 309 }; /* in a client's connection: where the suite stands, and how many bytes are in front of the transcript */
+
+struct client {
+    int32_t phase;
+    uint8_t random[32], identity[128], key[64];
+    size_t identity_n, key_n;
+    uint8_t server[32], master[48];
+    uint32_t suite;
+    struct messages messages;
+};
+
+void model_client_start(struct client *c, struct bytes random, struct bytes identity, struct bytes key, size_t room, struct answer *a); /* R1 included */
+void model_client_message(struct client *c, struct bytes message, size_t room, struct answer *a);                                      /* and here */
+int32_t model_client_change(struct client *c);
+int32_t model_client_alert(struct client *c, uint8_t level, uint8_t description);
+int32_t model_client_suite(const struct client *c);
+void model_client_save(const struct client *c, uint8_t fields[CLIENT_FIELDS]);
+void model_client_restore(struct client *c, const uint8_t fields[CLIENT_FIELDS]); /* whatever the bytes are; the messages stay */
 
 /* ---- records (model_records.c) */
 

@@ -1,5 +1,4 @@
-/* The server a second time, written from document 01, "The server's steps" and "Numbers that come back". It keeps the handshake's messages themselves and
- * no running hash. */
+/* The server a second time, written from document 01, "The server's steps" and "Numbers that come back". */
 #include "model.h"
 
 #include <string.h>
@@ -13,14 +12,6 @@ static int32_t closing(struct server *s, uint8_t alert)
 {
     s->phase = TN_PHASE_CLOSED;
     return TN_ALERT_RESULT(alert);
-}
-
-static void add(struct server *s, struct bytes b)
-{
-    if (b.n > TRANSCRIPT_LIMIT - s->transcript_n)
-        fail("the model's transcript is full");
-    memcpy(s->transcript + s->transcript_n, b.at, b.n);
-    s->transcript_n += b.n;
 }
 
 int32_t model_start(struct server *s, struct bytes random, struct bytes hint, struct bytes stand_in, uint8_t rule)
@@ -92,8 +83,8 @@ static void hello_step(struct server *s, struct bytes m, size_t room, struct ans
         }
         memcpy(s->client, m.at + 6, 32);
         s->suite = suite;
-        add(s, m);
-        add(s, (struct bytes){a->bytes, (size_t)a->said});
+        model_add(&s->messages, m);
+        model_add(&s->messages, (struct bytes){a->bytes, (size_t)a->said});
         s->phase = TN_PHASE_CLIENT_KEY_EXCHANGE;
     }
 }
@@ -118,16 +109,9 @@ static void key_exchange_step(struct server *s, const struct keys *keys, struct 
     model_premaster(s->listed ? (struct bytes){key.bytes, (size_t)key.said} : (struct bytes){s->stand_in, 32}, &premaster);
     model_master((struct bytes){premaster.bytes, (size_t)premaster.said}, (struct bytes){s->client, 32}, (struct bytes){s->random, 32}, a);
     memcpy(s->master, a->bytes, 48);
-    add(s, m);
+    model_add(&s->messages, m);
     s->phase = TN_PHASE_CHANGE_OF_CIPHER;
     a->said = 0;
-}
-
-void model_verify_data(const struct server *s, uint8_t side, struct answer *a)
-{
-    static struct answer hash;
-    model_sha256((struct bytes){s->transcript, s->transcript_n}, &hash);
-    model_finished(side, (struct bytes){s->master, 48}, (struct bytes){hash.bytes, 32}, a);
 }
 
 static void finished_step(struct server *s, struct bytes m, size_t room, struct answer *a)
@@ -137,7 +121,7 @@ static void finished_step(struct server *s, struct bytes m, size_t room, struct 
         a->said = closing(s, 50);
         return;
     }
-    model_verify_data(s, TN_SIDE_CLIENT, a);
+    model_verify_data(&s->messages, s->master, TN_SIDE_CLIENT, a);
     if (!s->listed || memcmp(a->bytes, m.at + f[0], 12) != 0) {
         a->said = closing(s, 51);
         return;
@@ -147,8 +131,8 @@ static void finished_step(struct server *s, struct bytes m, size_t room, struct 
         return;
     }
     uint8_t value[12];
-    add(s, m);
-    model_verify_data(s, TN_SIDE_SERVER, a);
+    model_add(&s->messages, m);
+    model_verify_data(&s->messages, s->master, TN_SIDE_SERVER, a);
     memcpy(value, a->bytes, 12);
     compose_message(20, (struct bytes){value, 12}, a);
     s->phase = TN_PHASE_COMPLETE;
@@ -161,15 +145,12 @@ int model_awaited(const struct server *s)
 
 void model_message(struct server *s, const struct keys *keys, struct bytes m, size_t room, struct answer *a)
 {
-    if (over(s))
-        a->said = TN_R4;
-    else if (m.n < 4)
-        a->said = closing(s, 50);
-    else if (m.at[0] != model_awaited(s))
-        a->said = closing(s, 10);
-    else if ((two(m.at + 1) << 8 | m.at[3]) != m.n - 4 || m.n > 16384)
-        a->said = closing(s, 50);
-    else if (m.at[0] == 1)
+    a->said = over(s) ? TN_R4 : model_header(m, model_awaited(s), -1);
+    if (tn_is_alert(a->said))
+        s->phase = TN_PHASE_CLOSED;
+    if (a->said != 0)
+        return;
+    if (m.at[0] == 1)
         hello_step(s, m, room, a);
     else if (m.at[0] == 16)
         key_exchange_step(s, keys, m, a);
@@ -189,13 +170,7 @@ int32_t model_change(struct server *s)
 
 int32_t model_alert(struct server *s, uint8_t level, uint8_t description)
 {
-    if (over(s))
-        return TN_R4;
-    if (level != 1 && level != 2)
-        return closing(s, 47);
-    if (level == 2 || description == 0)
-        s->phase = TN_PHASE_CLOSED;
-    return 0;
+    return over(s) ? TN_R4 : model_received_alert(&s->phase, level, description);
 }
 
 int32_t model_suite(const struct server *s)

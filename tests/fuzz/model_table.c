@@ -77,7 +77,7 @@ static bool is_key(struct bytes text)
     return good;
 }
 
-static bool is_identity(struct bytes text)
+bool model_identity(struct bytes text)
 {
     bool good = text.n >= 1 && text.n <= 128 && model_utf8(text);
     for (size_t i = 0; good && i < text.n; i++)
@@ -128,7 +128,7 @@ static bool take_apart(struct bytes table, struct list *list)
         return false;
     while (table.n > 0) {
         struct line l;
-        if (list->n == 256 || !take_line(&table, &l.text) || !split(&l) || !is_identity(l.identity) || !is_key(l.key))
+        if (list->n == 256 || !take_line(&table, &l.text) || !split(&l) || !model_identity(l.identity) || !is_key(l.key))
             return false;
         if (place_of(list, l.identity) < list->n)
             return false;
@@ -262,7 +262,7 @@ void model_edit(struct bytes memory, size_t length, const struct starts *given, 
     if (*said != 0)
         return;
     size_t place = place_of(&list, identity);
-    if (!is_identity(identity) || bad_key) {
+    if (!model_identity(identity) || bad_key) {
         *said = TN_R5;
     } else if (kind == ADD && place < list.n) {
         *said = TN_R6;

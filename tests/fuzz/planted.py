@@ -17,9 +17,14 @@ HERE = pathlib.Path(__file__).resolve().parent
 FLAGS = "-std=c11 -D_GNU_SOURCE -g -O1 -fsanitize=address,undefined -fno-sanitize-recover=all".split()
 INCLUDES = [f"-I{HERE}", f"-I{HERE.parent.parent / 'include'}"]
 
-# the places in server.c where tn_message has just been called, on a connection and on damaged bytes
-PROBE_MADE = "    expect_result_of_message(result, room);\n    size_t written"
+# the places where a message has just been handed over: of either end on damaged bytes, to a server, to a client
+PROBE_MADE = "    expect_result_of_message(e, result, m->room);\n    size_t written"
 MESSAGE_MADE = "message_lent(c, keys, m, out, master);\n    settle_connection(c, result, false);\n"
+CLIENT_MADE = "message_lent(c, NULL, m, out, master);\n    settle_connection(c, result, false);\n"
+
+# the places where a client has just been started, in client.c, and where its model begins with a message
+CLIENT_STARTED = "k->bytes, k->n, out->bytes, out->n);\n"
+CLIENT_BEGUN = "    a->said = over(c) ? TN_R4 : model_header("
 
 # the places in table.c where an edit has just been made, and a list
 EDIT_MADE = "    settle(result, l, &wanted.table);\n"
@@ -69,6 +74,22 @@ def list_kept(name, lines):
 def record_made(name, line):
     """A fault of what the library might do with memory that is lent to tn_take_record."""
     return name, "records.c", RECORD_MADE, RECORD_MADE.replace("    if (taken", f"    {line}\n    if (taken")
+
+
+def client_made(name, line):
+    """A fault of what the library might do with memory that is lent to tn_client_message."""
+    return name, "client.c", CLIENT_MADE, f"{CLIENT_MADE}    {line}\n"
+
+
+def client_started(name, line):
+    """And to tn_client_start."""
+    return name, "client.c", CLIENT_STARTED, f"{CLIENT_STARTED}    {line}\n"
+
+
+def client_ignores(name, kind, phase):
+    """A fault in the client: it takes no notice of such a message in that phase."""
+    tested = f"m.n > 3 && m.at[0] == {kind} && c->phase == TN_CLIENT_PHASE_{phase}"
+    return name, "model_client.c", CLIENT_BEGUN, f"    a->said = 0;\n    if ({tested})\n        return;\n{CLIENT_BEGUN}"
 
 
 PLANTED = [
@@ -125,7 +146,7 @@ PLANTED = [
     ("255 lines at most", "model_table.c", "n == 256 ||", "n == 255 ||"),
     ("a table of 65,537 bytes", "model_table.c", "table.n > 65536", "table.n > 65537"),
     ("an identity twice", "model_table.c", "if (place_of(list, l.identity) < list->n)", "if (false)"),
-    ("an identity of 129 bytes", "model_table.c", "text.n <= 128 && model_utf8", "text.n <= 129 && model_utf8"),
+    ("an identity of 129 bytes", "model_table.c", "|| !model_identity(l.identity) ||", "|| (l.identity.n != 129 && !model_identity(l.identity)) ||"),
     ("a key of 65 bytes in the table", "model_table.c", "text.n <= 128 && text.n % 2", "text.n <= 130 && text.n % 2"),
     ("7F in an identity", "model_table.c", " && text.at[i] != 0x7f", ""),
     ("no 0A at the end", "model_table.c", "!take_line(&table, &l.text)", "(take_line(&table, &l.text), false)"),
@@ -181,10 +202,10 @@ PLANTED = [
     ("the end of a retired line left behind", "model_table.c", "for (list->n--; place < list->n;", "for (list->lines[place].text.n = 0; false;"),
     ("R6 after R8", "model_table.c", "kind == ADD && place < list.n)", "kind == ADD && place < list.n && list.n < 256)"),
     ("R1 before R8", "model_table.c", "*said = TN_R8", "*said = (size_t)*said > memory.n ? TN_R1 : TN_R8"),
-    ("R5 before R2", "model_table.c", EDIT_BEGUN, "    if (*said == TN_R2 && (!is_identity(identity) || bad_key))\n        *said = TN_R5;\n" + EDIT_BEGUN),
+    ("R5 before R2", "model_table.c", EDIT_BEGUN, "    if (*said == TN_R2 && (!model_identity(identity) || bad_key))\n        *said = TN_R5;\n" + EDIT_BEGUN),
     ("R6 before R5", "model_table.c", "|| bad_key) {", "|| (bad_key && !(kind == ADD && place < list.n))) {"),
     ("R7 before R5", "model_table.c", "|| bad_key) {", "|| (bad_key && !(kind == REPLACE && place == list.n))) {"),
-    ("R7 for a bad identity", "model_table.c", "!is_identity(identity) ||", "(kind != RETIRE && !is_identity(identity)) ||"),
+    ("R7 for a bad identity", "model_table.c", "!model_identity(identity) ||", "(kind != RETIRE && !model_identity(identity)) ||"),
     ("257 lines after an edit", "model_table.c", "list.n > 256 ||", "list.n > 257 ||"),
     ("255 lines after an edit at most", "model_table.c", "list.n > 256 ||", "list.n > 255 ||"),
     ("65,537 bytes after an edit", "model_table.c", "*said > 65536)", "*said > 65537)"),
@@ -199,13 +220,13 @@ PLANTED = [
     ("a new key of 63 bytes at most", "model_table.c", "key.n > 64)", "key.n > 63)"),
     ("a new key of no bytes", "model_table.c", "(key.n < 1 ||", "("),
     # and of its list
-    ("R10 after R5", "model_table.c", EDIT_BEGUN, "    if (*said == TN_R10 && (!is_identity(identity) || bad_key))\n        *said = TN_R5;\n" + EDIT_BEGUN),
+    ("R10 after R5", "model_table.c", EDIT_BEGUN, "    if (*said == TN_R10 && (!model_identity(identity) || bad_key))\n        *said = TN_R5;\n" + EDIT_BEGUN),
     ("R10 after R6", "model_table.c",
      EDIT_BEGUN,
      "    if (*said == TN_R10 && kind == ADD && !bad_key && place_of(&list, identity) < list.n)\n        *said = TN_R6;\n" + EDIT_BEGUN),
     ("R10 after R7", "model_table.c",
      EDIT_BEGUN,
-     "    if (*said == TN_R10 && kind == RETIRE && is_identity(identity) && place_of(&list, identity) == list.n)\n        *said = TN_R7;\n" + EDIT_BEGUN),
+     "    if (*said == TN_R10 && kind == RETIRE && model_identity(identity) && place_of(&list, identity) == list.n)\n        *said = TN_R7;\n" + EDIT_BEGUN),
     ("R10 left out of an edit", "model_table.c", EDIT_BEGUN, "    *said = *said == TN_R10 ? 0 : *said;\n" + EDIT_BEGUN),
     ("R1 for the table's memory alone", "model_table.c", "        else if (list.n > given->n)\n            *said = TN_R1;\n", ""),
     ("R1 for a list that is just full", "model_table.c", "else if (list.n > given->n)", "else if (list.n >= given->n)"),
@@ -225,11 +246,11 @@ PLANTED = [
     ("51 for an identity that is not listed", "model_server.c", "closing(s, 115)", "closing(s, 51)"),
     ("a Finished right under the stand-in key", "model_server.c", "!s->listed || memcmp", "memcmp"),
     ("R1 before 51", "model_server.c",
-     "    model_verify_data(s, TN_SIDE_CLIENT, a);\n",
-     "    if (room < 16) {\n        a->said = TN_R1;\n        return;\n    }\n    model_verify_data(s, TN_SIDE_CLIENT, a);\n"),
+     "    model_verify_data(&s->messages, s->master, TN_SIDE_CLIENT, a);\n",
+     "    if (room < 16) {\n        a->said = TN_R1;\n        return;\n    }\n    model_verify_data(&s->messages, s->master, TN_SIDE_CLIENT, a);\n"),
     ("an empty ServerKeyExchange", "model_server.c", "if (s->hint_n > 0)", "if (true)"),
-    ("the flight not in the transcript", "model_server.c", "        add(s, (struct bytes){a->bytes, (size_t)a->said});\n", ""),
-    ("the server's Finished without the client's", "model_server.c", "    add(s, m);\n    model_verify_data", "    model_verify_data"),
+    ("the flight not in the transcript", "model_server.c", "        model_add(&s->messages, (struct bytes){a->bytes, (size_t)a->said});\n", ""),
+    ("the server's Finished without the client's", "model_server.c", "    model_add(&s->messages, m);\n    model_verify_data", "    model_verify_data"),
     ("a suite told of a connection that is over", "model_server.c", "return over(s) ? 0 : ", "return "),
     ("another order of suites", "model_server.c", "{0x00AE, 0x008C, 0x00B0}", "{0x008C, 0x00AE, 0x00B0}"),
     ("TLS 1.1", "model_server.c", "f[0] < 0x0303", "f[0] < 0x0302"),
@@ -245,20 +266,109 @@ PLANTED = [
      "    a->said = model_keys(keys);\n",
      "    a->said = model_keys(keys);\n    if (a->said == TN_R10)\n        closing(s, 50);\n"),
     ("a list that is looked at before it is needed", "model_server.c",
-     "    else if (m.n < 4)\n",
-     "    else if (model_keys(keys) == TN_R10)\n        a->said = TN_R10;\n    else if (m.n < 4)\n"),
+     "over(s) ? TN_R4 : model_header(",
+     "over(s) ? TN_R4 : model_keys(keys) == TN_R10 ? TN_R10 : model_header("),
     ("another identity's key by a list with two starts exchanged", "model_server.c",
      "    model_lookup(keys, (struct bytes){m.at + f[0], f[1]}, &key);\n",
      "    struct keys other = *keys;\n    if (other.list.count > 1)\n        other.list.at[0] = other.list.at[1];\n"
      "    model_lookup(&other, (struct bytes){m.at + f[0], f[1]}, &key);\n"),
-    ("50 before 10", "model_server.c", "m.at[0] != model_awaited(s)", "m.n < 6 ? false : m.at[0] != model_awaited(s)"),
+    ("50 before 10", "model_ends.c", "if (m.at[0] != awaited &&", "if (m.n >= 6 && m.at[0] != awaited &&"),
     ("rules exchanged", "model_server.c", "rule != TN_RULE_TELL", "rule != TN_RULE_HIDE"),
     ("no rule tells", "model_server.c", "rule != TN_RULE_TELL", "rule == TN_RULE_HIDE"),
     ("a hint of 129 bytes", "model_server.c", "hint.n > 128 ||", "hint.n > 129 ||"),
     ("a hint that is not UTF-8", "model_server.c", "|| !model_utf8(hint)", ""),
     ("a fourth rule", "model_server.c", "rule > 2", "rule > 3"),
-    ("a warning that closes", "model_server.c", "if (level == 2 || description == 0)", "if (true)"),
+    ("a warning that closes", "model_ends.c", "if (!known || level == 2 || description == 0)", "if (true)"),
     ("a change of cipher at any time", "model_server.c", "s->phase != TN_PHASE_CHANGE_OF_CIPHER", "false"),
+    # client: its start
+    ("an identity of 129 bytes given to a client", "model_client.c", "!model_identity(identity) ||", "(identity.n != 129 && !model_identity(identity)) ||"),
+    ("an identity of no bytes given to a client", "model_client.c", "!model_identity(identity) ||", "(identity.n > 0 && !model_identity(identity)) ||"),
+    ("a colon in a client's identity", "model_client.c",
+     "!model_identity(identity) ||",
+     "(!model_identity(identity) && !memchr(identity.at, ':', identity.n)) ||"),
+    ("a client's key of 65 bytes", "model_client.c", "key.n > 64)", "key.n > 65)"),
+    ("a client's key of no bytes", "model_client.c", "|| key.n < 1 ||", "||"),
+    ("a client's random of 33 bytes", "model_client.c", "random.n != 32 ||", "random.n < 32 ||"),
+    ("R3 after R1", "model_client.c", "    a->said = TN_R3;\n", "    a->said = room < 49 ? TN_R1 : TN_R3;\n"),
+    ("a ClientHello in 48 bytes", "model_client.c", "if ((size_t)a->said > room)", "if ((size_t)a->said > room + 1)"),
+    ("a ClientHello with an empty extension block", "model_client.c", ".methods = {&null, 1}};", ".methods = {&null, 1}, .present = true};"),
+    ("suites offered in another order", "model_client.c", "{0x00, 0xAE, 0x00, 0x8C,", "{0x00, 0x8C, 0x00, 0xAE,"),
+    # its ServerHello
+    ("the version before the suite", "model_client.c",
+     "    if (!is_offered(suite))\n",
+     "    if (version != 0x0303)\n        return suite == 0x00AE || suite == 0x00B0 ? 47 : 70;\n    if (!is_offered(suite))\n"),
+    ("70 with 0x00AE", "model_client.c", "suite == 0x008C ? 70 : 47", "suite != 0x00B0 ? 70 : 47"),
+    ("47 with 0x008C", "model_client.c", "suite == 0x008C ? 70 : 47", "47"),
+    ("a later version", "model_client.c", "if (version != 0x0303)", "if (version < 0x0303)"),
+    ("a suite's low byte alone", "model_client.c", "found || suite ==", "found || (suite & 0xff) =="),
+    ("the compression before the version", "model_client.c",
+     "    if (version != 0x0303)\n",
+     "    if (compression != 0)\n        return 47;\n    if (version != 0x0303)\n"),
+    ("a compression accepted", "model_client.c", "if (compression != 0)", "if (false)"),
+    ("110 before 47", "model_client.c", "if (compression != 0)", "if (compression != 0 && extensions == 0)"),
+    ("an empty block refused", "model_client.c", "return extensions > 0 ? 110 : 0;", "return f[4] ? 110 : 0;"),
+    ("an extension accepted", "model_client.c", "return extensions > 0 ? 110 : 0;", "return 0;"),
+    ("the session id judged", "model_client.c", "    if (!is_offered(suite))\n", "    if (f[1] > 0 || !is_offered(suite))\n"),
+    ("R1 before 47", "model_client.c",
+     "case 2: a->said = hello_step(c, m); break;",
+     "case 2:\n        a->said = hello_step(c, m);\n        if (a->said == TN_ALERT_RESULT(47) && room < 22)\n            a->said = TN_R1;\n        break;"),
+    ("the server's random a byte off", "model_client.c", "memcpy(c->server, m.at + 6, 32)", "memcpy(c->server, m.at + 5, 32)"),
+    # the rest of the server's flight
+    ("a hint that is not UTF-8 refused by the client", "model_client.c",
+     "if (!model_read_key_exchange(12, m, f))",
+     "if (!model_read_key_exchange(12, m, f) || !model_utf8((struct bytes){m.at + f[0], f[1]}))"),
+    ("a hint of 129 bytes refused by the client", "model_client.c",
+     "if (!model_read_key_exchange(12, m, f))",
+     "if (!model_read_key_exchange(12, m, f) || f[1] > 128)"),
+    ("an empty hint refused by the client", "model_client.c",
+     "if (!model_read_key_exchange(12, m, f))",
+     "if (!model_read_key_exchange(12, m, f) || f[1] == 0)"),
+    ("a ServerKeyExchange demanded", "model_client.c", "{12, 14}", "{12, -1}"),
+    ("a second ServerKeyExchange", "model_client.c", "_HELLO_DONE] = {14, -1}", "_HELLO_DONE] = {14, 12}"),
+    ("a ServerHelloDone with a body", "model_client.c", "if (m.n != 4)", "if (m.n > 5)"),
+    ("R1 before 50", "model_client.c", "if (m.n != 4)", "if (m.n != 4 && room >= 22 + c->identity_n)"),
+    ("an answer in a byte less", "model_client.c", "room < 22 + c->identity_n", "room + 1 < 22 + c->identity_n"),
+    ("R1 that adds the message", "model_client.c",
+     "        a->said = TN_R1;\n    else {",
+     "        model_add(&c->messages, m), a->said = TN_R1;\n    else {"),
+    ("R1 before 51 of a connection without a key", "model_client.c",
+     "else if (premaster.said < 0)",
+     "else if (premaster.said < 0 && room >= 22 + c->identity_n)"),
+    # its transcript and secrets
+    ("the ClientHello left out of the transcript", "model_client.c",
+     "    model_add(&c->messages, (struct bytes){a->bytes, (size_t)a->said});\n}\n\n/* ----",
+     "}\n\n/* ----"),
+    ("the ServerHello left out of the transcript", "model_client.c", "    c->suite = f[2];\n    model_add(&c->messages, m);\n", "    c->suite = f[2];\n"),
+    ("the ServerKeyExchange left out of the transcript", "model_client.c", "    model_add(&c->messages, m);\n    c->phase = TN_CLIENT_PHASE_SERVER_HELLO_DONE",
+     "    c->phase = TN_CLIENT_PHASE_SERVER_HELLO_DONE"),
+    ("the ServerHelloDone left out of the transcript", "model_client.c", "        model_add(&c->messages, m);\n        flight", "        flight"),
+    ("the ClientKeyExchange left out of the transcript", "model_client.c",
+     "    model_add(&c->messages, (struct bytes){a->bytes, (size_t)a->said});\n    model_verify_data",
+     "    model_verify_data"),
+    ("the client's Finished left out of the transcript", "model_client.c", "    model_add(&c->messages, (struct bytes){finished.bytes, 16});\n", ""),
+    ("the client's randoms exchanged", "model_client.c",
+     "(struct bytes){c->random, 32}, (struct bytes){c->server, 32}, a)",
+     "(struct bytes){c->server, 32}, (struct bytes){c->random, 32}, a)"),
+    ("the server's label in the client's Finished", "model_client.c", "TN_SIDE_CLIENT, &value", "TN_SIDE_SERVER, &value"),
+    ("the client's label in the server's Finished", "model_client.c", "TN_SIDE_SERVER, &value", "TN_SIDE_CLIENT, &value"),
+    ("the server's Finished accepted unread", "model_client.c", "if (memcmp(value.bytes, m.at + f[0], 12) != 0)", "if (false)"),
+    ("11 bytes of the server's Finished compared", "model_client.c", "m.at + f[0], 12)", "m.at + f[0], 11)"),
+    # what it is not to take
+    ("a Finished before the change of cipher", "model_client.c", "_CHANGE_OF_CIPHER] = {-1, -1}", "_CHANGE_OF_CIPHER] = {20, -1}"),
+    client_ignores("a NewSessionTicket before the change of cipher", 4, "CHANGE_OF_CIPHER"),
+    client_ignores("a HelloRequest before the ServerHello", 0, "SERVER_HELLO"),
+    ("a change of cipher before ServerHelloDone", "model_client.c",
+     "if (c->phase != TN_CLIENT_PHASE_CHANGE_OF_CIPHER)",
+     "if (c->phase < TN_CLIENT_PHASE_SERVER_HELLO_DONE)"),
+    ("a second change of cipher", "model_client.c", "if (c->phase != TN_CLIENT_PHASE_CHANGE_OF_CIPHER)", "if (c->phase < TN_CLIENT_PHASE_CHANGE_OF_CIPHER)"),
+    ("a suite told of a complete client", "model_client.c", "return over(c) || c->phase ==", "return c->phase == TN_CLIENT_PHASE_CLOSED || c->phase =="),
+    # bytes that no call has written
+    ("a phase past the last", "model_client.c", ": TN_CLIENT_PHASE_CLOSED;\n    c->identity_n", ": TN_CLIENT_PHASE_COMPLETE;\n    c->identity_n"),
+    ("a key's length past its field as none", "model_client.c", "? fields[KEY_LENGTH] : 64;", "? fields[KEY_LENGTH] : 0;"),
+    ("an identity's length past its field as none", "model_client.c", "? fields[IDENTITY_LENGTH] : 128;", "? fields[IDENTITY_LENGTH] : 0;"),
+    # between the two ends
+    ("a change of cipher that the client does not get", "client.c", "    client_signal(&l->client, change);\n", ""),
+    ("the answer cut at another place", "client.c", "answered.n - TN_FINISHED_SIZE;", "answered.n - TN_FINISHED_SIZE + 1;"),
     # records
     ("the MAC over the record's length field", "model_records.c",
      "type, version, content.n);\n    memcpy(text",
@@ -272,7 +382,9 @@ PLANTED = [
     ("a number that a taken record does not advance", "model_records.c", "    count(&m->reading);\n", ""),
     ("a number that an answer does not advance", "model_records.c", "    count(&m->writing);\n    memcpy", "    memcpy"),
     ("a number that sent data does not advance", "model_records.c", "    if (a->said > 0)\n        count(&m->writing);\n", ""),
-    ("a number that is not 0 behind a change of cipher", "model_records.c", "under(block.bytes + 32 * which, 0)", "under(block.bytes + 32 * which, d->number)"),
+    ("a number that is not 0 behind a change of cipher", "model_records.c",
+     "under(block.bytes + 32 * which, 0)",
+     "under(block.bytes + 32 * which, d->number)"),
     ("the two keys exchanged", "model_records.c", "block.bytes + 32 * which", "block.bytes + 32 * (1 - which)"),
     ("the stand-in key's MAC accepted", "model_records.c", "(wrong || (n >= 0 && !m->server.listed))", "wrong"),
     ("20 for the first protected record", "model_records.c", "(wrong || (n >= 0 && !m->server.listed))", "(n >= 0 && !m->server.listed)"),
@@ -285,7 +397,9 @@ PLANTED = [
     ("R10 that keeps the hello of its record", "model_records.c",
      "    if (refusal == 0)\n        *m = next",
      "    if (refusal == 0 || refusal == TN_R10)\n        *m = next"),
-    ("R1 that keeps what came", "model_records.c", "    if (refusal == 0)\n        *m = next", "    if (refusal == 0 || refusal == TN_R1)\n        *m = next"),
+    ("R1 that keeps what came", "model_records.c",
+     "    if (refusal == 0)\n        *m = next",
+     "    if (refusal == 0 || refusal == TN_R1)\n        *m = next"),
     ("R1 for the output alone", "model_records.c", " || next.held_n > memory", ""),
     ("memory for all that came", "model_records.c", "next.held_n > memory", "m->held_n + record.n - 5 > memory"),
     ("a header that is judged when the message is whole", "model_records.c",
@@ -313,7 +427,9 @@ PLANTED = [
     ("data that are told one byte too long", "model_records.c", "(uint32_t)content.n;\n        return 0;", "(uint32_t)content.n + 1;\n        return 0;"),
     ("data of no bytes as none", "model_records.c", "        t->told[1] = 1;\n", "        t->told[1] = content.n > 0;\n"),
     ("application data before completion", "model_records.c", ": type == DATA || (change", ": (change"),
-    ("a change of cipher after completion that is told by its byte", "model_records.c", "? change || (handshake", "? (change && content.n == 1) || (handshake"),
+    ("a change of cipher after completion that is told by its byte", "model_records.c",
+     "? change || (handshake",
+     "? (change && content.n == 1) || (handshake"),
     ("10 for an empty handshake fragment after completion", "model_records.c", "(handshake && content.n > 0) :", "handshake :"),
     ("an empty handshake fragment", "model_records.c", "(handshake && content.n == 0) || ", ""),
     ("a change of cipher amid a message", "model_records.c", " || (change && m->held_n > 0)", ""),
@@ -376,7 +492,9 @@ PLANTED = [
     edit_made("the last number of the list's memory", "if (result >= 0 && *count < room)\n        starts[room - 1] ^= 1;"),
     ("a list edited past its memory", "table.c", "size_t room = m->list.n,", "size_t room = m->list.n + 1,"),
     ("a list read past its memory", "table.c", "numbers_of(s), keys->list.n, keys->list.count", "numbers_of(s), keys->list.n + 1, keys->list.count"),
-    ("a list made past its memory", "table.c", "tn_table_list(t->bytes, t->n, numbers_of(s), room)", "tn_table_list(t->bytes, t->n, numbers_of(s), room + 1)"),
+    ("a list made past its memory", "table.c",
+     "tn_table_list(t->bytes, t->n, numbers_of(s), room)",
+     "tn_table_list(t->bytes, t->n, numbers_of(s), room + 1)"),
     ("a number behind a list that was made", "table.c",
      LIST_MADE,
      "    if (result >= 0 && (size_t)result < room)\n        numbers_of(s)[result] ^= 1;\n" + LIST_MADE),
@@ -394,12 +512,27 @@ PLANTED = [
     ("a trace in a closed connection", "server.c",
      MESSAGE_MADE,
      MESSAGE_MADE + "    if (tn_is_alert(result))\n        c->bytes[200] = m->n > 0 ? m->bytes[0] : 7;\n"),
-    ("a damaged connection changed by R4", "server.c", PROBE_MADE, "    if (result == TN_R4)\n        c->bytes[9] ^= 1;\n" + PROBE_MADE),
-    ("a damaged connection answered with another number", "server.c",
+    ("a damaged connection changed by R4", "ends.c", PROBE_MADE, "    if (result == TN_R4)\n        c->bytes[9] ^= 1;\n" + PROBE_MADE),
+    ("a damaged connection answered with another number", "ends.c",
      PROBE_MADE,
      "    result = result == TN_ALERT_RESULT(51) ? TN_ALERT_RESULT(20) : result;\n" + PROBE_MADE),
-    ("another master for the same call", "server.c", PROBE_MADE, "    if (result == 0)\n        master->bytes[0] = (uint8_t)calls_made();\n" + PROBE_MADE),
-    ("R4 for a damaged connection that is not over", "server.c", PROBE_MADE, "    result = result == TN_R2 ? TN_R4 : result;\n" + PROBE_MADE),
+    ("another master for the same call", "ends.c", PROBE_MADE, "    if (result == 0)\n        master->bytes[0] = (uint8_t)calls_made();\n" + PROBE_MADE),
+    ("R4 for a damaged connection that is not over", "ends.c", PROBE_MADE, "    result = result == TN_R2 ? TN_R4 : result;\n" + PROBE_MADE),
+    client_started("a client changed by R1", "if (result == TN_R1)\n        c->bytes[0] ^= 1;"),
+    client_started("a ClientHello begun before R3", "if (result == TN_R3 && out->n > 0)\n        out->bytes[0] = 1;"),
+    client_started("a byte behind the identity's", "if (result > 0)\n        c->bytes[132] ^= 1;"),
+    client_started("the key lent to be read cleared", "if (result > 0)\n        memset(k->bytes, 0, k->n);"),
+    client_made("the master written beside R1", "if (result == TN_R1)\n        master->bytes[0] ^= 1;"),
+    client_made("the master written at another message", "if (result == 0)\n        master->bytes[0] ^= 1;"),
+    client_made("a client's connection changed by R1 at a message", "if (result == TN_R1)\n        c->bytes[405] ^= 1;"),
+    client_made("a client's connection changed by R4", "if (result == TN_R4)\n        c->bytes[200] ^= 1;"),
+    client_made("the key left in a complete client", "if (p->model.phase == TN_CLIENT_PHASE_COMPLETE && result == 0)\n        c->bytes[133] = 7;"),
+    client_made("the master left in a closed client", "if (tn_is_alert(result))\n        c->bytes[261] = 7;"),
+    client_made("the transcript left in a closed client", "if (tn_is_alert(result))\n        c->bytes[341] = 7;"),
+    ("a server's message read past its end", "client.c",
+     "m->bytes, m->n, out->bytes, out->n, master->bytes",
+     "m->bytes, m->n + 1, out->bytes, out->n, master->bytes"),
+    ("a client's answer written past its room", "client.c", "m->n, out->bytes, out->n, master->bytes", "m->n, out->bytes, out->n + 1, master->bytes"),
     record_made("memory written by a refusal", "if (result < 0 && m->n > 0)\n        m->bytes[m->n / 2] ^= 1;"),
     record_made("memory written behind what is held", "if (result >= 0 && p->model.held_n < m->n)\n        m->bytes[m->n - 1] ^= 1;"),
     record_made("numbers told by a refusal", "if (result < 0)\n        numbers->bytes[4] ^= 1;"),

@@ -45,7 +45,7 @@ static struct bytes plain_hello(void)
 static struct bytes plain_finished(const struct record_model *m)
 {
     static struct answer value;
-    model_verify_data(&m->server, TN_SIDE_CLIENT, &value);
+    model_verify_data(&m->server.messages, m->server.master, TN_SIDE_CLIENT, &value);
     if (once_in(wildness))
         value.bytes[below(12)] ^= 1;
     compose_message(20, (struct bytes){value.bytes, 12}, &made);

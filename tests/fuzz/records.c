@@ -28,7 +28,7 @@ static void expect_closed(const uint8_t connection[TN_RECORD_CONNECTION_SIZE], s
     uint8_t rest[TN_RECORD_CONNECTION_SIZE - TN_CONNECTION_SIZE] = {0};
     rest[CLOSING - TN_CONNECTION_SIZE] = (uint8_t)alert.n;
     memcpy(rest + (CLOSING + 1 - TN_CONNECTION_SIZE), alert.at, alert.n);
-    expect_over(connection, TN_PHASE_CLOSED);
+    server_end.expect_over(connection, TN_PHASE_CLOSED);
     if (memcmp(rest, connection + TN_CONNECTION_SIZE, sizeof rest) != 0)
         fail("a closed connection has more than the alert that closed it");
 }
@@ -52,7 +52,7 @@ static void keep(struct record_pair *p, const struct lent *c, int32_t result)
     if (p->model.server.phase == TN_PHASE_CLOSED)
         expect_closed(p->connection, (struct bytes){p->model.alert, p->model.alert_n});
     if (p->model.server.phase == TN_PHASE_COMPLETE)
-        expect_over(p->connection, TN_PHASE_COMPLETE);
+        server_end.expect_over(p->connection, TN_PHASE_COMPLETE);
 }
 
 /* ---- calls on a connection and on its model */

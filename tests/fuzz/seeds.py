@@ -2,8 +2,8 @@
 """The fuzzer's first inputs, in the form that target.c gives: seeds.py DIRECTORY.
 
 Whole handshakes for each suite, hint and rule, refusals of each kind, one message of each layout, key
-tables, their edits and lists, the sessions of record_sessions.py and others in records, and the recorded
-messages of other programs.
+tables, their edits and lists, the sessions of record_sessions.py and others in records, the client's side
+of handshakes, alone and with the server, and the recorded messages of other programs.
 """
 import pathlib
 import sys
@@ -11,7 +11,7 @@ import sys
 sys.dont_write_bytecode = True
 TESTS = pathlib.Path(__file__).resolve().parent.parent
 sys.path.insert(0, str(TESTS))
-from handshakes import EVERY, TABLE, drawn, exchange, extension, hello, message, starts_of, vector
+from handshakes import EVERY, KEYS, TABLE, drawn, exchange, extension, hello, message, starts_of, vector
 from record_sessions import ALERT, CHANGE as CHANGE_OF_CIPHER, DATA, HANDSHAKE, NULL, script
 
 ENOUGH = 180
@@ -214,6 +214,84 @@ def records():
         yield table() + b"\x09" + start()[1:] + 2 * content(HANDSHAKE, both[:-3], memory=memory) + content(HANDSHAKE, both[-3:])
 
 
+def gate(identity=b"gate7", key=KEYS[b"gate7"], random=drawn("client"), room=49):
+    return bytes([18, room]) + vector(1, random) + vector(1, identity) + vector(1, key)
+
+
+def tell(m, room=150):
+    return bytes([19, room]) + vector(2, m)
+
+
+def server_hello(suite=0x00AE, version=0x0303, session=b"", compression=0, block=None):
+    body = version.to_bytes(2, "big") + drawn("server") + vector(1, session) + suite.to_bytes(2, "big") + bytes([compression])
+    return message(2, body + (b"" if block is None else vector(2, block)))
+
+
+def server_finished(place=0, bits=0):
+    return bytes([22, place, bits])
+
+
+HINT = message(12, vector(2, b"barn"))
+DONE = message(14, b"")
+CLIENT_CHANGE = b"\x14"
+CLIENT_WARNING, CLIENT_FATAL = b"\x15\1\x5a", b"\x15\2\x28"
+STEPS = [tell(server_hello()), tell(HINT), tell(DONE), CLIENT_CHANGE, server_finished()]
+
+
+def clients():
+    """Logins, each step left out, twice and in another's place, and what is never awaited at each."""
+    for suite in EVERY:
+        for hint in (b"", tell(HINT), tell(message(12, vector(2, bytes(range(256)))))):
+            yield gate() + tell(server_hello(suite)) + hint + tell(DONE) + CLIENT_CHANGE + server_finished() + CLIENT_WARNING
+    for i, step in enumerate(STEPS):
+        before, after = gate() + b"".join(STEPS[:i]), b"".join(STEPS[i + 1:])
+        yield before + after
+        yield before + 2 * step + after
+        yield before + CLIENT_WARNING + step + after
+        for odd in (CLIENT_FATAL, b"\x15\1\0", b"\x15\3\1", CLIENT_CHANGE, tell(b""), tell(b"\x0e\0\0"), tell(b"\x0e\0\0\1"), tell(b"\x0e\0\0\1\0"),
+                    tell(message(0, b"")), tell(message(4, bytes(4) + vector(2, b"ticket"))), tell(exchange(b"gate7")), tell(HELLO), server_finished(3, 1),
+                    tell(message(20, bytes(11))), tell(message(20, bytes(13))), tell(message(12, b"\0\5barn")), tell(message(12, vector(2, bytes(16379))))):
+            yield before + odd + step
+        for place, over in ((0, b"\0"), (0, b"\7"), (0, b"\5"), (1, b"\xff\xff"), (1, b"\0\0"), (3, b"\0\xb0"), (5, bytes(255)), (261, bytes(48)),
+                            (400, b"\xff" * 13)):
+            yield before + step + b"\x17" + place.to_bytes(2, "big") + vector(1, over)
+    for room in (0, 26):
+        yield gate() + STEPS[0] + tell(DONE, room) + b"".join(STEPS[2:])
+
+
+def server_hellos():
+    """Two faults at a time."""
+    for suite in (*EVERY, 0x00AF, 0xAE00):
+        for version in (0x0303, 0x0302, 0x0304):
+            for compression in (0, 1):
+                for block in (None, b"", extension(35), extension(35) + extension(35)):
+                    yield gate() + tell(server_hello(suite, version, b"", compression, block)) + tell(DONE)
+    for session in (b"s", bytes(32), bytes(33)):
+        yield gate() + tell(server_hello(session=session)) + tell(DONE)
+    yield gate() + tell(server_hello()[:-1]) + tell(server_hello())
+
+
+def gates():
+    for identity in (b"", b"a", b"i" * 128, b"i" * 129, b"a:b", b"a\x1f", b"\x7f", b"\xc0\x80", "Küche".encode()):
+        yield gate(identity) + STEPS[0] + tell(DONE)
+    for key in (b"", b"k", bytes(64), bytes(65)):
+        yield gate(key=key) + STEPS[0] + tell(DONE)
+    for random in (bytes(31), bytes(33)):
+        yield gate(random=random, room=48)
+    for room in (0, 48):
+        yield gate(room=room) + gate() + STEPS[0]
+
+
+def both():
+    """The client and the server of this library, as each identity and key of the table and as others."""
+    next_to_client, next_to_server = bytes([24, 150]), bytes([25, ENOUGH])
+    for identity, key in [*KEYS.items(), (b"gate7", b"\1"), (b"nobody", b"\1")]:
+        for rule in (0, 1, 2):
+            for hint, answers in ((b"", 2), (b"barn", 3)):
+                yield (table() + start(rule, hint) + gate(identity, key) + next_to_server + answers * next_to_client + next_to_server + CHANGE + next_to_server
+                       + CLIENT_CHANGE + next_to_client)
+
+
 def recorded():
     for file in sorted((TESTS / "recorded").glob("*.hex")):
         sent = [send(bytes.fromhex(line)) for line in file.read_text().split()]
@@ -223,6 +301,6 @@ def recorded():
 
 if __name__ == "__main__":
     directory = pathlib.Path(sys.argv[1])
-    for make in (logins, hellos, messages, tables, edits, lists, starts, longest, sessions, records, recorded):
+    for make in (logins, hellos, messages, tables, edits, lists, starts, longest, sessions, records, clients, server_hellos, gates, both, recorded):
         for i, contents in enumerate(make()):
             (directory / f"{make.__name__}-{i:02}").write_bytes(contents)

@@ -1,7 +1,7 @@
 /*
- * The fuzz target. The input is a series of calls on two connections, one of either kind, each a byte that names it and its arguments; the models go along,
- * and every message, record and table goes to the readers too. The library is built without the fuzzer's instrumentation: it is the models' branches, which
- * are the papers', that lead it.
+ * The fuzz target. The input is a series of calls on three connections, one of either kind of the server's and a client's, each a byte that names it and its
+ * arguments; the models go along, and every message, record and table goes to the readers too. The library is built without the fuzzer's instrumentation: it
+ * is the models' branches, which are the papers', that lead it.
  *
  *   0 VECTOR2                                  the key table from here on, with its own list
  *   1 RULE VECTOR1 VECTOR1 VECTOR1             start with random, hint and stand-in key
@@ -23,6 +23,14 @@
  *   16 SIDE BACK                               a direction's number, so many before the last: SIDE 0 what is taken, 1 what is sent
  *   17 ROOM COUNT PLACE BY                     another list from here on: the table's own in memory for ROOM numbers more, its count COUNT more, and the
  *                                              number at PLACE moved BY so much (the last and the second are signed bytes)
+ *   18 ROOM VECTOR1 VECTOR1 VECTOR1            start of the client, with random, identity and key
+ *   19 ROOM VECTOR2                            a message for the client
+ *   20                                         a change of cipher for it
+ *   21 LEVEL DESCRIPTION                       an alert for it
+ *   22 PLACE BITS                              the server's right Finished for it, those bits changed
+ *   23 PLACE PLACE VECTOR1                     its last message again, on a copy of its connection with these bytes at a place
+ *   24 ROOM                                    the next message that the server of 1 has to send, to the client
+ *   25 ROOM                                    the next one that the client has to send, to that server
  *
  * VECTORn: a length of n bytes and so many bytes, or what there is left of the input. Built without libFuzzer it runs on files or on standard input.
  */
@@ -36,10 +44,19 @@
 
 int LLVMFuzzerTestOneInput(const uint8_t *data, size_t size);
 
+/* The last answer of one end, and how much of it was handed to the other. */
+struct way {
+    uint8_t bytes[TN_FLIGHT_SIZE];
+    size_t n, taken;
+};
+
 struct series {
     struct bytes rest, message;
     struct keys keys;
     struct pair pair;
+    struct client_pair client;
+    struct bytes client_message; /* the last one */
+    struct way to_client, to_server;
     struct memory memory; /* of the table, once it was edited */
     struct record_pair records;
     struct bytes record;
@@ -66,6 +83,36 @@ static struct bytes next_vector(struct series *s, size_t width)
     return b;
 }
 
+/* ---- what the two ends send each other */
+
+static void put_on(struct way *w, struct bytes answer)
+{
+    if (answer.n == 0)
+        return;
+    memcpy(w->bytes, answer.at, answer.n);
+    w->n = answer.n;
+    w->taken = 0;
+}
+
+static struct bytes take_from(struct way *w)
+{
+    const uint8_t *at = w->bytes + w->taken;
+    struct bytes message = {at, w->taken < w->n ? (size_t)model_message_end(at) : 0};
+    w->taken += message.n;
+    return message;
+}
+
+static void give_server(struct series *s, struct bytes message, size_t room)
+{
+    put_on(&s->to_client, pair_message(&s->pair, &s->keys, message, room));
+}
+
+static void give_client(struct series *s, struct bytes message, size_t room)
+{
+    s->client_message = message;
+    put_on(&s->to_server, client_message(&s->client, message, room));
+}
+
 /* ---- the calls */
 
 static void do_start(struct series *s)
@@ -90,7 +137,7 @@ static void do_message(struct series *s)
     size_t room = next_byte(s);
     s->message = next_vector(s, 2);
     compare_readers(s->message);
-    pair_message(&s->pair, &s->keys, s->message, room);
+    give_server(s, s->message, room);
     if (s->message.n >= 6) { /* what would be a ClientKeyExchange's identity */
         struct bytes identity = {s->message.at + 6, s->message.n - 6};
         compare_table(&s->keys, identity);
@@ -98,12 +145,12 @@ static void do_message(struct series *s)
     }
 }
 
-/* The right Finished of a server's connection, bits of it changed as the input says. */
-static struct bytes next_finished(struct series *s, const struct server *model)
+/* The right Finished of a side, bits of it changed as the input says. */
+static struct bytes next_finished(struct series *s, const struct messages *so_far, const uint8_t master[48], uint8_t side)
 {
     static struct answer value, message;
     size_t place = next_byte(s) % 12;
-    model_verify_data(model, TN_SIDE_CLIENT, &value);
+    model_verify_data(so_far, master, side, &value);
     value.bytes[place] ^= next_byte(s);
     compose_message(20, (struct bytes){value.bytes, 12}, &message);
     return (struct bytes){message.bytes, (size_t)message.said};
@@ -112,7 +159,7 @@ static struct bytes next_finished(struct series *s, const struct server *model)
 static void do_finished(struct series *s)
 {
     size_t room = next_byte(s);
-    pair_message(&s->pair, &s->keys, next_finished(s, &s->pair.model), room);
+    give_server(s, next_finished(s, &s->pair.model.messages, s->pair.model.master, TN_SIDE_CLIENT), room);
 }
 
 /* A copy of n bytes, with those of the input at a place. */
@@ -127,8 +174,9 @@ static void next_damage(struct series *s, uint8_t *copy, const uint8_t *bytes, s
 static void do_probe(struct series *s)
 {
     uint8_t connection[TN_CONNECTION_SIZE];
+    struct coming m = {&s->keys, s->message, TN_FLIGHT_SIZE};
     next_damage(s, connection, s->pair.connection, sizeof connection);
-    probe(connection, &s->keys, s->message, TN_FLIGHT_SIZE);
+    probe(&server_end, connection, &m);
 }
 
 static void take_record(struct series *s, struct bytes record, size_t memory, size_t room)
@@ -165,7 +213,8 @@ static void do_content(struct series *s)
 static void do_record_finished(struct series *s)
 {
     size_t room = next_byte(s);
-    struct bytes message = next_finished(s, &s->records.model.server);
+    const struct server *model = &s->records.model.server;
+    struct bytes message = next_finished(s, &model->messages, model->master, TN_SIDE_CLIENT);
     size_t cut = next_byte(s) % message.n;
     if (cut > 0)
         take_content(s, HANDSHAKE, (struct bytes){message.at, cut}, TN_RECORD_MEMORY, room);
@@ -203,6 +252,56 @@ static void do_record_call(struct series *s, uint8_t which)
         bool sending = next_byte(s) % 2;
         record_renumber(&s->records, sending, LAST_NUMBER - next_byte(s));
     }
+    }
+}
+
+static void do_client_start(struct series *s)
+{
+    size_t room = next_byte(s);
+    struct gate g = {.random = next_vector(s, 1)};
+    g.identity = next_vector(s, 1);
+    g.key = next_vector(s, 1);
+    compare_utf8(g.identity);
+    put_on(&s->to_server, client_start(&s->client, g, room));
+}
+
+static void do_client_message(struct series *s)
+{
+    size_t room = next_byte(s);
+    struct bytes message = next_vector(s, 2);
+    compare_readers(message);
+    give_client(s, message, room);
+}
+
+static void do_client_probe(struct series *s)
+{
+    uint8_t connection[TN_CLIENT_SIZE];
+    struct coming m = {NULL, s->client_message, TN_CLIENT_FLIGHT_SIZE};
+    next_damage(s, connection, s->client.connection, sizeof connection);
+    probe(&client_end, connection, &m);
+    client_probe_forged(&s->client, connection, m.message, m.room);
+}
+
+/* Two bytes of the input. */
+static struct signal next_alert(struct series *s)
+{
+    uint8_t level = next_byte(s);
+    return (struct signal){false, level, next_byte(s)};
+}
+
+static void do_client_call(struct series *s, uint8_t which)
+{
+    size_t room = which >= 24 ? next_byte(s) : 0;
+    const struct client *model = &s->client.model;
+    switch (which) {
+    case 18: do_client_start(s); break;
+    case 19: do_client_message(s); break;
+    case 20: client_signal(&s->client, (struct signal){.change = true}); break;
+    case 21: client_signal(&s->client, next_alert(s)); break;
+    case 22: give_client(s, next_finished(s, &model->messages, model->master, TN_SIDE_SERVER), 0); break;
+    case 23: do_client_probe(s); break;
+    case 24: give_client(s, take_from(&s->to_client), room); break;
+    default: give_server(s, take_from(&s->to_server), room);
     }
 }
 
@@ -244,17 +343,17 @@ static void do_list(struct series *s)
 
 static void do_call(struct series *s)
 {
-    uint8_t which = next_byte(s) % 18;
+    uint8_t which = next_byte(s) % 26;
+    if (which >= 18) {
+        do_client_call(s, which);
+        return;
+    }
     switch (which) {
     case 0: do_table(s); break;
     case 1: do_start(s); break;
     case 2: do_message(s); break;
-    case 3: pair_change(&s->pair); break;
-    case 4: {
-        uint8_t level = next_byte(s);
-        pair_alert(&s->pair, level, next_byte(s));
-        break;
-    }
+    case 3: pair_signal(&s->pair, (struct signal){.change = true}); break;
+    case 4: pair_signal(&s->pair, next_alert(s)); break;
     case 5: do_finished(s); break;
     case 6: do_probe(s); break;
     case 7: compare_extensions(next_vector(s, 2)); break;
@@ -276,7 +375,7 @@ int LLVMFuzzerTestOneInput(const uint8_t *data, size_t size)
     run_seed = seed;
     draw_from(seed); /* where lent memory lies, and what it holds */
     memset(&s, 0, sizeof s);
-    s.keys.text = s.message = s.record = (struct bytes){&nothing, 0};
+    s.keys.text = s.message = s.record = s.client_message = (struct bytes){&nothing, 0};
     s.rest = size > 0 ? (struct bytes){data, size} : s.message;
     while (s.rest.n > 0)
         do_call(&s);
