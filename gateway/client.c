@@ -6,9 +6,10 @@
 #include <sys/socket.h>
 #include <unistd.h>
 
+#include "clock.h"
 #include "log.h"
 #include "report.h"
-#include "table.h"
+#include "settings.h"
 #include "work.h"
 
 enum {
@@ -59,8 +60,8 @@ static void drop(struct slot *s)
 static bool send_some(struct slot *s)
 {
     struct connection *c = &s->connection;
-    while (c->out_at < c->out_end) {
-        ssize_t n = send(s->fd, c->out + c->out_at, c->out_end - c->out_at, MSG_NOSIGNAL);
+    while (c->channel.out_at < c->channel.out_end) {
+        ssize_t n = send(s->fd, c->channel.out + c->channel.out_at, c->channel.out_end - c->channel.out_at, MSG_NOSIGNAL);
         if (n < 0)
             return errno == EAGAIN || errno == EWOULDBLOCK || errno == EINTR;
         connection_sent(c, (size_t)n);
@@ -91,12 +92,12 @@ static bool receive_some(struct slot *s)
         size_t wanted = connection_wants(c);
         if (wanted == 0)
             return true;
-        ssize_t n = recv(s->fd, c->in + c->in_len, wanted, 0);
+        ssize_t n = recv(s->fd, c->channel.in + c->channel.in_len, wanted, 0);
         if (n < 0)
             return errno == EAGAIN || errno == EWOULDBLOCK || errno == EINTR;
         if (n == 0) {
             connection_lost(c);
-            return c->out_at < c->out_end;
+            return c->channel.out_at < c->channel.out_end;
         }
         int64_t came = nanoseconds();
         (void)connection_received(c, &settings, (size_t)n);
@@ -131,7 +132,7 @@ static void wind_up(struct slot *s)
 {
     struct connection *c = &s->connection;
     put_off(s);
-    if (c->ended && c->out_at == c->out_end && !s->said_all) {
+    if (c->ended && c->channel.out_at == c->channel.out_end && !s->said_all) {
         s->said_all = true;
         s->deadline = milliseconds() + LINGER_MS;
         shutdown(s->fd, SHUT_WR);
@@ -185,7 +186,7 @@ short client_events(const struct slot *s)
     short events = 0;
     if (s->said_all || connection_wants(c) > 0)
         events |= POLLIN;
-    if (c->out_at < c->out_end)
+    if (c->channel.out_at < c->channel.out_end)
         events |= POLLOUT;
     return events;
 }

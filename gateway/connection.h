@@ -1,7 +1,6 @@
 /*
  * One client of the gateway, apart from its socket: bytes that came go in, bytes to be sent come out. Joins records to handshake messages, hands these to the
- * library, changes ciphers, sends and takes alerts, or hands the records to the library, which then does all that; and serves the enrolment lines: each line
- * X is answered with "enrolled X", an empty one with nothing. A line ends in LF, and a CR before that is no part of it.
+ * library, changes ciphers, sends and takes alerts, or hands the records to the library, which then does all that; and answers the enrolment lines.
  */
 #ifndef HOST_CONNECTION_H
 #define HOST_CONNECTION_H
@@ -10,28 +9,10 @@
 #include <stddef.h>
 #include <stdint.h>
 
-#include "records.h"
+#include "channel.h"
+#include "enrolment.h"
+#include "settings.h"
 #include "turretnail.h"
-
-enum {
-    LINE_LIMIT = 256, /* of an enrolment line, without its line end */
-    OUT_SIZE = 8192
-};
-
-/* What all connections of a gateway share. */
-struct settings {
-    const char *hint; /* empty: none */
-    uint8_t rule; /* one of TN_RULE_.. */
-    bool proved;  /* the library reads and writes the records too, for PSK-NULL-SHA256 alone */
-    uint8_t stand_in[TN_STAND_IN_SIZE];
-    uint8_t table[TN_TABLE_LIMIT];
-    size_t table_len;
-    uint32_t starts[TN_TABLE_LINES]; /* where the table's lines start, for the library; gateway/table.c keeps it beside the table */
-    size_t lines;
-};
-
-/* Whether a client is not to learn which gates there are; it is the library's rule where none is named. */
-bool settings_hide(const struct settings *settings);
 
 /* How a login, or a connection after it, ended. */
 enum outcome {
@@ -54,9 +35,8 @@ struct connection {
     uint8_t server_random[TN_RANDOM_SIZE];
     uint8_t client_random[TN_RANDOM_SIZE];
     const struct suite *suite; /* NULL until it is chosen */
-    struct protection reading, writing;           /* in force */
-    struct protection next_reading, next_writing; /* after the change of cipher */
-    bool ended;                                   /* nothing more is read; what is in `out` is still sent */
+    struct channel channel;    /* where the library reads and writes the records, only for their bytes and the messages that it overhears */
+    bool ended;                /* nothing more is read; what is in the channel's `out` is still sent */
 
     enum outcome login_outcome; /* of the login; the next is of what came after it */
     enum outcome later_outcome;
@@ -67,30 +47,24 @@ struct connection {
     bool judged;   /* a message came where a ClientKeyExchange was awaited: the table may have been looked at */
     bool unlisted; /* under the rule hide, and the gateway's own finding: the table has no such gate */
 
-    uint8_t in[RECORD_LIMIT]; /* the record that is coming */
-    size_t in_len;
-    size_t lines_at, lines_end; /* application data in `in` that is not yet answered */
-    uint8_t message[TN_MESSAGE_LIMIT];
-    size_t message_len;
-    unsigned long messages; /* that came whole */
+    size_t lines_at, lines_end;   /* application data in the channel's `in` that is not yet answered */
+    unsigned long messages;       /* that came whole */
     uint8_t line[LINE_LIMIT + 1]; /* room for a CR */
     size_t line_len;
     unsigned long lines; /* that ended, empty ones too */
-    uint8_t out[OUT_SIZE];
-    size_t out_at, out_end;
     uint8_t memory[TN_RECORD_MEMORY]; /* the library's, where it reads the records; last, since it is not cleared */
 };
 
 /* Makes a connection that awaits a ClientHello; false where the system has no randomness or the library refuses the settings. */
 bool connection_start(struct connection *c, const struct settings *settings);
 
-/* How many bytes may be read into c->in + c->in_len now; 0: none until something was sent, or none at all. */
+/* How many bytes may be read into the channel's in + in_len now; 0: none until something was sent, or none at all. */
 size_t connection_wants(const struct connection *c);
 
-/* So many bytes of those came; true where they ended a record. */
+/* So many bytes of those came; true where they ended a record, or one that is refused. */
 bool connection_received(struct connection *c, const struct settings *settings, size_t n);
 
-/* So many bytes from c->out + c->out_at on were sent. */
+/* So many bytes from the channel's out + out_at on were sent. */
 void connection_sent(struct connection *c, size_t n);
 
 /* Ends the connection from our side, with close_notify. */

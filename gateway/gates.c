@@ -5,17 +5,18 @@
  */
 #include <ctype.h>
 #include <errno.h>
-#include <fcntl.h>
 #include <signal.h>
-#include <stdarg.h>
 #include <stdio.h>
 #include <string.h>
 #include <unistd.h>
 
 #include "entropy.h"
+#include "streams.h"
 #include "table_file.h"
 #include "table_text.h"
 #include "wipe.h"
+
+const char program_name[] = "gates";
 
 enum { DONE = 0, FAILED = 1, MISUSED = 2, REFUSED = 10 }; /* exit statuses; REFUSED + n is the library's refusal Rn */
 enum { DRAWN_SIZE = 32 };                                 /* of a key that is drawn */
@@ -79,20 +80,6 @@ struct key {
     size_t n;
     bool drawn;
 };
-
-/* One sentence on standard error; gives the status. */
-static int say(int status, const char *format, ...) __attribute__((format(printf, 2, 3)));
-
-static int say(int status, const char *format, ...)
-{
-    va_list words;
-    va_start(words, format);
-    fputs("gates: ", stderr);
-    vfprintf(stderr, format, words);
-    fputs("\n", stderr);
-    va_end(words);
-    return status;
-}
 
 /* ---- the command line */
 
@@ -320,16 +307,6 @@ static int edit(const struct request *r, const struct key *key, struct table_fil
 }
 
 /* ---- the program */
-
-/* Where standard input, output or error is closed, something takes its place that can't be written: a file that is opened later must not be taken for
- * it. */
-static bool hold_streams(void)
-{
-    int fd;
-    while ((fd = open("/dev/null", O_RDONLY | O_CLOEXEC)) >= 0 && fd <= STDERR_FILENO)
-        continue;
-    return fd >= 0 && close(fd) == 0;
-}
 
 /* Its frame is below main's, and so among those that main clears. */
 static __attribute__((noinline)) int serve(const struct request *r)

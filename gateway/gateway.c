@@ -13,10 +13,12 @@
 #include <unistd.h>
 
 #include "client.h"
+#include "clock.h"
 #include "entropy.h"
 #include "listener.h"
 #include "log.h"
 #include "report.h"
+#include "settings.h"
 #include "table.h"
 #include "wipe.h"
 #include "work.h"
@@ -111,10 +113,10 @@ static void take_in(int listener)
 /* What is odd about a table that is well formed. */
 static void warn(const struct table *table)
 {
-    if (table->marked)
-        log_line("warning: %s begins with a byte order mark, which counts as part of the first gate's name", options.table);
-    if (table->readable)
-        log_line("warning: %s has keys and can be read by others than its owner: chmod 600", options.table);
+    const char *says[TABLE_WARNINGS];
+    size_t n = table_warnings(table, says);
+    for (size_t i = 0; i < n; i++)
+        log_line("warning: %s %s", options.table, says[i]);
 }
 
 /* Whoever logged in by a line that the new table has not loses its connection. A login that is between naming its gate and its end was judged by the old

@@ -14,6 +14,8 @@
 #include <time.h>
 #include <unistd.h>
 
+#include "clock.h"
+
 enum { ROOM = 65536, FINISH_MS = 500, STAMP = sizeof "2026-01-31T23:59:59.999Z " };
 
 /* How standard output is written to: it may be shared with other programs, so its own mode is left alone. */
@@ -28,13 +30,6 @@ static size_t kept_from, kept_to;
 static unsigned long dropped;
 static int output = STDOUT_FILENO;
 static enum way way = WAY_DIRECT;
-
-int64_t milliseconds(void)
-{
-    struct timespec now;
-    clock_gettime(CLOCK_MONOTONIC, &now);
-    return (int64_t)now.tv_sec * 1000 + now.tv_nsec / 1000000;
-}
 
 void log_start(void)
 {

@@ -24,9 +24,6 @@ void log_flush(void);
 /* Writes what is left, for at most half a second. */
 void log_finish(void);
 
-/* Milliseconds of a clock that only goes forward. */
-int64_t milliseconds(void);
-
 /* How many lines of a kind were said in the current second, and how many were not. */
 struct pace {
     int64_t begun; /* of that second, in milliseconds */

@@ -1,14 +1,13 @@
 /* The gateway's command line. */
 #include "options.h"
 
-#include <errno.h>
-#include <getopt.h>
-#include <stdbool.h>
-#include <stdio.h>
-#include <stdlib.h>
+#include <stddef.h>
 #include <string.h>
 
+#include "streams.h"
 #include "turretnail.h"
+
+const char program_name[] = "gateway";
 
 static const char help[] =
     "usage: gateway --table FILE [OPTION..]\n"
@@ -41,7 +40,7 @@ static const char help[] =
     "\n"
     "SIGINT or SIGTERM stops it.\n";
 
-enum { ADDRESS = 1000, PORT, TABLE, HINT, RULE, RECORDS, HIDE_DELAY, ONCE, HANDSHAKE, IDLE, CLIENTS, PER_ADDRESS, PER_GATE, FAILED_LINES, VERSION, HELP = 'h' };
+enum { ADDRESS = 1000, PORT, TABLE, HINT, RULE, RECORDS, HIDE_DELAY, ONCE, HANDSHAKE, IDLE, CLIENTS, PER_ADDRESS, PER_GATE, FAILED_LINES };
 
 static const struct option names[] = {
     {"address", required_argument, NULL, ADDRESS},
@@ -58,25 +57,10 @@ static const struct option names[] = {
     {"per-address", required_argument, NULL, PER_ADDRESS},
     {"per-gate", required_argument, NULL, PER_GATE},
     {"failed-lines", required_argument, NULL, FAILED_LINES},
-    {"version", no_argument, NULL, VERSION},
-    {"help", no_argument, NULL, HELP},
+    {"version", no_argument, NULL, ARGUMENT_VERSION},
+    {"help", no_argument, NULL, ARGUMENT_HELP},
     {NULL, 0, NULL, 0},
 };
-
-static const char where[] = "; --help lists the options";
-
-/* A decimal number from least to most, digits only. */
-static bool number(const char *name, const char *text, unsigned long least, unsigned long most, unsigned long *value)
-{
-    char *end;
-    errno = 0;
-    *value = strtoul(text, &end, 10);
-    bool digits = text[0] != '\0' && strspn(text, "0123456789") == strlen(text);
-    if (digits && errno == 0 && *value >= least && *value <= most)
-        return true;
-    fprintf(stderr, "gateway: --%s: '%s' is no number from %lu to %lu%s\n", name, text, least, most, where);
-    return false;
-}
 
 static bool rule(const char *text, uint8_t *value)
 {
@@ -84,43 +68,30 @@ static bool rule(const char *text, uint8_t *value)
         *value = TN_RULE_TELL;
     else if (strcmp(text, "hide") == 0)
         *value = TN_RULE_HIDE;
-    else {
-        fprintf(stderr, "gateway: --rule: '%s' is neither tell nor hide%s\n", text, where);
-        return false;
-    }
+    else
+        return argument_wrong("--rule: '%s' is neither tell nor hide", text);
     return true;
 }
 
 static bool records(const char *text, bool *proved)
 {
     *proved = strcmp(text, "proved") == 0;
-    if (*proved || strcmp(text, "libcrypto") == 0)
-        return true;
-    fprintf(stderr, "gateway: --records: '%s' is neither libcrypto nor proved%s\n", text, where);
-    return false;
-}
-
-static bool seconds(const char *name, const char *text, unsigned *value)
-{
-    unsigned long n;
-    if (!number(name, text, 1, 86400, &n))
-        return false;
-    *value = (unsigned)n;
-    return true;
+    return *proved || strcmp(text, "libcrypto") == 0 || argument_wrong("--records: '%s' is neither libcrypto nor proved", text);
 }
 
 static bool port(const char *text, uint16_t *value)
 {
     unsigned long n;
-    if (!number("port", text, 0, 65535, &n))
+    if (!argument_number("port", text, 0, 65535, &n))
         return false;
     *value = (uint16_t)n;
     return true;
 }
 
 /* One option with its argument. */
-static bool take(struct options *o, int which, const char *text)
+static bool take(void *options, int which, const char *text)
 {
+    struct options *o = options;
     switch (which) {
     case ADDRESS: o->address = text; return true;
     case TABLE: o->table = text; return true;
@@ -128,37 +99,25 @@ static bool take(struct options *o, int which, const char *text)
     case PORT: return port(text, &o->port);
     case RULE: return rule(text, &o->rule);
     case RECORDS: return records(text, &o->proved_records);
-    case ONCE: return number("once", text, 1, 1000000000, &o->once);
-    case HANDSHAKE: return seconds("handshake-timeout", text, &o->handshake_seconds);
-    case IDLE: return seconds("idle-timeout", text, &o->idle_seconds);
-    case CLIENTS: return number("clients", text, 1, 16384, &o->clients);
-    case PER_ADDRESS: return number("per-address", text, 1, 16384, &o->per_address);
-    case HIDE_DELAY: return number("hide-delay", text, 0, 1000, &o->hide_ms);
-    case PER_GATE: return number("per-gate", text, 1, 16384, &o->per_gate);
-    case FAILED_LINES: return number("failed-lines", text, 0, 1000000, &o->failed_lines);
+    case ONCE: return argument_number("once", text, 1, 1000000000, &o->once);
+    case HANDSHAKE: return argument_seconds("handshake-timeout", text, &o->handshake_seconds);
+    case IDLE: return argument_seconds("idle-timeout", text, &o->idle_seconds);
+    case CLIENTS: return argument_number("clients", text, 1, 16384, &o->clients);
+    case PER_ADDRESS: return argument_number("per-address", text, 1, 16384, &o->per_address);
+    case HIDE_DELAY: return argument_number("hide-delay", text, 0, 1000, &o->hide_ms);
+    case PER_GATE: return argument_number("per-gate", text, 1, 16384, &o->per_gate);
+    case FAILED_LINES: return argument_number("failed-lines", text, 0, 1000000, &o->failed_lines);
     default: return false;
     }
-}
-
-/* getopt_long's complaint in our own words: a single letter is in optopt, a long option is the last word that was looked at. */
-static void complain(int which, const char *word)
-{
-    char letter[] = {'-', (char)optopt, '\0'};
-    bool single = which == '?' && optopt > 0 && optopt < 128 && optopt != HELP;
-    fprintf(stderr, "gateway: '%s' %s%s\n", single ? letter : word, which == ':' ? "needs a value" : "is not understood", where);
 }
 
 /* Whether all that is needed was given, and nothing else. */
 static bool whole(struct options *o, int count, char **words)
 {
-    if (optind < count) {
-        fprintf(stderr, "gateway: '%s' is no option%s\n", words[optind], where);
-        return false;
-    }
-    if (!o->table) {
-        fprintf(stderr, "gateway: which gates? Give --table FILE%s\n", where);
-        return false;
-    }
+    if (optind < count)
+        return argument_wrong("'%s' is no option", words[optind]);
+    if (!o->table)
+        return argument_wrong("which gates? Give --table FILE");
     if (o->per_address == 0)
         o->per_address = (o->clients + 1) / 2;
     return true;
@@ -168,18 +127,6 @@ enum reading options_read(struct options *o, int count, char **words)
 {
     *o = (struct options){.address = "127.0.0.1", .port = 4433, .hint = "", .rule = TN_RULE_NONE, .hide_ms = 5, .handshake_seconds = 10,
                           .idle_seconds = 300, .clients = 512, .per_gate = 8, .failed_lines = 20};
-    opterr = 0;
-    for (int which; (which = getopt_long(count, words, ":h", names, NULL)) != -1;) {
-        if (which == HELP || which == VERSION) {
-            fputs(which == HELP ? help : "gateway of turretnail " TN_VERSION "\n", stdout);
-            return OPTIONS_HELP;
-        }
-        if (which == '?' || which == ':') {
-            complain(which, words[optind - 1]);
-            return OPTIONS_WRONG;
-        }
-        if (!take(o, which, optarg))
-            return OPTIONS_WRONG;
-    }
-    return whole(o, count, words) ? OPTIONS_READ : OPTIONS_WRONG;
+    enum reading reading = arguments_read(count, words, names, help, take, o);
+    return reading != OPTIONS_READ || whole(o, count, words) ? reading : OPTIONS_WRONG;
 }

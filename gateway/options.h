@@ -5,6 +5,8 @@
 #include <stdbool.h>
 #include <stdint.h>
 
+#include "arguments.h"
+
 struct options {
     const char *address;
     uint16_t port;
@@ -22,9 +24,7 @@ struct options {
     unsigned long failed_lines; /* on logins that failed, in a second */
 };
 
-enum reading { OPTIONS_READ, OPTIONS_HELP, OPTIONS_WRONG };
-
-/* Reads the command line. OPTIONS_HELP: help or version was asked for and printed. OPTIONS_WRONG: a line on standard error says what is wrong. */
+/* Reads the command line. */
 enum reading options_read(struct options *options, int count, char **words);
 
 #endif

@@ -4,22 +4,14 @@
 #include <stdarg.h>
 #include <stdio.h>
 
+#include "alerts.h"
+#include "clock.h"
 #include "log.h"
 
-/* The names of RFC 5246 section 7.2 and of the registry that has grown from it; 115 is RFC 4279's unknown_psk_identity, in the station's word. */
-static const char *alert_name(uint8_t alert)
+/* Its name; 115 is unknown_psk_identity, in the station's word. */
+static const char *name_of(uint8_t alert)
 {
-    static const char *const names[256] = {
-        [0] = "close_notify", [10] = "unexpected_message", [20] = "bad_record_mac", [21] = "decryption_failed", [22] = "record_overflow",
-        [30] = "decompression_failure", [40] = "handshake_failure", [41] = "no_certificate", [42] = "bad_certificate", [43] = "unsupported_certificate",
-        [44] = "certificate_revoked", [45] = "certificate_expired", [46] = "certificate_unknown", [47] = "illegal_parameter", [48] = "unknown_ca",
-        [49] = "access_denied", [50] = "decode_error", [51] = "decrypt_error", [60] = "export_restriction", [70] = "protocol_version",
-        [71] = "insufficient_security", [80] = "internal_error", [86] = "inappropriate_fallback", [90] = "user_canceled", [100] = "no_renegotiation",
-        [109] = "missing_extension", [110] = "unsupported_extension", [111] = "certificate_unobtainable", [112] = "unrecognized_name",
-        [113] = "bad_certificate_status_response", [114] = "bad_certificate_hash_value", [115] = "unknown gate", [116] = "certificate_required",
-        [120] = "no_application_protocol",
-    };
-    return names[alert] ? names[alert] : "";
+    return alert == TN_ALERT_UNKNOWN_PSK_IDENTITY ? "unknown gate" : alert_name(alert);
 }
 
 /* The character at p, whose bytes are valid UTF-8; *size its length. */
@@ -87,7 +79,7 @@ static void add_identity(struct line *line, const struct connection *c)
 
 static void add_alert(struct line *line, const char *front, uint8_t alert)
 {
-    const char *name = alert_name(alert);
+    const char *name = name_of(alert);
     add(line, "%s %u%s%s", front, (unsigned)alert, name[0] ? " " : "", name);
 }
 

@@ -1,15 +1,6 @@
 /* The rest of a login after its ClientKeyExchange, under the rule hide. */
 #include "rest.h"
 
-#include <time.h>
-
-int64_t nanoseconds(void)
-{
-    struct timespec now;
-    clock_gettime(CLOCK_MONOTONIC, &now);
-    return (int64_t)now.tv_sec * 1000000000 + now.tv_nsec;
-}
-
 int64_t rest_end(int64_t came, int64_t now, int64_t tick)
 {
     int64_t ticks = (now - came + tick - 1) / tick;

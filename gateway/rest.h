@@ -9,12 +9,12 @@
 #include <stdbool.h>
 #include <stdint.h>
 
+#include "clock.h"
+
 /* Of one connection, in nanoseconds of the monotonic clock; cleared: it has not rested yet. */
 struct rest {
     int64_t until;
 };
-
-int64_t nanoseconds(void);
 
 /* The first whole tick since `came` that is not before `now`; at least one. */
 int64_t rest_end(int64_t came, int64_t now, int64_t tick);

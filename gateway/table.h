@@ -4,9 +4,10 @@
 
 #include <stdbool.h>
 #include <stddef.h>
+#include <stdint.h>
 
-#include "connection.h"
 #include "table_text.h"
+#include "turretnail.h"
 
 /* A well-formed table that was read and is not yet in force. */
 struct table {
@@ -18,17 +19,13 @@ struct table {
     bool readable; /* by others than its owner */
 };
 
+enum { TABLE_WARNINGS = 2 };
+
 /* Reads the file whole, tests it and makes its list. False where that can't be done; `why` then says what is wrong, and the table is cleared. A table may come
  * through a pipe, but not again: nobody can say how long that takes, and an empty one would retire all gates. */
 bool table_read(struct table *table, const char *file, bool again, char why[TABLE_SENTENCE]);
 
-/* Puts the table into force with its list, and clears the one before and the memory that it was read into. */
-void table_use(struct settings *settings, struct table *table);
-
-/* Whether the gate has the same key in the table that is in force and in the one that was read. */
-bool table_keeps(const struct settings *settings, const struct table *fresh, const uint8_t *identity, size_t n);
-
-/* Whether the table in force lists the gate. */
-bool table_lists(const struct settings *settings, const uint8_t *identity, size_t n);
+/* What is odd about a table that is well formed, to be said behind its file's name; how many. */
+size_t table_warnings(const struct table *table, const char *says[TABLE_WARNINGS]);
 
 #endif

@@ -18,6 +18,8 @@
 #include <time.h>
 #include <unistd.h>
 
+#include "streams.h"
+
 #ifndef LOCK_SECONDS
 #define LOCK_SECONDS 10 /* so long a lock is waited for; a test can't wait as long */
 #endif
@@ -130,17 +132,6 @@ bool table_file_take(struct table_file *f, const char *name, bool make)
 }
 
 /* ---- replacing */
-
-bool write_whole(int fd, const void *bytes, size_t n)
-{
-    for (size_t at = 0; at < n;) {
-        ssize_t written = write(fd, (const char *)bytes + at, n - at);
-        if (written <= 0)
-            return false;
-        at += (size_t)written;
-    }
-    return true;
-}
 
 /* Gives the new file the old one's access list, or none where the old one has none: what it has from its folder could let in others. */
 static bool same_access_list(int from, int to)

@@ -46,7 +46,4 @@ bool table_file_replace(struct table_file *f);
 /* Closes what is open, and with it ends the lock, and clears all. */
 void table_file_leave(struct table_file *f);
 
-/* Writes all n bytes. */
-bool write_whole(int fd, const void *bytes, size_t n);
-
 #endif

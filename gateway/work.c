@@ -17,8 +17,8 @@ static int64_t allowed; /* nanoseconds */
 static void hand(struct connection *c, const struct settings *settings, const uint8_t *message, size_t n)
 {
     const uint8_t header[RECORD_HEADER] = {RECORD_HANDSHAKE, 3, 3, (uint8_t)(n >> 8), (uint8_t)n};
-    memcpy(c->in, header, sizeof header);
-    memcpy(c->in + sizeof header, message, n);
+    memcpy(c->channel.in, header, sizeof header);
+    memcpy(c->channel.in + sizeof header, message, n);
     (void)connection_received(c, settings, sizeof header + n);
 }
 

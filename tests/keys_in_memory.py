@@ -1,12 +1,13 @@
 #!/usr/bin/env python3
-"""Looks for known keys in the gateway's memory, from outside: no key may outlive its use.
+"""Looks for known keys in the memory of the gateway and of the gate, from outside: no key may outlive its use.
 
-    tests/keys_in_memory.py GATEWAY CARELESS
+    tests/keys_in_memory.py GATEWAY CARELESS GATE CARELESS_GATE
 
 In GATEWAY nothing may be left after a session, after a failed login and after a gate was retired. CARELESS is the same program without what clears the stack
-(tests/no_wipe.c): there keys have to be found, so that the test is seen to work.
+(tests/no_wipe.c): there keys have to be found, so that the test is seen to work. GATE is looked at while it waits, since it ends with its session;
+CARELESS_GATE clears nothing at all.
 
-The gateway lets nobody look into it, so its memory is opened at exec, before its first instruction, by the parent that traces it. That takes no privilege.
+Neither lets anybody look into it, so its memory is opened at exec, before its first instruction, by the parent that traces it. That takes no privilege.
 """
 import contextlib
 import ctypes
@@ -22,9 +23,10 @@ import tempfile
 import time
 
 from harness import GATEWAY, LIMIT, Gateway, proved_records, until
-from plain_client import HANDSHAKE, Client, prf
+from plain_client import ALERT, DATA, HANDSHAKE, Client, message, prf
+from plain_server import Server, listening
 
-CARELESS = sys.argv[2]
+CARELESS, GATE, CARELESS_GATE = sys.argv[2:5]
 PIECE = 8  # so many bytes of a secret in a row count as found, from every fourth place on
 TRACE_ME, DETACH = 0, 17  # of ptrace
 DROP, SYS_PTRACE = 24, 19  # PR_CAPBSET_DROP of prctl, and the capability
@@ -33,7 +35,7 @@ LIBC.ptrace.argtypes = [ctypes.c_long, ctypes.c_long, ctypes.c_void_p, ctypes.c_
 LIBC.ptrace.restype = ctypes.c_long
 
 
-# ---- a gateway whose memory is read
+# ---- a program whose memory is read
 
 def traced():
     LIBC.ptrace(TRACE_ME, 0, None, None)
@@ -42,7 +44,7 @@ def traced():
 def watch(process):
     """The process stands at its exec: opens its memory and lets it go."""
     _, status = os.waitpid(process.pid, 0)
-    assert os.WIFSTOPPED(status), f"the gateway can't be traced: status {status}"
+    assert os.WIFSTOPPED(status), f"the program can't be traced: status {status}"
     process.memory = os.open(f"/proc/{process.pid}/mem", os.O_RDONLY | os.O_CLOEXEC)
     process.maps = open(f"/proc/{process.pid}/maps")
     LIBC.ptrace(DETACH, process.pid, None, None)
@@ -230,14 +232,125 @@ def plain_user():
     LIBC.prctl(DROP, SYS_PTRACE, 0, 0, 0)
 
 
-def closed_to_others(program):
-    """Whether a process of the same user is kept from its memory, and whether it makes no core dump."""
-    g = Gateway(program=program, preexec_fn=plain_user)
-    opened = subprocess.run(["dd", f"if=/proc/{g.process.pid}/mem", "count=0"], capture_output=True, text=True, preexec_fn=plain_user)
+def closed(pid):
+    """Whether a process of the same user is kept from this one's memory, and whether it makes no core dump."""
+    opened = subprocess.run(["dd", f"if=/proc/{pid}/mem", "count=0"], capture_output=True, text=True, preexec_fn=plain_user)
     assert opened.returncode == 0 or "Permission denied" in opened.stderr, opened.stderr
-    core = resource.prlimit(g.process.pid, resource.RLIMIT_CORE)
+    return opened.returncode != 0, resource.prlimit(pid, resource.RLIMIT_CORE) == (0, 0)
+
+
+def closed_to_others(program):
+    """The same of a gateway."""
+    g = Gateway(program=program, preexec_fn=plain_user)
+    found_then = closed(g.process.pid)
     g.stop()
-    return opened.returncode != 0, core == (0, 0)
+    return found_then
+
+
+# ---- the gate
+
+class Gate:
+    """The gate, logging in as gate7 with this key, whose memory is read, or which is only run."""
+
+    def __init__(self, program, key, port, folder, **more):
+        file = pathlib.Path(folder) / "gate.psk"
+        file.write_text(f"gate7:{key.hex()}\n")
+        file.chmod(0o600)
+        self.process = subprocess.Popen([program, "--keys", file, f"127.0.0.1:{port}"], stdin=subprocess.PIPE, stdout=subprocess.PIPE,
+                                        stderr=subprocess.DEVNULL, **more)
+
+    def enrol(self):
+        self.process.stdin.write(b"cow 1\n")
+        self.process.stdin.flush()
+
+    def end(self):
+        self.process.kill()
+        self.process.wait(LIMIT)
+        self.process.stdin.close()
+        self.process.stdout.close()
+
+
+@contextlib.contextmanager
+def gate_and_server(program, key, watched=True):
+    """A gate and the server of ours that it has connected to."""
+    with tempfile.TemporaryDirectory() as folder, listening(LIMIT) as listener:
+        g = Gate(program, key, listener.getsockname()[1], folder, preexec_fn=traced if watched else plain_user)
+        if watched:
+            watch(g.process)
+        try:
+            yield g, Server(listener.accept()[0], key, LIMIT)
+        finally:
+            g.end()
+            if watched:
+                os.close(g.process.memory)
+                g.process.maps.close()
+
+
+def gate_login(g, s, key):
+    """Up to where the gate awaits the server's change of cipher; what is found while it awaits a ServerHello, and then, and what it knows. What it has sent
+    it sent after clearing."""
+    first = {"raw key": key, "line": key.hex().encode()}
+    s.hear_hello()
+    waiting = found(g, first)
+    s.send(HANDSHAKE, s.said(s.hello() + message(14, b"")))
+    s.hear_finish()
+    known = {**secrets_of(key, s.master, s.next_reading[0] + s.next_writing[0]), "line": first["line"]}
+    return waiting, found(g, known), known
+
+
+def gate_session(program, key):
+    """What is found amid a login, in the session when a line was answered, and when it has taken its leave and waits for the server to close."""
+    with gate_and_server(program, key) as (g, s):
+        waiting, amid, known = gate_login(g, s, key)
+        s.change()
+        s.send(HANDSHAKE, s.finished())
+        g.enrol()
+        assert s.receive() == (DATA, b"cow 1\n")
+        s.send(DATA, b"enrolled cow 1\n")
+        assert g.process.stdout.readline() == b"enrolled cow 1\n"
+        during = found(g, known)
+        g.process.stdin.close()
+        assert s.receive() == (ALERT, b"\x01\0")
+        return waiting, amid, during, found(g, known)
+
+
+def gate_failure(program, key, wrong):
+    """What is found when the gate has refused the server's Finished, whose value or MAC is wrong, and waits for the server to close."""
+    with gate_and_server(program, key) as (g, s):
+        known = gate_login(g, s, key)[2]
+        s.change()
+        if wrong == "MAC":
+            s.writing = (bytes(32), 0)
+        s.send(HANDSHAKE, s.finished() if wrong == "MAC" else message(20, bytes(12)))
+        assert s.receive() == (ALERT, b"\x02\x33")
+        return found(g, known)
+
+
+def careful_gate():
+    """While it logs in the library keeps what it needs, in a session its records' keys are kept, and after it nothing."""
+    for n in (16, 32, 64):
+        key = secrets.token_bytes(n)
+        waiting, amid, *rest = gate_session(GATE, key)
+        assert waiting == {"raw key"} and KEYS_IN_USE | {"master secret"} <= amid <= KEYS_IN_USE | {"master secret", "raw key"}, (waiting, amid)
+        assert rest == [KEYS_IN_USE, set()], f"in and after a session of the gate: {rest}"
+        for wrong in ("MAC", "value"):
+            assert not (names := gate_failure(GATE, key, wrong)), f"after a login of the gate with a wrong {wrong}: {names}"
+
+
+def careless_gate():
+    """The same test finds secrets where nothing is cleared."""
+    key = secrets.token_bytes(16)
+    *_, during, after = gate_session(CARELESS_GATE, key)
+    for when, names in {"in a session": during, "after it": after, "after a failed login": gate_failure(CARELESS_GATE, key, "value")}.items():
+        assert KEYS_IN_USE | {"line"} <= names, f"of a careless gate there is {when}: {names}"
+    return after
+
+
+def gate_closed(program):
+    """As closed_to_others, of a gate that waits for its server."""
+    with gate_and_server(program, secrets.token_bytes(16), watched=False) as (g, s):
+        s.hear_hello()
+        return closed(g.process.pid)
 
 
 def main():
@@ -250,7 +363,12 @@ def main():
         seen |= careless({"master secret"} | KEYS_IN_USE)  # the call that is given the raw key goes on to these, over the place where it stood
     assert closed_to_others(GATEWAY) == (True, True), "its memory can be dumped"
     assert closed_to_others(CARELESS)[0] is False, "a gateway that forbids nothing is closed to others too"
-    print(f"tests/keys_in_memory: no key outlives its use; without the clearing there are {', '.join(sorted(seen))} ({time.monotonic() - begun:.0f} s)")
+    careful_gate()
+    kept = careless_gate()
+    assert gate_closed(GATE) == (True, True), "the gate's memory can be dumped"
+    assert gate_closed(CARELESS_GATE)[0] is False, "a gate that forbids nothing is closed to others too"
+    print(f"tests/keys_in_memory: no key outlives its use; without the clearing there are in the gateway {', '.join(sorted(seen))}; in the gate "
+          f"{', '.join(sorted(kept))} ({time.monotonic() - begun:.0f} s)")
 
 
 main()

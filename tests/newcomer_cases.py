@@ -239,14 +239,14 @@ def nothing_there():
         assert text.startswith("gateway/prove: the library is proved by rt of the Rattle toolchain, which is not on the PATH: ") and text.count("\n") == 2, text
 
 
-@case("make install puts the gateway and gates in place too, pkg-config has the header's version, and make uninstall leaves nothing")
+@case("make install puts the gateway, the gate and gates in place too, pkg-config has the header's version, and make uninstall leaves nothing")
 def installed():
     with tempfile.TemporaryDirectory() as folder:
         there = pathlib.Path(folder) / "there"
         words = [f"PREFIX={there}", "DESTDIR="]
         text, _ = made(ROOT, "install", *words, path=os.environ["PATH"]).communicate(timeout=LIMIT)
         files = {str(f.relative_to(there)) for f in there.rglob("*") if f.is_file()}
-        programs = {"bin/turretnail-gateway", "bin/turretnail-gates"}
+        programs = {"bin/turretnail-gateway", "bin/turretnail-gate", "bin/turretnail-gates"}
         assert files == programs | {"include/turretnail.h", "lib/libturretnail.a", "lib/pkgconfig/turretnail.pc"}, (files, text)
         for program in programs:
             asked = Program([there / program, "--version"])
