@@ -2,7 +2,7 @@
  * The benchmark's main program:
  *
  *     bench           every case
- *     bench CASE..    hash, handshake, parts, hellos, logins, tables, edits, records, sessions or stack
+ *     bench CASE..    hash, handshake, client, parts, hellos, logins, tables, edits, records, sessions or stack
  *
  * BENCH_BEFORE is the path of the same program linked with an earlier library, where the cases hash and stack are to be compared with it.
  */
@@ -19,8 +19,9 @@ struct action {
 };
 
 static const struct action cases[] = {
-    {"hash", bench_hash}, {"handshake", bench_handshake}, {"parts", bench_parts}, {"hellos", bench_hellos}, {"logins", bench_logins},
-    {"tables", bench_tables}, {"edits", bench_edits}, {"records", bench_records}, {"sessions", bench_sessions}, {"stack", bench_stack},
+    {"hash", bench_hash}, {"handshake", bench_handshake}, {"client", bench_client}, {"parts", bench_parts}, {"hellos", bench_hellos},
+    {"logins", bench_logins}, {"tables", bench_tables}, {"edits", bench_edits}, {"records", bench_records}, {"sessions", bench_sessions},
+    {"stack", bench_stack},
 };
 
 static const struct action tasks[] = {{TASK_OUR_HASH, task_our_hash}, {TASK_OPENSSL_HASH, task_openssl_hash}, {TASK_STACK, task_stack}};
@@ -62,7 +63,7 @@ int main(int argc, char **argv)
     print_machine();
     stay_on_one_core();
     for (int i = 1; i < argc; i++)
-        run_named(cases, CASES, argv[i], "the cases are hash, handshake, parts, hellos, logins, tables, edits, records, sessions and stack");
+        run_named(cases, CASES, argv[i], "the cases are hash, handshake, client, parts, hellos, logins, tables, edits, records, sessions and stack");
     for (size_t i = 0; argc == 1 && i < CASES; i++)
         cases[i].run();
     return 0;

@@ -6,7 +6,7 @@
 # make bench BEFORE=REVISION the same with the library of a git revision, which is proved first, once for each commit: some minutes
 
 BENCH_FLAGS := -std=c11 -D_GNU_SOURCE -Wall -Wextra -Werror -O2 -Iinclude -Igateway
-BENCH_PARTS := $(filter-out bench/footprint.c,$(wildcard bench/*.c)) gateway/connection.c gateway/records.c gateway/entropy.c gateway/wipe.c
+BENCH_PARTS := $(filter-out bench/footprint.c,$(wildcard bench/*.c)) $(addprefix gateway/,connection.c gate_session.c channel.c records.c entropy.c wipe.c)
 BENCH_HEADERS := $(wildcard bench/*.h) $(wildcard gateway/*.h) include/turretnail.h
 BENCH_PACKAGES := libmbedtls-dev libssl-dev libgnutls28-dev $(if $(shell command -v python3),,python3)
 BENCH_LIBRARIES := -lmbedtls -lmbedx509 -lmbedcrypto -lgnutls -lssl -lcrypto -lpthread

@@ -4,6 +4,7 @@
 
 void bench_hash(void);
 void bench_handshake(void);
+void bench_client(void);
 void bench_parts(void);
 void bench_hellos(void);
 void bench_logins(void);

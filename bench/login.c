@@ -1,4 +1,4 @@
-/* A client of the library's own kind. Hashes of the transcript are OpenSSL's. */
+/* A login at the library's server. The client's hashes of the transcript are OpenSSL's. */
 #include "login.h"
 
 #include <openssl/sha.h>
@@ -120,17 +120,28 @@ static void count_up(uint8_t random[TN_RANDOM_SIZE])
         i++;
 }
 
-double login_sample(struct login *l, const struct serving *s)
+int login_hello_set(struct login *l)
 {
+    return l->hello_len > 0;
+}
+
+/* A login on its way. */
+struct passage {
+    struct login *login;
+    const struct course *course;
+};
+
+static void take(void *state, size_t step)
+{
+    static const char *const failures[STEPS] = {"our client has no hello", "our server refuses the hello", "our client refuses the server's flight",
+                                                "our server refuses the client's flight", "our handshake fails"};
+    const struct passage *p = state;
+    must(p->course->steps[step](p->login), failures[step]);
+}
+
+double login_sample(struct login *l, const struct course *c, uint8_t side)
+{
+    struct passage p = {l, c};
     count_up(l->random);
-    double from = now();
-    int opened = s->open(l);
-    double taken = now() - from;
-    must(opened, "our server refuses the hello");
-    s->finish(l);
-    from = now();
-    int closed = s->close(l);
-    taken += now() - from;
-    must(closed && s->agrees(l), "our handshake fails");
-    return taken;
+    return time_of_side(side, take, &p);
 }

@@ -1,10 +1,12 @@
-/* A client of the library's own kind, over messages without records: what it sends in one login, and what the server's answers have to be. */
+/* A login at the library's server, over messages without records: what a client sends, put together by calls on layouts and secrets, and what the server's
+ * answers have to be. */
 #ifndef BENCH_LOGIN_H
 #define BENCH_LOGIN_H
 
 #include <stddef.h>
 #include <stdint.h>
 
+#include "steps.h"
 #include "turretnail.h"
 
 enum { KEY_EXCHANGE_LIMIT = 6 + TN_IDENTITY_LIMIT };
@@ -54,15 +56,15 @@ void login_master(const struct login *l, const uint8_t *key, size_t key_len, uin
 void login_finish(struct login *l, const uint8_t *key, size_t key_len);
 int login_agrees(const struct login *l, const uint8_t *key, size_t key_len);
 
-/* How one login is served: the server's calls up to its flight, what the client does then, the server's other calls, and whether both sides agree. */
-struct serving {
-    int (*open)(struct login *l);
-    void (*finish)(struct login *l);
-    int (*close)(struct login *l);
-    int (*agrees)(struct login *l);
+/* How one login goes, step by step (steps.h); each gives whether all went well. */
+struct course {
+    int (*steps[STEPS])(struct login *l);
 };
 
-/* One login with another random: the nanoseconds of the server's calls. */
-double login_sample(struct login *l, const struct serving *s);
+/* The client's first step where its hello was set before. */
+int login_hello_set(struct login *l);
+
+/* One login with another random of the server: the nanoseconds of the calls of one side. */
+double login_sample(struct login *l, const struct course *c, uint8_t side);
 
 #endif

@@ -92,7 +92,7 @@ double sample_part(void *state)
     return taken;
 }
 
-/* The measure of the parts: 256 blocks and one of padding. */
+/* The measure of the calls: 256 blocks and one of padding. */
 static double sample_block(void *state)
 {
     static const uint8_t message[256 * 64];
@@ -105,21 +105,28 @@ static double sample_block(void *state)
     return taken / 257;
 }
 
-void bench_parts(void)
+void time_calls(const char *title, struct part *calls, size_t n)
 {
-    enum { BLOCK = PARTS, SUBJECTS };
-    static struct subject subjects[SUBJECTS];
-    parts_prepare();
-    for (size_t i = 0; i < PARTS; i++)
-        subjects[i] = (struct subject){.name = parts[i].name, .sample = sample_part, .state = &parts[i]};
-    subjects[BLOCK] = (struct subject){.name = "one block of SHA-256, in a message of 16 KiB", .sample = sample_block};
-    heading("The calls of our handshake, microseconds");
-    printf("  the hello has %zu bytes\n", login.hello_len);
-    measure(subjects, SUBJECTS, SAMPLES);
-    for (size_t i = 0; i < SUBJECTS; i++) {
+    static struct subject subjects[TIMED_LIMIT + 1];
+    struct subject *block = &subjects[n];
+    must(n <= TIMED_LIMIT, "too many calls");
+    for (size_t i = 0; i < n; i++)
+        subjects[i] = (struct subject){.name = calls[i].name, .sample = sample_part, .state = &calls[i]};
+    *block = (struct subject){.name = "one block of SHA-256, in a message of 16 KiB", .sample = sample_block};
+    heading(title);
+    measure(subjects, n + 1, SAMPLES);
+    for (size_t i = 0; i <= n; i++) {
         print_time(&subjects[i], 1000, "us");
-        if (i != BLOCK)
-            print_ratio("in blocks", &subjects[i], &subjects[BLOCK]);
+        if (i < n)
+            print_ratio("in blocks", &subjects[i], block);
         printf("\n");
     }
+}
+
+void bench_parts(void)
+{
+    char title[96];
+    parts_prepare();
+    snprintf(title, sizeof title, "The calls of our handshake, for a hello of %zu bytes, microseconds", login.hello_len);
+    time_calls(title, parts, PARTS);
 }

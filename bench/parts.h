@@ -2,6 +2,7 @@
 #ifndef BENCH_PARTS_H
 #define BENCH_PARTS_H
 
+#include <stddef.h>
 #include <stdint.h>
 
 struct part {
@@ -19,5 +20,9 @@ void parts_prepare(void);
 
 /* The time of a part's call, which is the state. */
 double sample_part(void *state);
+
+/* Measures and prints the times of some calls, and each in blocks of our hash, under a heading. */
+enum { TIMED_LIMIT = 8 };
+void time_calls(const char *title, struct part *calls, size_t n);
 
 #endif

@@ -1,4 +1,4 @@
-/* GnuTLS's server, with push and pull over memory. */
+/* GnuTLS's ends, with push and pull over memory. */
 #include <errno.h>
 #include <gnutls/gnutls.h>
 #include <string.h>
@@ -27,6 +27,8 @@ void start_gnutls(void)
 {
     uint8_t bytes[PEER_KEY_SIZE];
     const gnutls_datum_t key = {bytes, sizeof bytes};
+    if (priority != NULL)
+        return;
     memcpy(bytes, peer_key, sizeof bytes);
     must(gnutls_psk_allocate_server_credentials(&server_credentials) == 0 && gnutls_psk_allocate_client_credentials(&client_credentials) == 0
              && gnutls_psk_set_client_credentials(client_credentials, PEER_IDENTITY, &key, GNUTLS_PSK_KEY_RAW) == 0
@@ -48,12 +50,6 @@ const char *version_of_gnutls(void)
     return gnutls_check_version(NULL);
 }
 
-/* One end: where it reads, and where it writes. */
-struct end {
-    gnutls_session_t session;
-    struct wire *in, *out;
-};
-
 static ssize_t push(gnutls_transport_ptr_t state, const void *bytes, size_t n)
 {
     const struct end *e = state;
@@ -66,39 +62,45 @@ static ssize_t pull(gnutls_transport_ptr_t state, void *bytes, size_t n)
     size_t size = wire_take(e->in, bytes, n);
     if (size > 0)
         return (ssize_t)size;
-    gnutls_transport_set_errno(e->session, EAGAIN);
+    gnutls_transport_set_errno(e->connection, EAGAIN);
     return -1;
 }
 
-static void connect_end(struct end *e, unsigned int side, void *credentials)
+static void open_end(struct end *e, unsigned int side, void *credentials)
 {
-    must(gnutls_init(&e->session, side | GNUTLS_NONBLOCK) == 0 && gnutls_priority_set(e->session, priority) == 0
-             && gnutls_credentials_set(e->session, GNUTLS_CRD_PSK, credentials) == 0,
+    gnutls_session_t session;
+    must(gnutls_init(&session, side | GNUTLS_NONBLOCK) == 0 && gnutls_priority_set(session, priority) == 0
+             && gnutls_credentials_set(session, GNUTLS_CRD_PSK, credentials) == 0,
          "GnuTLS's connection");
-    gnutls_transport_set_ptr(e->session, e);
-    gnutls_transport_set_push_function(e->session, push);
-    gnutls_transport_set_pull_function(e->session, pull);
+    gnutls_transport_set_ptr(session, e);
+    gnutls_transport_set_push_function(session, push);
+    gnutls_transport_set_pull_function(session, pull);
+    e->connection = session;
 }
 
-double sample_gnutls(void *state)
+static void open_server(struct end *e)
 {
-    struct wire up = {.end = 0}, down = {.end = 0};
-    struct end server = {NULL, &up, &down}, client = {NULL, &down, &up};
-    connect_end(&client, GNUTLS_CLIENT, client_credentials);
-    (void)gnutls_handshake(client.session);
-    double from = now();
-    connect_end(&server, GNUTLS_SERVER, state != NULL ? state : server_credentials);
-    (void)gnutls_handshake(server.session);
-    double taken = now() - from;
-    (void)gnutls_handshake(client.session);
-    from = now();
-    int failed = gnutls_handshake(server.session);
-    taken += now() - from;
-    must(failed == 0 && gnutls_handshake(client.session) == 0, "GnuTLS's handshake fails");
-    must(gnutls_kx_get(server.session) == GNUTLS_KX_PSK && gnutls_mac_get(server.session) == GNUTLS_MAC_SHA256
-             && gnutls_cipher_get(server.session) == GNUTLS_CIPHER_AES_128_CBC,
-         "GnuTLS's suite is another");
-    gnutls_deinit(server.session);
-    gnutls_deinit(client.session);
-    return taken;
+    open_end(e, GNUTLS_SERVER, e->keys != NULL ? e->keys : server_credentials);
 }
+
+static void open_client(struct end *e)
+{
+    open_end(e, GNUTLS_CLIENT, client_credentials);
+}
+
+static int go_on(struct end *e)
+{
+    return gnutls_handshake(e->connection) == 0;
+}
+
+static void close_end(struct end *e)
+{
+    gnutls_session_t session = e->connection;
+    must(gnutls_kx_get(session) == GNUTLS_KX_PSK && gnutls_mac_get(session) == GNUTLS_MAC_SHA256
+             && gnutls_cipher_get(session) == GNUTLS_CIPHER_AES_128_CBC,
+         "GnuTLS's suite is another");
+    gnutls_deinit(session);
+}
+
+const struct kind gnutls_server = {open_server, go_on, close_end, "the handshake of GnuTLS's server fails"};
+const struct kind gnutls_client = {open_client, go_on, close_end, "the handshake of GnuTLS's client fails"};

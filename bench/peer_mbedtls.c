@@ -1,4 +1,4 @@
-/* mbed TLS's server, with callbacks over memory. */
+/* mbed TLS's ends, with callbacks over memory. */
 #include <mbedtls/ctr_drbg.h>
 #include <mbedtls/entropy.h>
 #include <mbedtls/ssl.h>
@@ -10,6 +10,7 @@
 static mbedtls_entropy_context entropy;
 static mbedtls_ctr_drbg_context drbg;
 static mbedtls_ssl_config server_config, client_config;
+static mbedtls_ssl_context server, client;
 
 static const int suites[] = {MBEDTLS_TLS_PSK_WITH_AES_128_CBC_SHA256, 0};
 
@@ -28,6 +29,10 @@ static void configure(mbedtls_ssl_config *c, int endpoint)
 
 void start_mbedtls(void)
 {
+    static int started;
+    if (started)
+        return;
+    started = 1;
     mbedtls_entropy_init(&entropy);
     mbedtls_ctr_drbg_init(&drbg);
     must(mbedtls_ctr_drbg_seed(&drbg, mbedtls_entropy_func, &entropy, NULL, 0) == 0, "mbed TLS's randomness");
@@ -35,11 +40,6 @@ void start_mbedtls(void)
     configure(&client_config, MBEDTLS_SSL_IS_CLIENT);
     mbedtls_ssl_conf_session_tickets(&client_config, MBEDTLS_SSL_SESSION_TICKETS_DISABLED);
 }
-
-/* One end: where it reads, and where it writes. */
-struct end {
-    struct wire *in, *out;
-};
 
 static int send_bytes(void *state, const unsigned char *bytes, size_t n)
 {
@@ -54,32 +54,34 @@ static int receive_bytes(void *state, unsigned char *bytes, size_t n)
     return size > 0 ? (int)size : MBEDTLS_ERR_SSL_WANT_READ;
 }
 
-static void connect_end(mbedtls_ssl_context *ssl, const mbedtls_ssl_config *config, struct end *e)
+static void open_end(struct end *e, mbedtls_ssl_context *ssl, const mbedtls_ssl_config *config)
 {
     mbedtls_ssl_init(ssl);
     must(mbedtls_ssl_setup(ssl, config) == 0, "mbed TLS's connection");
     mbedtls_ssl_set_bio(ssl, e, send_bytes, receive_bytes, NULL);
+    e->connection = ssl;
 }
 
-double sample_mbedtls(void *state)
+static void open_server(struct end *e)
 {
-    (void)state;
-    struct wire up = {.end = 0}, down = {.end = 0};
-    struct end server_end = {&up, &down}, client_end = {&down, &up};
-    mbedtls_ssl_context server, client;
-    connect_end(&client, &client_config, &client_end);
-    (void)mbedtls_ssl_handshake(&client);
-    double from = now();
-    connect_end(&server, &server_config, &server_end);
-    (void)mbedtls_ssl_handshake(&server);
-    double taken = now() - from;
-    (void)mbedtls_ssl_handshake(&client);
-    from = now();
-    int failed = mbedtls_ssl_handshake(&server);
-    taken += now() - from;
-    must(failed == 0 && mbedtls_ssl_handshake(&client) == 0, "mbed TLS's handshake fails");
-    must(strcmp(mbedtls_ssl_get_ciphersuite(&server), "TLS-PSK-WITH-AES-128-CBC-SHA256") == 0, "mbed TLS's suite is another");
-    mbedtls_ssl_free(&server);
-    mbedtls_ssl_free(&client);
-    return taken;
+    open_end(e, &server, &server_config);
 }
+
+static void open_client(struct end *e)
+{
+    open_end(e, &client, &client_config);
+}
+
+static int go_on(struct end *e)
+{
+    return mbedtls_ssl_handshake(e->connection) == 0;
+}
+
+static void close_end(struct end *e)
+{
+    must(strcmp(mbedtls_ssl_get_ciphersuite(e->connection), "TLS-PSK-WITH-AES-128-CBC-SHA256") == 0, "mbed TLS's suite is another");
+    mbedtls_ssl_free(e->connection);
+}
+
+const struct kind mbedtls_server = {open_server, go_on, close_end, "the handshake of mbed TLS's server fails"};
+const struct kind mbedtls_client = {open_client, go_on, close_end, "the handshake of mbed TLS's client fails"};

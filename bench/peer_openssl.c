@@ -1,4 +1,4 @@
-/* OpenSSL's server, with memory BIOs. */
+/* OpenSSL's ends, with BIOs over memory. */
 #include <openssl/ssl.h>
 #include <string.h>
 
@@ -6,6 +6,7 @@
 #include "peers.h"
 
 static SSL_CTX *server_context, *client_context;
+static BIO *server_bio, *client_bio; /* one for both directions of an end, as one over a socket is; made once, like the contexts */
 
 static unsigned int server_key(SSL *ssl, const char *identity, unsigned char *key, unsigned int room)
 {
@@ -36,6 +37,38 @@ static SSL_CTX *context_of(const SSL_METHOD *method)
     return c;
 }
 
+static int send_bytes(BIO *b, const char *bytes, int n)
+{
+    const struct end *e = BIO_get_data(b);
+    return (int)wire_put(e->out, bytes, (size_t)n);
+}
+
+static int receive_bytes(BIO *b, char *bytes, int n)
+{
+    const struct end *e = BIO_get_data(b);
+    size_t size = wire_take(e->in, bytes, (size_t)n);
+    BIO_clear_retry_flags(b);
+    if (size > 0)
+        return (int)size;
+    BIO_set_retry_read(b);
+    return -1;
+}
+
+/* All that is sent is on its way at once, so that a flush has nothing left to do. */
+static long control(BIO *b, int command, long number, void *pointer)
+{
+    (void)b, (void)number, (void)pointer;
+    return command == BIO_CTRL_FLUSH;
+}
+
+static BIO *bio_of(const BIO_METHOD *method)
+{
+    BIO *b = BIO_new(method);
+    must(b != NULL, "OpenSSL's BIO");
+    BIO_set_init(b, 1);
+    return b;
+}
+
 void start_openssl(void)
 {
     if (server_context != NULL)
@@ -44,58 +77,59 @@ void start_openssl(void)
     client_context = context_of(TLS_client_method());
     SSL_CTX_set_psk_server_callback(server_context, server_key);
     SSL_CTX_set_psk_client_callback(client_context, client_key);
+    BIO_METHOD *method = BIO_meth_new(BIO_get_new_index() | BIO_TYPE_SOURCE_SINK, "wire");
+    must(method != NULL && BIO_meth_set_write(method, send_bytes) && BIO_meth_set_read(method, receive_bytes) && BIO_meth_set_ctrl(method, control),
+         "OpenSSL's BIO");
+    server_bio = bio_of(method);
+    client_bio = bio_of(method);
 }
 
-SSL *openssl_client(BIO *in, BIO *out)
+static void open_end(struct end *e, SSL_CTX *context, BIO *b)
 {
-    SSL *client = SSL_new(client_context);
-    must(client != NULL, "OpenSSL's client");
-    SSL_set_bio(client, in, out);
-    SSL_set_connect_state(client);
-    return client;
+    SSL *ssl = SSL_new(context);
+    must(ssl != NULL && BIO_up_ref(b), "OpenSSL's connection");
+    BIO_set_data(b, e);
+    SSL_set_bio(ssl, b, b);
+    e->connection = ssl;
 }
+
+static void open_server(struct end *e)
+{
+    open_end(e, server_context, server_bio);
+    SSL_set_accept_state(e->connection);
+}
+
+static void open_client(struct end *e)
+{
+    open_end(e, client_context, client_bio);
+    SSL_set_connect_state(e->connection);
+}
+
+static int go_on(struct end *e)
+{
+    return SSL_do_handshake(e->connection) == 1;
+}
+
+static void close_end(struct end *e)
+{
+    must(strcmp(SSL_get_cipher_name(e->connection), "PSK-AES128-CBC-SHA256") == 0, "OpenSSL's suite is another");
+    SSL_free(e->connection);
+}
+
+const struct kind openssl_server = {open_server, go_on, close_end, "the handshake of OpenSSL's server fails"};
+const struct kind openssl_client = {open_client, go_on, close_end, "the handshake of OpenSSL's client fails"};
 
 size_t openssl_hello(uint8_t hello[PEER_HELLO_LIMIT])
 {
     enum { RECORD_HEADER = 5 };
     uint8_t record[RECORD_HEADER + PEER_HELLO_LIMIT];
-    BIO *in = BIO_new(BIO_s_mem()), *out = BIO_new(BIO_s_mem());
-    SSL *client = openssl_client(in, out);
-    (void)SSL_do_handshake(client);
-    int n = BIO_read(out, record, sizeof record);
-    must(n > RECORD_HEADER && BIO_pending(out) == 0, "the hello of OpenSSL's client");
-    SSL_free(client);
-    memcpy(hello, record + RECORD_HEADER, (size_t)n - RECORD_HEADER);
-    return (size_t)n - RECORD_HEADER;
-}
-
-static SSL *server_over(BIO *in, BIO *out)
-{
-    SSL *server = SSL_new(server_context);
-    SSL_set_bio(server, in, out);
-    SSL_set_accept_state(server);
-    return server;
-}
-
-double sample_openssl(void *state)
-{
-    (void)state;
-    BIO *up = BIO_new(BIO_s_mem()), *down = BIO_new(BIO_s_mem());
-    BIO_up_ref(up);
-    BIO_up_ref(down);
-    SSL *client = openssl_client(down, up);
-    (void)SSL_do_handshake(client);
-    double from = now();
-    SSL *server = server_over(up, down);
-    (void)SSL_do_handshake(server);
-    double taken = now() - from;
-    (void)SSL_do_handshake(client);
-    from = now();
-    int done = SSL_do_handshake(server);
-    taken += now() - from;
-    must(done == 1 && SSL_do_handshake(client) == 1, "OpenSSL's handshake fails");
-    must(strcmp(SSL_get_cipher_name(server), "PSK-AES128-CBC-SHA256") == 0, "OpenSSL's suite is another");
-    SSL_free(client);
-    SSL_free(server);
-    return taken;
+    struct wire up = {.end = 0}, down = {.end = 0};
+    struct end client = {.in = &down, .out = &up};
+    open_client(&client);
+    (void)go_on(&client);
+    size_t n = wire_take(&up, record, sizeof record);
+    must(n > RECORD_HEADER && up.at == up.end, "the hello of OpenSSL's client");
+    SSL_free(client.connection);
+    memcpy(hello, record + RECORD_HEADER, n - RECORD_HEADER);
+    return n - RECORD_HEADER;
 }

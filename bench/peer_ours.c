@@ -25,9 +25,10 @@ int ours_open(struct login *l)
     return login_open(l, TN_RULE_TELL);
 }
 
-static void finish(struct login *l)
+static int finish(struct login *l)
 {
     login_finish(l, peer_key, sizeof peer_key);
+    return 1;
 }
 
 int ours_agrees(struct login *l)
@@ -37,8 +38,8 @@ int ours_agrees(struct login *l)
 
 double sample_ours_login(void *state)
 {
-    static const struct serving serving = {ours_open, finish, login_close, ours_agrees};
-    return login_sample(state, &serving);
+    static const struct course course = {{login_hello_set, ours_open, finish, login_close, ours_agrees}};
+    return login_sample(state, &course, TN_SIDE_SERVER);
 }
 
 double sample_ours(void *state)

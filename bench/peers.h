@@ -1,12 +1,11 @@
 /*
- * The servers whose handshakes are compared. All speak TLS 1.2 with PSK-AES128-CBC-SHA256, without hint, tickets, extended master secret and encrypt-then-MAC,
- * so that they do the same work. What a server's process does once is done by the start function; a sample is one handshake, of which the server's calls
- * are timed, from making its connection to its last message. The client runs in the same process, and what a connection's end takes does not count.
+ * The servers and clients whose handshakes are compared. All speak TLS 1.2 with PSK-AES128-CBC-SHA256, without hint, tickets, extended master secret and
+ * encrypt-then-MAC, so that they do the same work. What a process does once is done by the start functions; a sample is one handshake of two ends in this
+ * process, of which one side's calls are timed, from making its connection to its last message. What a connection's end takes does not count.
  */
 #ifndef BENCH_PEERS_H
 #define BENCH_PEERS_H
 
-#include <openssl/types.h>
 #include <stddef.h>
 #include <stdint.h>
 
@@ -17,7 +16,9 @@ extern const uint8_t peer_key[PEER_KEY_SIZE];
 struct gates;
 extern const struct gates peer_gates; /* PEER_TABLE and its list (login.h) */
 
-/* The library alone, messages without records: with the hello of OpenSSL's client, and with one that has no extensions. */
+/* ---- the library alone, messages without records */
+
+/* The server, with the hello of OpenSSL's client, and with one that has no extensions. The client is in client_login.h. */
 void start_ours(void);
 double sample_ours(void *state);
 double sample_ours_bare(void *state);
@@ -27,29 +28,11 @@ struct login;
 void ours_prepare(struct login *l, const struct gates *gates);
 double sample_ours_login(void *state);
 
-/* The steps of such a login, for another that is made of them; the server's last calls are login_close. */
+/* The steps of such a login, for another that is made of them; the server's last step is login_close. */
 int ours_open(struct login *l);
 int ours_agrees(struct login *l);
 
-/* The library in the gateway of gateway/: records by libcrypto, randomness from the system. */
-void start_gateway(void);
-double sample_gateway(void *state);
-
-void start_openssl(void);
-double sample_openssl(void *state);
-
-void start_mbedtls(void);
-double sample_mbedtls(void *state);
-
-/* The state is what gnutls_keys_of gave, or NULL where a function gives the one key. */
-void start_gnutls(void);
-double sample_gnutls(void *state);
-void *gnutls_keys_of(const char *file); /* a psk.passwd file, which GnuTLS reads anew at each login */
-const char *version_of_gnutls(void);
-
-/* A client of OpenSSL's over memory, for the gateway too, and the ClientHello that it sends, without the record's header. */
-SSL *openssl_client(BIO *in, BIO *out);
-size_t openssl_hello(uint8_t hello[PEER_HELLO_LIMIT]);
+/* ---- ends with records, over memory */
 
 /* Bytes on their way from one end to the other; full is an error. */
 struct wire {
@@ -59,5 +42,46 @@ struct wire {
 
 size_t wire_put(struct wire *w, const void *from, size_t n);
 size_t wire_take(struct wire *w, void *to, size_t n);
+
+struct end {
+    const struct kind *kind;
+    struct wire *in, *out;
+    void *keys;       /* what gnutls_keys_of gave, for GnuTLS's server; NULL: the one key */
+    void *connection; /* the library's own */
+};
+
+/* A library's calls for one side. */
+struct kind {
+    void (*open)(struct end *e);  /* makes the connection */
+    int (*go_on)(struct end *e);  /* reads and answers what has come; true once the handshake is complete */
+    void (*close)(struct end *e); /* frees the connection, and ends the program where its suite is another */
+    const char *failure;          /* what is said where the handshake fails */
+};
+
+/* The gateway's connection and the gate's session of gateway/: the library with records by libcrypto and randomness from the system. */
+void start_gateway(void);
+void stop_gateway(void); /* drops what the records need, which other cases make anew */
+extern const struct kind gateway_server, gate_client;
+
+void start_openssl(void);
+extern const struct kind openssl_server, openssl_client;
+size_t openssl_hello(uint8_t hello[PEER_HELLO_LIMIT]); /* the client's first message, without the record's header */
+
+void start_mbedtls(void);
+extern const struct kind mbedtls_server, mbedtls_client;
+
+void start_gnutls(void);
+extern const struct kind gnutls_server, gnutls_client;
+void *gnutls_keys_of(const char *file); /* a psk.passwd file, which GnuTLS reads anew at each login */
+const char *version_of_gnutls(void);
+
+/* Two ends that shake hands, the state of a sample. */
+struct pair {
+    const struct kind *client, *server;
+    uint8_t counted; /* whose time: TN_SIDE_CLIENT or TN_SIDE_SERVER */
+    void *keys;      /* the server's, as in its end */
+};
+
+double sample_pair(void *state);
 
 #endif

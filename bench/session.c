@@ -57,7 +57,7 @@ static int records_open(struct login *l)
 }
 
 /* The client's Finished and its record. */
-static void finish(struct login *l)
+static int finish(struct login *l)
 {
     uint8_t secret[TN_MASTER_SIZE], keys[TN_KEY_BLOCK_LIMIT];
     login_finish(l, peer_key, PEER_KEY_SIZE);
@@ -65,10 +65,11 @@ static void finish(struct login *l)
     int32_t n = tn_key_block(secret, sizeof secret, l->random, sizeof l->random, l->hello + TN_HELLO_RANDOM_AT, TN_RANDOM_SIZE, l->suite, keys, sizeof keys);
     must(n > 0 && protection_cut(suite_of(l->suite), keys, (size_t)n, &writing, &reading), "no keys");
     put(&finished, &writing, RECORD_HANDSHAKE, l->finished, sizeof l->finished);
+    return 1;
 }
 
 /* The same, where the server's flight came in records. */
-static void records_finish(struct login *l)
+static int records_finish(struct login *l)
 {
     size_t size = l->flight_len, at = 0;
     l->flight_len = 0;
@@ -78,7 +79,7 @@ static void records_finish(struct login *l)
         l->flight_len += n;
         at += TN_RECORD_HEADER_SIZE + n;
     }
-    finish(l);
+    return finish(l);
 }
 
 static int records_close(struct login *l)
@@ -112,9 +113,9 @@ static int libcrypto_close(struct login *l)
            && record_seal(&server, RECORD_HANDSHAKE, l->answer, TN_FINISHED_SIZE, out, sizeof out) == SEALED_FINISHED;
 }
 
-const struct serving session_by_records = {records_open, records_finish, records_close, records_agree};
-const struct serving session_by_messages = {ours_open, finish, messages_close, ours_agrees};
-const struct serving session_by_libcrypto = {ours_open, finish, libcrypto_close, ours_agrees};
+const struct course session_by_records = {{login_hello_set, records_open, records_finish, records_close, records_agree}};
+const struct course session_by_messages = {{login_hello_set, ours_open, finish, messages_close, ours_agrees}};
+const struct course session_by_libcrypto = {{login_hello_set, ours_open, finish, libcrypto_close, ours_agrees}};
 
 /* ---- every call by itself */
 
@@ -257,7 +258,7 @@ struct login *session_prepare(void)
     for (size_t i = 0; i < sizeof content; i++)
         content[i] = (uint8_t)(i * 7 + i / 256);
     make_messages();
-    (void)login_sample(&login, &session_by_records);
+    (void)login_sample(&login, &session_by_records, TN_SIDE_SERVER);
     put(&data, &writing, RECORD_APPLICATION_DATA, content, sizeof content);
     bad = data;
     bad.bytes[bad.size - 1] ^= 1;

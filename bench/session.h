@@ -9,10 +9,10 @@
 #include "parts.h"
 
 /* tn_record_start and four times tn_take_record. */
-extern const struct serving session_by_records;
+extern const struct course session_by_records;
 
 /* tn_start, three messages, the change of cipher and the key block; the two Finished records by tn_open_record and tn_seal_record, or by libcrypto. */
-extern const struct serving session_by_messages, session_by_libcrypto;
+extern const struct course session_by_messages, session_by_libcrypto;
 
 /* The calls on records: those of a login in its order, then others of tn_take_record, then the rest. Contents have 16 KiB where nothing else is said. */
 enum session_part {
@@ -23,7 +23,7 @@ enum session_part {
 };
 extern struct part session_parts[SESSION_PARTS];
 
-/* Makes a connection in every phase, and gives the login that the servings above are for. A login by one of them changes what the parts are given. */
+/* Makes a connection in every phase, and gives the login that the courses above are for. A login by one of them changes what the parts are given. */
 struct login *session_prepare(void);
 
 /* The MAC, its key and the bytes under it, of the record that SESSION_OPEN and SESSION_TAKE_DATA are given. */

@@ -25,7 +25,7 @@ static uint8_t bytes[SESSION_MAC_INPUT], digest[TN_HASH_SIZE];
 
 static double sample_login(void *state)
 {
-    return login_sample(login, state);
+    return login_sample(login, state, TN_SIDE_SERVER);
 }
 
 static double sample_hmac(void *state)
@@ -77,20 +77,6 @@ static void compare_logins(void)
     }
 }
 
-static void time_calls(void)
-{
-    enum { SUBJECTS = SESSION_FINISHED + 1 };
-    static struct subject subjects[SUBJECTS];
-    for (size_t i = 0; i < SUBJECTS; i++)
-        subjects[i] = (struct subject){.name = session_parts[i].name, .sample = sample_part, .state = &session_parts[i]};
-    heading("The record calls of this login, microseconds");
-    measure(subjects, SUBJECTS, SAMPLES);
-    for (size_t i = 0; i < SUBJECTS; i++) {
-        print_time(&subjects[i], 1000, "us");
-        printf("\n");
-    }
-}
-
 static void compare_records(void)
 {
     enum { HMAC_OF_OURS, MBEDTLS, OPENSSL, CALLS, SUBJECTS = CALLS + 4 };
@@ -123,7 +109,7 @@ void bench_sessions(void)
 {
     login = session_prepare();
     session_mac_input(bytes);
-    time_calls();
+    time_calls("The record calls of this login, microseconds", session_parts, SESSION_FINISHED + 1);
     compare_records();
     compare_logins();
     records_stop();

@@ -8,6 +8,7 @@
 #include <sys/mman.h>
 
 #include "cases.h"
+#include "client_login.h"
 #include "edits.h"
 #include "login.h"
 #include "measure.h"
@@ -18,7 +19,8 @@
 
 enum { STACK = 1 << 20, PAINT = 0xA5, OWN = 256 /* bytes below the painter's frame that it needs itself */ };
 enum { AIM = 1024 /* bytes of an edit beyond those of the table's test */, RECORD_AIM = 26624 /* of any call on records */ };
-enum { LARGE = PARTS, TEST, MAKE_LIST, LOOKUP, EDIT, SESSION = EDIT + EDITS, NOTHING = SESSION + SESSION_PARTS, MEASURED }; /* the calls behind the parts */
+/* The calls behind the parts */
+enum { LARGE = PARTS, TEST, MAKE_LIST, LOOKUP, EDIT, SESSION = EDIT + EDITS, CLIENT = SESSION + SESSION_PARTS, NOTHING = CLIENT + CLIENT_PARTS, MEASURED };
 
 static uint8_t *stack;
 static struct login large;
@@ -58,6 +60,7 @@ static void *run_calls(void *state)
     size_t *sizes = state;
     touched_by(parts, PARTS, sizes);
     touched_by(session_parts, SESSION_PARTS, sizes + SESSION);
+    touched_by(client_parts, CLIENT_PARTS, sizes + CLIENT);
     sizes[LARGE] = touched(call_large_hello);
     edit_ready(&edits[EDITS - 1]);
     sizes[TEST] = touched(edit_test);
@@ -78,7 +81,12 @@ static int is_edit(size_t i)
 
 static int is_session(size_t i)
 {
-    return i >= SESSION && i < NOTHING;
+    return i >= SESSION && i < CLIENT;
+}
+
+static int is_client(size_t i)
+{
+    return i >= CLIENT && i < NOTHING;
 }
 
 static const char *name_of(size_t i)
@@ -93,6 +101,8 @@ static const char *name_of(size_t i)
         return edits[i - EDIT].name;
     if (is_session(i))
         return session_parts[i - SESSION].name;
+    if (is_client(i))
+        return client_parts[i - CLIENT].name;
     return others[i];
 }
 
@@ -131,6 +141,7 @@ static void measure_calls(size_t sizes[MEASURED])
     pthread_t thread;
     parts_prepare();
     edits_prepare();
+    client_prepare();
     (void)session_prepare();
     records_stop();
     login_plain_hello(&large, TN_SUITE_PSK_AES_128_CBC_SHA256, TN_MESSAGE_LIMIT - 48, 1);

@@ -130,6 +130,7 @@ static void compare_handshakes(void)
 {
     enum { OURS, GNUTLS = OURS + TABLES, SUBJECTS = GNUTLS + TABLES };
     static struct login logins[TABLES];
+    static struct pair pairs[TABLES];
     static char files[TABLES][32] = {"/tmp/bench-psk-XXXXXX", "/tmp/bench-psk-XXXXXX"};
     static struct subject subjects[SUBJECTS] = {
         {.name = "ours, 1 line"}, {.name = "ours, 256 lines"}, {.name = "GnuTLS, a file of 1 line"}, {.name = "GnuTLS, a file of 256 lines"},
@@ -138,8 +139,9 @@ static void compare_handshakes(void)
         ours_prepare(&logins[t], &gates[t]);
         subjects[OURS + t].sample = sample_ours_login;
         subjects[OURS + t].state = &logins[t];
-        subjects[GNUTLS + t].sample = sample_gnutls;
-        subjects[GNUTLS + t].state = write_file(t, files[t]);
+        pairs[t] = (struct pair){.client = &gnutls_client, .server = &gnutls_server, .counted = TN_SIDE_SERVER, .keys = write_file(t, files[t])};
+        subjects[GNUTLS + t].sample = sample_pair;
+        subjects[GNUTLS + t].state = &pairs[t];
     }
     heading("The server's time for a handshake by the last of so many lines, microseconds");
     measure(subjects, SUBJECTS, SAMPLES);
