@@ -11,11 +11,11 @@ use Rattle.endian.proofs.Numbers.{number-be-lt}
 use Rattle.endian.specs.Number.{be, number}
 use Rattle.lists.specs.Lists.{part}
 use Rattle.lists.proofs.Parts.{first-of-drop, part-there, take-window}
+use Rattle.handshake.specs.Flight.{joined}
 use Rattle.records.specs.declared.State.{State}
 use Rattle.record_server.specs.declared.RecordConnection.{RecordConnection}
 use Rattle.record_server.specs.Connection.{noAlert, closedWith}
 use Rattle.saved.specs.Saved as Server
-use Rattle.server.specs.Flight.{joined}
 use Rattle.saved_records.specs.Saved.{protectedByte, stateBytes, parts, saved, stateIn, restored}
 
 -- ---- a number of eight bytes

@@ -7,11 +7,11 @@ use lib.ListN.{getD}
 use lib.Dec.{leb, eqb}
 use Rattle.endian.specs.Number.{be, number}
 use Rattle.lists.specs.Lists.{part}
+use Rattle.handshake.specs.Flight.{joined}
 use Rattle.records.specs.declared.State.{State}
 use Rattle.record_server.specs.declared.RecordConnection.{RecordConnection}
 use Rattle.record_server.specs.Connection.{noAlert, closedWith}
 use Rattle.saved.specs.Saved as Server
-use Rattle.server.specs.Flight.{joined}
 
 -- whether a direction is protected, in one byte
 abbrev pub protectedByte : Bool → ℕ
