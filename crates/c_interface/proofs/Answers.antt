@@ -14,15 +14,28 @@ use mir.Val.{toZ, ofZ}
 use Rattle.refusal.specs.declared.Refusal.{Refusal}
 use Rattle.refusal.specs.declared.Refusal.the-variants.{ShortOutput}
 use Rattle.refusal.specs.declared.Written.{Written}
+use Rattle.refusal.specs.declared.Written.the-variants.{Wrote, Refused}
 use Rattle.refusal.specs.Lent.{Outcome, gives, refuses, within, answer, Answers}
 use Rattle.table_edits.specs.Edits.{EditsBoth}
-use Rattle.c_interface.specs.Codes.{coded, refusalCode, Codes, CodesBoth}
+use Rattle.sha256.specs.Report.{reported}
+use Rattle.c_interface.specs.Codes.{coded, refusalCode, reportAfter, Codes, CodesBoth}
 use Rattle.c_interface.specs.Inner.{count}
 use Rattle.c_interface.proofs.Signed.{handed-on}
 
 pub codes-answer : {wanted : Outcome} {out out' : List ℕ} {said : Written} {result : ℤ} → Answers wanted out said out'
     → mag result < 2 ^ 31 → result ≡ coded said → Codes wanted out (toZ w32 (ofZ w32 result)) out'
 codes-answer {result = result} a fits e = record { told = handed-on result fits ∙ e ∙ ap coded (a .told); left = a .left }
+
+-- of a call that reports a number: it is written where bytes were, and stays where there was a refusal
+pub report-wrote : (o : Outcome) (reports old : ℕ) {said : Written} {n blocks : ℕ} → said ≡ answer o → said ≡ Wrote n → blocks ≡ reported said reports
+    → blocks ≡ reportAfter o reports old
+report-wrote (gives bytes) reports old told wrote e = e ∙ rw wrote
+report-wrote (refuses r) reports old told wrote e = let z : _≡_ {A = ℕ} 0 1 = cc in absurd (omega arith)
+
+pub report-refused : (o : Outcome) (reports old : ℕ) {said : Written} {r : Refusal} → said ≡ answer o → said ≡ Refused r
+    → old ≡ reportAfter o reports old
+report-refused (gives bytes) reports old told refused = let z : _≡_ {A = ℕ} 0 1 = cc in absurd (omega arith)
+report-refused (refuses r) reports old told refused = refl
 
 -- of an edit, which leaves a list too
 pub codes-edit : {wanted : Outcome} {memory starts memory' starts' : List ℕ} {n n' : ℕ} {said : Written} {result : ℤ}

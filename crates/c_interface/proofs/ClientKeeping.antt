@@ -7,6 +7,7 @@ use mathlib.Core.List.{List}
 use mathlib.Core.Option.{Option, none, some}
 use Rattle.refusal.specs.declared.Refusal.the-variants.{BadSetting}
 use Rattle.refusal.specs.declared.Written.{Written}
+use Rattle.handshake.specs.Handed.{Derived}
 use Rattle.client.specs.declared.Connection.{Connection}
 use Rattle.client.specs.declared.Reply.{Reply}
 use Rattle.client.specs.Connection.{Settings, acceptable, hello, startOutcome, startCall}
@@ -23,7 +24,7 @@ hello-count s out e =
     answer-count-small {wanted = startOutcome s} {out = out} (record { told = e; left = refl })
     (bytes-if-small (acceptable s) (hello (s .random)) BadSetting (λ ok. omega (arith, hello-length (s .random) (allowed s ok .random))))
 
-pub reply-parts : (said : Written) (next : Connection) (o : Option (List ℕ)) {r : Reply} → r ≡ withMaster said next o
-    → (r .said ≡ said) × (r .next ≡ next) × Handed o (r .handed) (r .master)
+pub reply-parts : (said : Written) (next : Connection) (o : Option Derived) {r : Reply} → r ≡ withMaster said next o
+    → (r .said ≡ said) × (r .next ≡ next) × Handed o (r .handed) (r .master) (r .blocks)
 reply-parts said next none e = rw e (refl, refl, nothing)
-reply-parts said next (some secret) e = rw e (refl, refl, handed)
+reply-parts said next (some d) e = rw e (refl, refl, handed)

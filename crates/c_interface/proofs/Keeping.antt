@@ -19,6 +19,7 @@ use Rattle.refusal.specs.declared.Written.{Written}
 use Rattle.refusal.specs.declared.Written.the-variants.{Wrote, Refused}
 use Rattle.refusal.specs.Table.{toPeer}
 use Rattle.refusal.specs.Lent.{Outcome, gives, refuses, within, answer}
+use Rattle.handshake.specs.Handed.{Derived}
 use Rattle.handshake.specs.Step.{Step, outcome, nextAfter, settled}
 use Rattle.handshake.proofs.Refusals.{alerts-close}
 use Rattle.server.specs.declared.Answer.{Answer}
@@ -27,7 +28,7 @@ use Rattle.server.specs.Connection.{Settings, acceptable, badSetting, started, 
 use Rattle.server.specs.Step.{Settled, answered}
 use Rattle.server.specs.Message.{withMaster}
 use Rattle.c_interface.specs.Codes.{coded}
-use Rattle.c_interface.specs.Kept.{KeepsAs, StartsAs, masterAfter}
+use Rattle.c_interface.specs.Kept.{KeepsAs, StartsAs, masterAfter, blocksAfter}
 use Rattle.c_interface.specs.Inner.{count, changes, readAfter, KeptAs}
 use Rattle.c_interface.proofs.Signed.{handed-on}
 
@@ -94,22 +95,22 @@ step-keeps {A} {restore = restore} over bytes out step same e f fits told kept =
     call-keeps (e ∙ ap (λ (x : A). settled over x out (step x) .said) same) (f ∙ ap (λ (x : A). settled over x out (step x) .next) same) fits told kept
     (next-read over now (step now) (within (length out) (outcome (step now))))
 
--- ---- a master secret
+-- ---- a master secret, and the number of its blocks
 
--- what a reply says of the secret that is handed over, if one is
-pub data Handed : Option (List ℕ) → Bool → List ℕ → Type 0 where
-  nothing : {zeros : List ℕ} → Handed none false zeros
-  handed : {secret : List ℕ} → Handed (some secret) true secret
+-- what a reply says of what is handed over, if something is
+pub data Handed : Option Derived → Bool → List ℕ → ℕ → Type 0 where
+  nothing : {zeros : List ℕ} {n : ℕ} → Handed none false zeros n
+  handed : {d : Derived} → Handed (some d) true (d .master) (d .blocks)
 
-pub master-handed : {o : Option (List ℕ)} {told : Bool} {secret : List ℕ} (master : List ℕ) → Handed o told secret → told ≡ true
-    → secret ≡ masterAfter o master
-master-handed master nothing t = absurd (true≢false (sym t))
-master-handed master handed t = refl
+pub was-handed : {o : Option Derived} {told : Bool} {secret : List ℕ} {n : ℕ} (master : List ℕ) (blocks : ℕ) → Handed o told secret n → told ≡ true
+    → (secret ≡ masterAfter o master) × (n ≡ blocksAfter o blocks)
+was-handed master blocks nothing t = absurd (true≢false (sym t))
+was-handed master blocks handed t = (refl, refl)
 
-pub master-kept : {o : Option (List ℕ)} {told : Bool} {secret : List ℕ} (master : List ℕ) → Handed o told secret → told ≡ false
-    → master ≡ masterAfter o master
-master-kept master nothing t = refl
-master-kept master handed t = absurd (true≢false t)
+pub was-kept : {o : Option Derived} {told : Bool} {secret : List ℕ} {n : ℕ} (master : List ℕ) (blocks : ℕ) → Handed o told secret n → told ≡ false
+    → (master ≡ masterAfter o master) × (blocks ≡ blocksAfter o blocks)
+was-kept master blocks nothing t = (refl, refl)
+was-kept master blocks handed t = absurd (true≢false t)
 
 -- ---- the server's own
 
@@ -120,7 +121,7 @@ start-count s e = rw e (go (acceptable s))
     go true = omega arith
     go false = omega arith
 
-pub reply-parts : (s : Settled) (o : Option (List ℕ)) {r : Reply} → r ≡ withMaster (answered s) o
-    → (r .said ≡ s .said) × (r .next ≡ s .next) × Handed o (r .handed) (r .master)
+pub reply-parts : (s : Settled) (o : Option Derived) {r : Reply} → r ≡ withMaster (answered s) o
+    → (r .said ≡ s .said) × (r .next ≡ s .next) × Handed o (r .handed) (r .master) (r .blocks)
 reply-parts s none e = rw e (refl, refl, nothing)
-reply-parts s (some secret) e = rw e (refl, refl, handed)
+reply-parts s (some d) e = rw e (refl, refl, handed)

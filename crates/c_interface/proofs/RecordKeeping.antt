@@ -16,6 +16,7 @@ use Rattle.refusal.specs.declared.Refusal.the-variants.{ShortOutput}
 use Rattle.refusal.specs.declared.Written.the-variants.{Wrote, Refused}
 use Rattle.refusal.specs.Table.{toPeer, numberOf}
 use Rattle.refusal.specs.Lent.{Outcome, gives, refuses, within, answer}
+use Rattle.handshake.specs.Handed.{Derived}
 use Rattle.server.specs.KeyExchange.{View}
 use Rattle.server.specs.Connection.{Settings, startAnswer}
 use Rattle.record_server.specs.declared.RecordConnection.{RecordConnection}
@@ -97,10 +98,11 @@ module _ (bytes out : List ℕ) (next : RecordConnection → RecordConnection) (
 -- ---- a record that was taken
 
 module _ (s : Settled) where
-  pub taken-parts : (o : Option (List ℕ)) {t : Taken} → t ≡ handed o s
-      → (t .said ≡ s .said) × (t .next ≡ s .next) × (t .holds ≡ s .holds) × (cond (t .handed) 1 0 ≡ handedField o) × Handed o (t .handed) (t .master)
+  pub taken-parts : (o : Option Derived) {t : Taken} → t ≡ handed o s
+      → (t .said ≡ s .said) × (t .next ≡ s .next) × (t .holds ≡ s .holds) × (cond (t .handed) 1 0 ≡ handedField o)
+      × Handed o (t .handed) (t .master) (t .blocks)
   taken-parts none e = rw e (refl, refl, refl, refl, nothing)
-  taken-parts (some secret) e = rw e (refl, refl, refl, refl, Handed.handed)
+  taken-parts (some d) e = rw e (refl, refl, refl, refl, Handed.handed)
 
   -- the four numbers
   pub told-accepted : (told : List ℕ) {t : Taken} {n : ℕ} {told' : List ℕ} → t ≡ taken s → t .said ≡ Wrote n

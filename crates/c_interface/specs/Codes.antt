@@ -11,7 +11,7 @@ use Rattle.refusal.specs.declared.Refusal.{Refusal}
 use Rattle.refusal.specs.declared.Written.{Written}
 use Rattle.refusal.specs.declared.Written.the-variants.{Wrote, Refused}
 use Rattle.refusal.specs.Table.{numberOf, toPeer}
-use Rattle.refusal.specs.Lent.{Outcome, within, answer, after}
+use Rattle.refusal.specs.Lent.{Outcome, gives, refuses, within, answer, after}
 use Rattle.table_edits.specs.Edits.{startsAfter, countAfter}
 
 abbrev pub refusalCode : Refusal → ℤ
@@ -27,6 +27,16 @@ coded (Refused r) = refusalCode r
 pub record Codes (wanted : Outcome) (out : List ℕ) (result : ℤ) (out' : List ℕ) : Type 0 where
   pub told : result ≡ coded (answer (within (length out) wanted))
   pub left : out' ≡ after (within (length out) wanted) out
+
+-- the lent number of blocks afterwards: a refusal leaves it as it was
+abbrev pub reportAfter : Outcome → (reported blocks : ℕ) → ℕ
+reportAfter (gives bytes) reported blocks = reported
+reportAfter (refuses r) reported blocks = blocks
+
+-- The same of a call that was lent a number too, to report this one in.
+pub record CodesCounted (wanted : Outcome) (reported : ℕ) (out : List ℕ) (blocks : ℕ) (result : ℤ) (out' : List ℕ) (blocks' : ℕ) : Type 0 where
+  pub value : Codes wanted out result out'
+  pub counted : blocks' ≡ reportAfter (within (length out) wanted) reported blocks
 
 -- An edit that was lent a table's memory and a list returned `result` and left memory', starts' and count'.
 pub record CodesBoth (wanted : Outcome) (memory starts : List ℕ) (count : ℕ) (result : ℤ) (memory' starts' : List ℕ) (count' : ℕ) : Type 0 where

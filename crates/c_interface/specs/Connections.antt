@@ -3,8 +3,10 @@ use mathlib.Core.Path.{_≡_}
 use Prim.Native.Nat.{ℕ}
 use mathlib.Core.Bool.{cond}
 use mathlib.Core.List.{List}
+use mathlib.Core.Option.{Option}
 use lib.Dec.{leb, eqb}
 use lib.IntN.{ℤ}
+use Rattle.handshake.specs.Handed.{Derived, derived}
 use Rattle.handshake.specs.Protocol.{suites}
 use Rattle.server.specs.declared.Named.{Named}
 use Rattle.server.specs.declared.Connection.{Connection}
@@ -12,9 +14,9 @@ use Rattle.server.specs.declared.Answer.{Answer}
 use Rattle.server.specs.Connection.{badSetting, startAnswer}
 use Rattle.server.specs.KeyExchange.{View}
 use Rattle.server.specs.Step.{Settled}
-use Rattle.server.specs.Message.{messageStep, messageCall, handedOver}
+use Rattle.server.specs.Message.{messageStep, messageCall, handedOver, blocksIn}
 use Rattle.saved.specs.Saved.{saved, restored}
-use Rattle.c_interface.specs.Kept.{KeepsAs, StartsAs, masterAfter}
+use Rattle.c_interface.specs.Kept.{KeepsAs, StartsAs, masterAfter, blocksAfter}
 
 -- a call that was lent the connection's bytes
 abbrev pub Keeps : Settled → (bytes : List ℕ) → ℤ → (bytes' : List ℕ) → Type 0
@@ -36,7 +38,12 @@ Starts wanted = StartsAs saved restored (wanted .said) (wanted .next)
 
 -- ---- a message
 
--- what a message leaves in the lent output and in the lent master secret
-pub record Replies (v : View) (c : Connection) (message out out' master master' : List ℕ) : Type 0 where
+-- the master secret with the number of its blocks, where one is handed over
+abbrev pub handedBy : View → Connection → List ℕ → Option Derived
+handedBy v c message = derived (handedOver (c .phase) (messageStep v c message (c .phase))) (blocksIn v c message (c .phase))
+
+-- what a message leaves in the lent output, in the lent master secret and in the lent number
+pub record Replies (v : View) (c : Connection) (message out out' master master' : List ℕ) (blocks blocks' : ℕ) : Type 0 where
   pub left : out' ≡ messageCall v c message out .out
-  pub handed : master' ≡ masterAfter (handedOver (c .phase) (messageStep v c message (c .phase))) master
+  pub handed : master' ≡ masterAfter (handedBy v c message) master
+  pub counted : blocks' ≡ blocksAfter (handedBy v c message) blocks

@@ -8,6 +8,7 @@ use lib.IntN.{ℤ}
 use Rattle.refusal.specs.declared.Written.{Written}
 use Rattle.refusal.specs.declared.Written.the-variants.{Wrote, Refused}
 use Rattle.refusal.specs.Table.{toPeer}
+use Rattle.handshake.specs.Handed.{Derived}
 use Rattle.c_interface.specs.Codes.{coded}
 
 -- the connection's bytes afterwards: an R number leaves them as they were, an alert makes them those of the connection that it leads to
@@ -29,7 +30,11 @@ module _ {A : Type 0} (save : A → List ℕ) (restore : List ℕ → A) where
     pub left : bytes' ≡ keptBytes said (save next) bytes
     pub reads : {n : ℕ} → said ≡ Wrote n → restore bytes' ≡ next
 
--- the lent master secret afterwards
-abbrev pub masterAfter : Option (List ℕ) → List ℕ → List ℕ
+-- the lent master secret afterwards, and the lent number of its blocks
+abbrev pub masterAfter : Option Derived → List ℕ → List ℕ
 masterAfter none master = master
-masterAfter (some secret) master = secret
+masterAfter (some d) master = d .master
+
+abbrev pub blocksAfter : Option Derived → ℕ → ℕ
+blocksAfter none blocks = blocks
+blocksAfter (some d) blocks = d .blocks

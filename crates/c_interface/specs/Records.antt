@@ -13,6 +13,7 @@ use Rattle.refusal.specs.declared.Written.the-variants.{Wrote, Refused}
 use Rattle.refusal.specs.Lent.{Outcome, refuses}
 use Rattle.endian.specs.Number.{number}
 use Rattle.lists.specs.Lists.{part}
+use Rattle.handshake.specs.Handed.{Derived}
 use Rattle.records.specs.declared.ContentType.{ContentType}
 use Rattle.records.specs.declared.Read.{Read}
 use Rattle.records.specs.declared.Opened.{Opened}
@@ -27,7 +28,7 @@ use Rattle.record_server.specs.Taking as Taking
 use Rattle.saved_records.specs.Saved.{saved, restored}
 use Rattle.c_interface.specs.Codes.{refusalCode, Reading, accepted, rejected}
 use Rattle.c_interface.specs.Connections.{namedOf}
-use Rattle.c_interface.specs.Kept.{KeepsAs, StartsAs, masterAfter}
+use Rattle.c_interface.specs.Kept.{KeepsAs, StartsAs, masterAfter, blocksAfter}
 
 -- ---- a connection
 
@@ -48,9 +49,9 @@ StartsRecord wanted = StartsAs saved restored (wanted .said) (wanted .next)
 -- ---- a record that was taken
 
 -- 1 where a master secret was handed over
-abbrev pub handedField : Option (List ℕ) → ℕ
+abbrev pub handedField : Option Derived → ℕ
 handedField none = 0
-handedField (some secret) = 1
+handedField (some d) = 1
 
 -- whether there is application data, where it starts in the record, and its length
 abbrev pub dataFields : Data → List ℕ
@@ -61,12 +62,13 @@ abbrev pub toldAfter : Written → Taking.Settled → List ℕ → List ℕ
 toldAfter (Wrote n) wanted told = handedField (wanted .master) ∷ dataFields (wanted .holds)
 toldAfter (Refused r) wanted told = told
 
--- what is left in the output, the memory, the master secret and the four numbers
-pub record TakesRecord (wanted : Taking.Settled) (out' memory' master master' told told' : List ℕ) : Type 0 where
+-- what is left in the output, the memory, the master secret, the four numbers and the number of the secret's blocks
+pub record TakesRecord (wanted : Taking.Settled) (out' memory' master master' told told' : List ℕ) (blocks blocks' : ℕ) : Type 0 where
   pub out-left : out' ≡ wanted .out
   pub memory-left : memory' ≡ wanted .memory
   pub handed : master' ≡ masterAfter (wanted .master) master
   pub fields : told' ≡ toldAfter (wanted .said) wanted told
+  pub counted : blocks' ≡ blocksAfter (wanted .master) blocks
 
 -- ---- a record's layout and protection
 

@@ -48,23 +48,26 @@ pub extern "C" fn tn_client_start(
 }
 
 // A handshake message. The answer to a ServerHelloDone has the ClientKeyExchange, and the Finished in
-// its last 16 bytes; the master secret is written with that answer and with no other.
+// its last 16 bytes; the master secret, and how many blocks were hashed for it, are written with that
+// answer and with no other.
 #[no_mangle]
 pub extern "C" fn tn_client_message(
     client: &mut [u8; 413],
     message: &[u8],
     out: &mut [u8],
     master: &mut [u8; 48],
+    blocks: &mut u64,
 ) -> i32
     ensures { λ r. ⌜ Keeps (messageCall (restored (now (client .entry))) (now (message .entry)) (now (out .entry))) (now (client .entry)) r (now (client .exit)) ⌝ }
-    ensures { λ _. ⌜ Replies (messageCall (restored (now (client .entry))) (now (message .entry)) (now (out .entry)))
-        (now (out .exit)) (now (master .entry)) (now (master .exit)) ⌝ }
+    ensures { λ _. ⌜ Replies (restored (now (client .entry))) (now (message .entry)) (now (out .entry))
+        (now (out .exit)) (now (master .entry)) (now (master .exit)) (now (blocks .entry)) (now (blocks .exit)) ⌝ }
 {
     let bytes = *client;
     let reply = client::message(saved_client::restore(bytes), message, out);
     if reply.handed {
         let secret = reply.master;
         *master = secret;
+        *blocks = reply.blocks;
     }
     let said = reply.said;
     let next = reply.next;

@@ -61,8 +61,8 @@ pub extern "C" fn tn_start(
     keep(said, next, connection)
 }
 
-// A handshake message. The master secret is written where a ClientKeyExchange was accepted, and the
-// answer is 0 there and nowhere else.
+// A handshake message. The master secret, and how many blocks were hashed for it, are written where a
+// ClientKeyExchange was accepted, and the answer is 0 there and nowhere else.
 #[no_mangle]
 pub extern "C" fn tn_message(
     connection: &mut [u8; 388],
@@ -72,17 +72,19 @@ pub extern "C" fn tn_message(
     message: &[u8],
     out: &mut [u8],
     master: &mut [u8; 48],
+    blocks: &mut u64,
 ) -> i32
     ensures { λ r. ⌜ Keeps (messageCall (viewOf (now (table .entry)) (now (starts .entry)) count) (restored (now (connection .entry))) (now (message .entry)) (now (out .entry)))
         (now (connection .entry)) r (now (connection .exit)) ⌝ }
     ensures { λ _. ⌜ Replies (viewOf (now (table .entry)) (now (starts .entry)) count) (restored (now (connection .entry))) (now (message .entry))
-        (now (out .entry)) (now (out .exit)) (now (master .entry)) (now (master .exit)) ⌝ }
+        (now (out .entry)) (now (out .exit)) (now (master .entry)) (now (master .exit)) (now (blocks .entry)) (now (blocks .exit)) ⌝ }
 {
     let bytes = *connection;
     let reply = server::message(saved::restore(bytes), table, starts, count, message, out);
     if reply.handed {
         let secret = reply.master;
         *master = secret;
+        *blocks = reply.blocks;
     }
     let said = reply.said;
     let next = reply.next;

@@ -79,7 +79,7 @@ fn connection_of(connection: &[u8; 576]) -> RecordConnection
     saved_records::restore(bytes)
 }
 
-// A record. The master secret is written where one is handed over. The four numbers are written where the record is
+// A record. The master secret, and how many blocks were hashed for it, are written where one is handed over. The four numbers are written where the record is
 // accepted: whether the secret was, whether the record holds application data, where that starts and its length.
 #[no_mangle]
 pub extern "C" fn tn_take_record(
@@ -92,6 +92,7 @@ pub extern "C" fn tn_take_record(
     out: &mut [u8],
     master: &mut [u8; 48],
     told: &mut [u32; 4],
+    blocks: &mut u64,
 ) -> i32
     ensures { λ r. ⌜ KeepsRecord (takeCall (viewOf (now (table .entry)) (now (starts .entry)) count) (restored (now (connection .entry)))
         (now (received .entry)) (now (memory .entry)) (now (out .entry)) .said)
@@ -100,7 +101,7 @@ pub extern "C" fn tn_take_record(
         (now (connection .entry)) r (now (connection .exit)) ⌝ }
     ensures { λ _. ⌜ TakesRecord (takeCall (viewOf (now (table .entry)) (now (starts .entry)) count) (restored (now (connection .entry)))
         (now (received .entry)) (now (memory .entry)) (now (out .entry)))
-        (now (out .exit)) (now (memory .exit)) (now (master .entry)) (now (master .exit)) (now (told .entry)) (now (told .exit)) ⌝ }
+        (now (out .exit)) (now (memory .exit)) (now (master .entry)) (now (master .exit)) (now (told .entry)) (now (told .exit)) (now (blocks .entry)) (now (blocks .exit)) ⌝ }
 {
     let taken = record_server::take(
         connection_of(connection),
@@ -117,6 +118,7 @@ pub extern "C" fn tn_take_record(
     if taken.handed {
         let secret = taken.master;
         *master = secret;
+        *blocks = taken.blocks;
     }
     match said {
         Written::Wrote(_) => {

@@ -4,7 +4,8 @@ ghost use lib.IntN.{pos};
 ghost use Rattle.sha256.specs.Hash.{sha256};
 ghost use Rattle.keys.specs.Hmac.{hmac};
 ghost use Rattle.keys.specs.Secrets as Secrets;
-ghost use Rattle.c_interface.specs.Codes.{Codes};
+ghost use Rattle.keys.specs.Counts.{masterBlocks};
+ghost use Rattle.c_interface.specs.Codes.{Codes, CodesCounted};
 ghost use Rattle.c_interface.specs.Numbered.{labelOf, sideOf, prf, finished};
 use crate::code;
 use keys::Label;
@@ -57,11 +58,28 @@ pub extern "C" fn tn_premaster(psk: &[u8], out: &mut [u8]) -> i32
     code::of_answer(keys::premaster(psk, out))
 }
 
+// The number of blocks that were hashed is written with the master secret.
 #[no_mangle]
-pub extern "C" fn tn_master(premaster: &[u8], client: &[u8], server: &[u8], out: &mut [u8]) -> i32
-    ensures { λ r. ⌜ Codes (Secrets.master (now (premaster .entry)) (now (client .entry)) (now (server .entry))) (now (out .entry)) r (now (out .exit)) ⌝ }
+pub extern "C" fn tn_master(
+    premaster: &[u8],
+    client: &[u8],
+    server: &[u8],
+    out: &mut [u8],
+    blocks: &mut u64,
+) -> i32
+    ensures { λ r. ⌜ CodesCounted (Secrets.master (now (premaster .entry)) (now (client .entry)) (now (server .entry)))
+        (masterBlocks (now (premaster .entry)) (now (client .entry)) (now (server .entry)))
+        (now (out .entry)) (now (blocks .entry)) r (now (out .exit)) (now (blocks .exit)) ⌝ }
 {
-    code::of_answer(keys::master(premaster, client, server, out))
+    let done = keys::master(premaster, client, server, out);
+    let said = done.said;
+    match said {
+        Written::Wrote(_) => {
+            *blocks = done.blocks;
+        }
+        Written::Refused(_) => {}
+    }
+    code::of_answer(said)
 }
 
 #[no_mangle]

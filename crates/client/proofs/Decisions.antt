@@ -1,4 +1,4 @@
--- What a call makes of a decision.
+-- What a decision means, and what a call makes of it.
 -- Assumes nothing.
 use mathlib.Core.Path.{_≡_, refl, sym, ap}
 use Prim.Native.Nat.{ℕ, _≤_}
@@ -16,9 +16,18 @@ use Rattle.handshake.proofs.Settling.{sent-settles, short-settles}
 use Rattle.client.specs.declared.Phase.{Phase}
 use Rattle.client.specs.declared.Connection.{Connection}
 use Rattle.client.specs.declared.Answer.{Answer}
+use Rattle.client.specs.declared.step.Decision.{Decision}
 use Rattle.client.specs.Connection.{ended}
 use Rattle.client.specs.Step.{Step, Settled, settled, answered}
-use Rattle.client.specs.Inner.{Does}
+use Rattle.client.specs.Inner.{Decides, Does}
+
+-- what is decided for one step is decided for the same step
+pub same-step : {d : Decision} {s t : Step} {n : ℕ} → s ≡ t → Decides d t n → Decides d s n
+same-step e h = rw e h
+
+-- a refusal reports no number, whatever there was to be reported
+pub refusing : {d : Decision} {r : Refusal} → Decides d (refuse r) 0 → (n : ℕ) → Decides d (refuse r) n
+refusing h n = record { means = h .means; counts = h .counts }
 
 -- what is done for one step is done for the same step
 pub same-does : {c : Connection} {out left : List ℕ} {a : Answer} {s t : Step} → s ≡ t → Does c out t a left → Does c out s a left

@@ -59,14 +59,14 @@ two-sent first second array rest n size some-bytes few size′ e =
 pub answer-made : (c : Connection) (m master : List ℕ) {exchange message value : List ℕ} {before : Sha256} {flight : Flight} {next : Connection}
     → exchange ≡ exchangeOf c → before ≡ absorb (absorb (c .transcript) m) exchange → finishedOf Client master before ≡ gives value
     → message ≡ bytes finished value → flight ≡ flightWith (exchange ∷ []) (message ∷ []) → next ≡ afterDoneWith c master (absorb before message)
-    → accept flight next ≡ finishedWith c m master (finishedOf Client master (beforeFinished c m))
+    → finishedWith c m master (finishedOf Client master (beforeFinished c m)) ≡ accept flight next
 answer-made c m master ex be made me fl ne =
     let same = ap (finishedOf Client master) (sym (be ∙ ap (absorb (absorb (c .transcript) m)) ex)) ∙ made in
-    rw (fl, ne, me, be, ex) refl ∙ ap (finishedWith c m master) (sym same)
+    ap (finishedWith c m master) same ∙ rw (fl, ne, me, be, ex) refl
 
 -- without a value it is refused
 pub answer-refused : (c : Connection) (m master : List ℕ) {exchange : List ℕ} {before : Sha256} {r : Refusal}
     → exchange ≡ exchangeOf c → before ≡ absorb (absorb (c .transcript) m) exchange → finishedOf Client master before ≡ refuses r
-    → refuse DecryptError ≡ finishedWith c m master (finishedOf Client master (beforeFinished c m))
+    → finishedWith c m master (finishedOf Client master (beforeFinished c m)) ≡ refuse DecryptError
 answer-refused c m master ex be none =
-    ap (finishedWith c m master) (sym (ap (finishedOf Client master) (sym (be ∙ ap (absorb (absorb (c .transcript) m)) ex)) ∙ none))
+    ap (finishedWith c m master) (ap (finishedOf Client master) (sym (be ∙ ap (absorb (absorb (c .transcript) m)) ex)) ∙ none)

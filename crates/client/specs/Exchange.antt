@@ -7,6 +7,7 @@ use Rattle.refusal.specs.declared.Refusal.the-variants.{DecodeError, DecryptErr
 use Rattle.refusal.specs.Lent.{Outcome, gives, refuses}
 use Rattle.sha256.specs.declared.Sha256.{Sha256}
 use Rattle.sha256.specs.State.{absorb}
+use Rattle.keys.specs.Counts.{masterUnderBlocks}
 use Rattle.keys.specs.declared.Side.the-variants.{Client}
 use Rattle.keys.specs.Secrets.{masterUnder, finishedOf}
 use Rattle.layout.specs.Layout.{bytes}
@@ -65,6 +66,10 @@ exchangeWith c m (refuses r) = refuse DecryptError
 -- the master secret is that of the key, with the client's random before the server's
 abbrev pub exchanged : Connection → List ℕ → Step
 exchanged c m = exchangeWith c m (masterUnder (keyOf (c .setup)) (c .setup .random) (c .server .random))
+
+-- how many blocks are hashed for the master secret (document 02, P8)
+abbrev pub blocksUnder : Connection → ℕ
+blocksUnder c = masterUnderBlocks (keyOf (c .setup)) (c .setup .random) (c .server .random)
 
 -- 50 for a body that is not empty
 abbrev pub doneStep : Connection → List ℕ → Option (List ℕ) → Step

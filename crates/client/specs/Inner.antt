@@ -10,6 +10,7 @@ use Rattle.sha256.specs.State.{absorb}
 use Rattle.layout.specs.declared.Verdict.{Verdict}
 use Rattle.hellos.specs.declared.Block.{Block}
 use Rattle.handshake.specs.Flight.{counted, longest}
+use Rattle.handshake.specs.Handed.{stepBlocks}
 use Rattle.handshake.specs.Outgoing.{flightOf}
 use Rattle.handshake.specs.Step.{refuse, accept}
 use Rattle.client.specs.declared.Phase.{Phase}
@@ -25,6 +26,11 @@ decidedBy (Verdict.Refused r) d = refuse r
 
 abbrev pub decided : Decision → Step
 decided d = decidedBy (d .verdict) d
+
+-- it stands for the step, and reports this number of blocks where the step does not refuse
+pub record Decides (d : Decision) (step : Step) (blocks : ℕ) : Type 0 where
+  pub means : decided d ≡ step
+  pub counts : d .blocks ≡ stepBlocks step blocks
 
 -- what a call gives back for a step, and what it leaves in the lent output
 pub record Does (c : Connection) (out : List ℕ) (step : Step) (given : Answer) (left : List ℕ) : Type 0 where

@@ -13,13 +13,14 @@ use Rattle.layout.specs.Types.{serverHelloType, serverKeyExchangeType, serverHe
 use Rattle.layout.specs.Place.{lastAt, filledBy, contents}
 use Rattle.hellos.specs.ServerHello.{serverBody, serverFields}
 use Rattle.handshake.specs.Finished.{verifyDataLength}
+use Rattle.handshake.specs.Handed.{Derived, derived}
 use Rattle.handshake.specs.Header.{headerTest}
 use Rattle.handshake.specs.Step.{refuse, afterTests}
 use Rattle.client.specs.declared.Phase.{Phase}
 use Rattle.client.specs.declared.Connection.{Connection}
 use Rattle.client.specs.declared.Reply.{Reply}
 use Rattle.client.specs.Connection.{isOver}
-use Rattle.client.specs.Exchange.{hintStep, doneStep}
+use Rattle.client.specs.Exchange.{hintStep, blocksUnder, doneStep}
 use Rattle.client.specs.Finished.{finishedStep}
 use Rattle.client.specs.Hello.{helloStep}
 use Rattle.client.specs.Step.{Step, Settled, settled}
@@ -72,10 +73,20 @@ abbrev pub handedOver : Written → Connection → Option (List ℕ)
 handedOver (Wrote n) next = masterIn (next .phase) (next .secrets .master)
 handedOver (Refused r) next = none
 
--- what a message is answered with: zeros where no master is handed over
-abbrev pub withMaster : Written → Connection → Option (List ℕ) → Reply
-withMaster said next none = record { said = said; handed = false; master = replicate 48 0; next = next }
-withMaster said next (some secret) = record { said = said; handed = true; master = secret; next = next }
+-- how many blocks were hashed for it (document 02, P8)
+abbrev pub blocksIn : Connection → List ℕ → Phase → ℕ
+blocksIn c m Phase.Hello = 0
+blocksIn c m Phase.KeyExchange = cond (bringsHint m) 0 (blocksUnder c)
+blocksIn c m Phase.Done = blocksUnder c
+blocksIn c m Phase.Change = 0
+blocksIn c m Phase.Finished = 0
+blocksIn c m Phase.Complete = 0
+blocksIn c m Phase.Closed = 0
 
-abbrev pub replied : Settled → Reply
-replied s = withMaster (s .said) (s .next) (handedOver (s .said) (s .next))
+-- what a message is answered with: zeros where no master is handed over
+abbrev pub withMaster : Written → Connection → Option Derived → Reply
+withMaster said next none = record { said = said; handed = false; master = replicate 48 0; blocks = 0; next = next }
+withMaster said next (some d) = record { said = said; handed = true; master = d .master; blocks = d .blocks; next = next }
+
+abbrev pub replied : Connection → List ℕ → Settled → Reply
+replied c m s = withMaster (s .said) (s .next) (derived (handedOver (s .said) (s .next)) (blocksIn c m (c .phase)))

@@ -3,14 +3,15 @@ ghost use mathlib.Core.Path.{_≡_};
 ghost use mathlib.Core.Option.{none};
 ghost use Prim.Native.Nat.{_≤_};
 ghost use Rattle.handshake.specs.Flight.{longest, counted};
+ghost use Rattle.handshake.specs.Handed.{derived};
 ghost use Rattle.handshake.specs.Header.{kindAwaited};
 ghost use Rattle.client.specs.Connection.{isOver};
 ghost use Rattle.client.specs.Step.{answered};
 ghost use Rattle.client.specs.Message as Message;
-ghost use Rattle.client.specs.Message.{bringsHint, bodyStep, messageStep, messageCall, masterIn, handedOver, withMaster, replied};
+ghost use Rattle.client.specs.Message.{bringsHint, bodyStep, messageStep, messageCall, masterIn, handedOver, blocksIn, withMaster, replied};
 ghost use Rattle.client.specs.Change.{afterChange, changeCall};
 ghost use Rattle.client.specs.Alert.{alertCall};
-ghost use Rattle.client.specs.Inner.{decided};
+ghost use Rattle.client.specs.Inner.{Decides};
 use crate::Answer;
 use crate::Connection;
 use crate::Phase;
@@ -82,7 +83,7 @@ fn awaited_in(phase: Phase, m: &[u8]) -> Awaited
 
 // The step of a message whose header is tested already.
 fn body(c: Connection, m: &[u8]) -> Decision
-    ensures { λ d. ⌜ decided d ≡ bodyStep c (now (m .entry)) (c .phase) ⌝ }
+    ensures { λ d. ⌜ Decides d (bodyStep c (now (m .entry)) (c .phase)) (blocksIn c (now (m .entry)) (c .phase)) ⌝ }
 {
     let phase = c.phase;
     match phase {
@@ -103,7 +104,7 @@ fn body(c: Connection, m: &[u8]) -> Decision
 
 // What a message comes to, whatever the room.
 fn decide(c: Connection, m: &[u8]) -> Decision
-    ensures { λ d. ⌜ decided d ≡ messageStep c (now (m .entry)) (c .phase) ⌝ }
+    ensures { λ d. ⌜ Decides d (messageStep c (now (m .entry)) (c .phase)) (blocksIn c (now (m .entry)) (c .phase)) ⌝ }
 {
     let phase = c.phase;
     if is_over(phase) {
@@ -125,13 +126,15 @@ fn without_master(a: Answer) -> Reply
         said,
         handed: false,
         master: [0u8; 48],
+        blocks: 0,
         next,
     }
 }
 
-// The reply to a message that was accepted: the master secret is handed over with the answer to ServerHelloDone.
-fn accepted(a: Answer) -> Reply
-    ensures { λ r. ⌜ r ≡ withMaster (a .said) (a .next) (masterIn (a .next .phase) (a .next .secrets .master)) ⌝ }
+// The reply to a message that was accepted: the master secret and the number of its blocks are handed over with
+// the answer to ServerHelloDone.
+fn accepted(a: Answer, blocks: u64) -> Reply
+    ensures { λ r. ⌜ r ≡ withMaster (a .said) (a .next) (derived (masterIn (a .next .phase) (a .next .secrets .master)) blocks) ⌝ }
 {
     let said = a.said;
     let next = a.next;
@@ -147,6 +150,7 @@ fn accepted(a: Answer) -> Reply
                 said,
                 handed: true,
                 master,
+                blocks,
                 next,
             }
         }
@@ -156,25 +160,25 @@ fn accepted(a: Answer) -> Reply
     }
 }
 
-fn reply(a: Answer) -> Reply
-    ensures { λ r. ⌜ r ≡ withMaster (a .said) (a .next) (handedOver (a .said) (a .next)) ⌝ }
+fn reply(a: Answer, blocks: u64) -> Reply
+    ensures { λ r. ⌜ r ≡ withMaster (a .said) (a .next) (derived (handedOver (a .said) (a .next)) blocks) ⌝ }
 {
     let said = a.said;
     match said {
-        Written::Wrote(_) => accepted(a),
+        Written::Wrote(_) => accepted(a, blocks),
         Written::Refused(_) => without_master(a),
     }
 }
 
 // A handshake message. No answer is longer than the longest flight.
 pub fn message(c: Connection, m: &[u8], out: &mut [u8]) -> Reply
-    ensures { λ r. ⌜ (r ≡ replied (messageCall c (now (m .entry)) (now (out .entry))))
+    ensures { λ r. ⌜ (r ≡ replied c (now (m .entry)) (messageCall c (now (m .entry)) (now (out .entry))))
         × (now (out .exit) ≡ messageCall c (now (m .entry)) (now (out .entry)) .out) ⌝ }
     ensures { λ r. ⌜ counted (r .said) ≤ longest ⌝ }
 {
     let d = decide(c, m);
     let a = step::settle(c, d, out);
-    reply(a)
+    reply(a, d.blocks)
 }
 
 // ---- a change of cipher

@@ -13,8 +13,8 @@ ghost use Rattle.keys.specs.Secrets.{finishedOf};
 ghost use Rattle.handshake.specs.Outgoing.{Sends};
 ghost use Rattle.client.specs.Connection.{identityOf};
 ghost use Rattle.client.specs.Exchange as Exchange;
-ghost use Rattle.client.specs.Exchange.{afterHint, hintStep, doneStep};
-ghost use Rattle.client.specs.Inner.{afterDoneWith, decided};
+ghost use Rattle.client.specs.Exchange.{afterHint, hintStep, blocksUnder, doneStep};
+ghost use Rattle.client.specs.Inner.{Decides, afterDoneWith};
 use crate::Connection;
 use crate::Phase;
 use crate::Secrets;
@@ -50,7 +50,7 @@ fn after_hint(c: Connection, m: &[u8]) -> Connection
 
 // A ServerKeyExchange whose header is tested already.
 pub(crate) fn hint(c: Connection, m: &[u8]) -> Decision
-    ensures { λ d. ⌜ decided d ≡ hintStep c (now (m .entry)) (contents (now (m .entry)) (lastAt 2 (now (m .entry)) 4)) ⌝ }
+    ensures { λ d. ⌜ Decides d (hintStep c (now (m .entry)) (contents (now (m .entry)) (lastAt 2 (now (m .entry)) 4))) 0 ⌝ }
 {
     match messages::key_exchange::read_hint_body(m) {
         Part::At { start: _, len: _ } => step::silent(after_hint(c, m)),
@@ -119,9 +119,10 @@ fn after_done(c: Connection, master: [u8; 48], transcript: sha256::Sha256) -> Co
     }
 }
 
-// The answer under this master secret.
-fn answer(c: Connection, m: &[u8], master: [u8; 48]) -> Decision
-    ensures { λ d. ⌜ decided d ≡ Exchange.finishedWith c (now (m .entry)) master (finishedOf Client master (Exchange.beforeFinished c (now (m .entry)))) ⌝ }
+// The answer under this master secret, for which so many blocks were hashed.
+fn answer(c: Connection, m: &[u8], master: [u8; 48], blocks: u64) -> Decision
+    ensures { λ d. ⌜ Decides d
+        (Exchange.finishedWith c (now (m .entry)) master (finishedOf Client master (Exchange.beforeFinished c (now (m .entry))))) blocks ⌝ }
 {
     let mut exchange = [0u8; 134];
     let n = put_exchange(c.setup, &mut exchange);
@@ -137,6 +138,7 @@ fn answer(c: Connection, m: &[u8], master: [u8; 48]) -> Decision
                 verdict: Verdict::Accepted,
                 outgoing,
                 next,
+                blocks,
             }
         }
         Written::Refused(_) => step::refused(c, Refusal::DecryptError),
@@ -145,7 +147,7 @@ fn answer(c: Connection, m: &[u8], master: [u8; 48]) -> Decision
 
 // The answer under the master secret of the connection's key.
 fn exchanged(c: Connection, m: &[u8]) -> Decision
-    ensures { λ d. ⌜ decided d ≡ Exchange.exchanged c (now (m .entry)) ⌝ }
+    ensures { λ d. ⌜ Decides d (Exchange.exchanged c (now (m .entry))) (blocksUnder c) ⌝ }
 {
     let setup = c.setup;
     let server = c.server;
@@ -154,15 +156,17 @@ fn exchanged(c: Connection, m: &[u8]) -> Decision
     let random = server.random;
     let n = in_field(setup.key_length, 64);
     let mut master = [0u8; 48];
-    match keys::master_under(&key[..n], &own, &random, &mut master) {
-        Written::Wrote(_) => answer(c, m, master),
+    let told = keys::master_under(&key[..n], &own, &random, &mut master);
+    let said = told.said;
+    match said {
+        Written::Wrote(_) => answer(c, m, master, told.blocks),
         Written::Refused(_) => step::refused(c, Refusal::DecryptError),
     }
 }
 
 // A ServerHelloDone whose header is tested already.
 pub(crate) fn done(c: Connection, m: &[u8]) -> Decision
-    ensures { λ d. ⌜ decided d ≡ doneStep c (now (m .entry)) (contents (now (m .entry)) (filledBy 0 (now (m .entry)))) ⌝ }
+    ensures { λ d. ⌜ Decides d (doneStep c (now (m .entry)) (contents (now (m .entry)) (filledBy 0 (now (m .entry))))) (blocksUnder c) ⌝ }
 {
     match messages::fixed::read_done_body(m) {
         Part::At { start: _, len: _ } => exchanged(c, m),

@@ -1,8 +1,7 @@
 // The server's Finished, judged over every message, the client's own among them.
-ghost use mathlib.Core.Path.{_≡_};
 ghost use Rattle.layout.specs.Place.{filledBy, contents};
 ghost use Rattle.client.specs.Finished.{finishedStep};
-ghost use Rattle.client.specs.Inner.{decided};
+ghost use Rattle.client.specs.Inner.{Decides};
 use crate::Connection;
 use crate::Phase;
 use crate::ended;
@@ -14,7 +13,7 @@ use refusal::Refusal;
 
 // A Finished whose header is tested already.
 pub(crate) fn body(c: Connection, m: &[u8]) -> Decision
-    ensures { λ d. ⌜ decided d ≡ finishedStep c (contents (now (m .entry)) (filledBy 12 (now (m .entry)))) ⌝ }
+    ensures { λ d. ⌜ Decides d (finishedStep c (contents (now (m .entry)) (filledBy 12 (now (m .entry))))) 0 ⌝ }
 {
     match messages::fixed::read_finished_body(m) {
         Part::At { start, len } => {

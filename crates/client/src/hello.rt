@@ -7,7 +7,7 @@ ghost use Rattle.hellos.specs.ServerHello.{serverBody, serverFields};
 ghost use Rattle.client.specs.Hello as Hello;
 ghost use Rattle.client.specs.Hello.{among, helloStep};
 ghost use Rattle.client.specs.Inner as Inner;
-ghost use Rattle.client.specs.Inner.{afterHelloWith, decided};
+ghost use Rattle.client.specs.Inner.{Decides, afterHelloWith};
 use crate::Connection;
 use crate::Negotiated;
 use crate::Phase;
@@ -74,7 +74,7 @@ fn after_hello(c: Connection, m: &[u8], suite: u16) -> Connection
 
 // A hello whose header is tested already.
 pub(crate) fn body(c: Connection, m: &[u8]) -> Decision
-    ensures { λ d. ⌜ decided d ≡ helloStep c (now (m .entry)) (serverFields (now (m .entry)) (serverBody (now (m .entry)))) ⌝ }
+    ensures { λ d. ⌜ Decides d (helloStep c (now (m .entry)) (serverFields (now (m .entry)) (serverBody (now (m .entry))))) 0 ⌝ }
 {
     match hellos::server_hello::read_body(m) {
         Server::Read {

@@ -7,7 +7,7 @@ ghost use Rattle.handshake.specs.Outgoing.{flightOf};
 ghost use Rattle.handshake.specs.Step as Shared;
 ghost use Rattle.handshake.specs.Step.{accept};
 ghost use Rattle.client.specs.Step.{answered, settled};
-ghost use Rattle.client.specs.Inner.{Does, decided};
+ghost use Rattle.client.specs.Inner.{Decides, Does, decided};
 use crate::Answer;
 use crate::Connection;
 use crate::Phase;
@@ -17,34 +17,38 @@ use layout::Verdict;
 use refusal::Refusal;
 use refusal::Written;
 
-// What a step comes to: a refusal, or messages for the server and the connection as it is then.
+// What a step comes to: a refusal, or messages for the server and the connection as it is then. `blocks` is
+// how many were hashed for the master secret, where one was derived.
 pub struct Decision {
     pub verdict: Verdict,
     pub outgoing: Outgoing,
     pub next: Connection,
+    pub blocks: u64,
 }
 
 // A refusal; `settle` says what becomes of the connection.
 pub(crate) fn refused(c: Connection, r: Refusal) -> Decision
-    ensures { λ d. ⌜ decided d ≡ Shared.refuse r ⌝ }
+    ensures { λ d. ⌜ Decides d (Shared.refuse r) 0 ⌝ }
 {
     let outgoing = handshake::no_messages();
     Decision {
         verdict: Verdict::Refused(r),
         outgoing,
         next: c,
+        blocks: 0,
     }
 }
 
 // Nothing for the server.
 pub(crate) fn silent(next: Connection) -> Decision
-    ensures { λ d. ⌜ decided d ≡ accept silence next ⌝ }
+    ensures { λ d. ⌜ Decides d (accept silence next) 0 ⌝ }
 {
     let outgoing = handshake::no_messages();
     Decision {
         verdict: Verdict::Accepted,
         outgoing,
         next,
+        blocks: 0,
     }
 }
 

@@ -1,6 +1,7 @@
 pub mod Alert
 pub mod Finished
 pub mod Flight
+pub mod Handed
 pub mod Header
 pub mod Outgoing
 pub mod Protocol

@@ -94,13 +94,15 @@ fn start(kept: Kept) -> Kept {
     answered(kept, answer)
 }
 
-// The end of a message's line, with the master secret where one was handed over.
+// The end of a message's line, with the master secret where one was handed over and how many blocks were hashed for it.
 fn replied(kept: Kept, reply: Reply) -> Kept {
     let connection = reply.next;
     let mut master = kept.master;
     if reply.handed {
         let handed = reply.master;
         master = handed;
+        lines::text(b" blocks ");
+        lines::number(reply.blocks as usize);
         lines::text(b" master");
         print_bytes(&handed);
     }

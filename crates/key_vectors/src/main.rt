@@ -1,14 +1,15 @@
 // Reads calls from standard input and prints what HMAC, the PRF, the premaster and master secrets, the key
-// block and the Finished values come to, refusals among them. tests/key_vectors.py makes the input
-// and prints the same lines from other implementations.
+// block and the Finished values come to, refusals among them, and with a master secret how many blocks were
+// hashed for it. tests/key_vectors.py makes the input and prints the same lines from other implementations.
 //
 // A call is a byte that names a function, a number (the PRF's length, or a suite), the output's room, and
 // three fields.
 use keys::Label;
 use keys::Side;
 use refusal::Written;
+use sha256::Reported;
 
-// The end of a line: the bytes that were written, or the number of the refusal.
+// The bytes that were written, or the number of the refusal.
 fn print_said(said: Written, out: &[u8]) {
     match said {
         Written::Wrote(n) => {
@@ -19,7 +20,6 @@ fn print_said(said: Written, out: &[u8]) {
             lines::number(refusal::number(r) as usize);
         }
     }
-    lines::text(b"\n");
 }
 
 // The start of a line; answers how long it is.
@@ -30,6 +30,7 @@ fn print_name(kind: u8) -> usize {
         7 => lines::text(b"master "),
         8 => lines::text(b"key block "),
         9 | 10 => lines::text(b"finished "),
+        11 => lines::text(b"master under a key "),
         _ => lines::text(b"prf "),
     }
 }
@@ -43,11 +44,11 @@ fn label(kind: u8) -> Label {
     }
 }
 
-fn answer(kind: u8, n: u16, a: &[u8], b: &[u8], c: &[u8], out: &mut [u8]) -> Written {
+// What a call that counts no blocks comes to.
+fn uncounted(kind: u8, n: u16, a: &[u8], b: &[u8], c: &[u8], out: &mut [u8]) -> Written {
     match kind {
         1 => keys::hmac(a, b, out),
         6 => keys::premaster(a, out),
-        7 => keys::master(a, b, c, out),
         8 => keys::key_block(a, b, c, n, out),
         9 => keys::finished(Side::Client, a, b, out),
         10 => keys::finished(Side::Server, a, b, out),
@@ -55,10 +56,25 @@ fn answer(kind: u8, n: u16, a: &[u8], b: &[u8], c: &[u8], out: &mut [u8]) -> Wri
     }
 }
 
+// What a call comes to, with the number of blocks of a master secret and 0 for anything else.
+fn answer(kind: u8, n: u16, a: &[u8], b: &[u8], c: &[u8], out: &mut [u8]) -> Reported {
+    match kind {
+        7 => keys::master(a, b, c, out),
+        11 => keys::master_under(a, b, c, out),
+        _ => sha256::report(uncounted(kind, n, a, b, c, out), 0),
+    }
+}
+
 fn print_line(kind: u8, n: u16, a: &[u8], b: &[u8], c: &[u8], out: &mut [u8]) {
     print_name(kind);
-    let said = answer(kind, n, a, b, c, out);
+    let told = answer(kind, n, a, b, c, out);
+    let said = told.said;
     print_said(said, out);
+    if 0 < told.blocks {
+        lines::text(b" blocks ");
+        lines::number(told.blocks as usize);
+    }
+    lines::text(b"\n");
 }
 
 // A call of the input, and whether there was one.

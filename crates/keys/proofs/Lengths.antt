@@ -2,6 +2,7 @@
 -- Assumes nothing.
 use mathlib.Core.Path.{_≡_, refl, sym, ap}
 use Prim.Native.Nat.{ℕ, zero, suc, _+_, _*_, _≤_}
+use native.Mathlib.Numerals.{add-one}
 use native.Mathlib.Omega.{arith}
 use mathlib.Core.Bool.{Bool, true, false, cond, _&&_}
 use mathlib.Core.List.{List, _++_}
@@ -20,7 +21,7 @@ use Rattle.keys.specs.declared.Label.{Label}
 use Rattle.keys.specs.declared.Label.the-variants.{MasterSecret, KeyExpansion}
 use Rattle.keys.specs.declared.Side.{Side}
 use Rattle.keys.specs.Hmac.{mac, keyed}
-use Rattle.keys.specs.Prf.{P, expanded, prf, text}
+use Rattle.keys.specs.Prf.{A, P, expanded, prf, text}
 use Rattle.keys.specs.Secrets.{premaster, premasterBytes, isRandom, master, masterUnder, keyBlockLength, keys, verifyData, finishedLabel, finishedOf}
 use Rattle.keys.proofs.PrfSteps.{prf-within}
 
@@ -29,6 +30,10 @@ use Rattle.keys.proofs.PrfSteps.{prf-within}
 pub length-mac : (key message : List ℕ) → length (mac key message) ≡ 32
 unfolding mac keyed
 length-mac key message = length-digest _
+
+pub length-A : (secret seed : List ℕ) (i : ℕ) → length (A secret seed (i + 1)) ≡ 32
+unfolding A
+length-A secret seed i = rw (add-one i) (length-mac secret (A secret seed i))
 
 length-P : (secret seed : List ℕ) (n : ℕ) → length (P secret seed n) ≡ 32 * n
 unfolding P
@@ -56,17 +61,24 @@ pub premaster-given : (key : List ℕ) → 1 ≤ length key → length key ≤ 6
 unfolding premaster
 premaster-given key h k = rw (le-leb 1 (length key) h, le-leb (length key) 64 k)
 
+-- where there is one, it is so made, of a key that is not too long
+module _ (key : List ℕ) {bytes : List ℕ} where
+  made : (t u : Bool) (r : Refusal) → leb (length key) 64 ≡ u → cond (t && u) (gives (premasterBytes key)) (refuses r) ≡ gives bytes
+      → (length key ≤ 64) × (bytes ≡ premasterBytes key)
+  made true true r few f = (leb-true (length key) 64 few, cc)
+  made true false r few f = absurd (refuses-gives f)
+  made false u r few f = absurd (refuses-gives f)
+
+  pub premaster-is : premaster key ≡ gives bytes → bytes ≡ premasterBytes key
+  unfolding premaster
+  premaster-is e = made (leb 1 (length key)) (leb (length key) 64) _ refl e .1
+
+  premaster-short : premaster key ≡ gives bytes → length key ≤ 64
+  unfolding premaster
+  premaster-short e = made (leb 1 (length key)) (leb (length key) 64) _ refl e .0
+
 pub premaster-most : (key bytes : List ℕ) → premaster key ≡ gives bytes → length bytes ≤ 132
-unfolding premaster
-premaster-most key bytes e = go (leb 1 (length key)) (leb (length key) 64) _ refl e
-  where
-    go : (t u : Bool) (r : Refusal) → leb (length key) 64 ≡ u → cond (t && u) (gives (premasterBytes key)) (refuses r) ≡ gives bytes
-        → length bytes ≤ 132
-    go true true r few f =
-        let same : premasterBytes key ≡ bytes = cc in
-        omega (arith, ap length same, length-premaster key, leb-true (length key) 64 few)
-    go true false r few f = absurd (refuses-gives f)
-    go false u r few f = absurd (refuses-gives f)
+premaster-most key bytes e = rw (premaster-is key e, length-premaster key) (omega (arith, premaster-short key e))
 
 -- ---- the master secret
 

@@ -1,4 +1,6 @@
+pub mod Counting
 pub mod HmacSteps
 pub mod Lengths
 pub mod PremasterParts
 pub mod PrfSteps
+pub mod Reports

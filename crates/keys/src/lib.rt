@@ -7,10 +7,13 @@ mod p_sha256;
 
 use refusal::Refusal;
 use refusal::Written;
+use sha256::Reported;
 use sha256::Sha256;
+use sha256::report;
 ghost use Rattle.refusal.specs.Lent.{Answers};
 use buffer::append;
 use p_sha256::expand;
+use p_sha256::expand_afresh;
 ghost use mathlib.Core.Path.{_≡_};
 ghost use mathlib.Core.List.{_++_};
 ghost use Prim.Native.Nat.{_+_, _*_, _≤_};
@@ -18,6 +21,8 @@ ghost use lib.ListN.{length, take};
 ghost use Rattle.keys.specs.Hmac as Hmac;
 ghost use Rattle.keys.specs.Prf as Prf;
 ghost use Rattle.keys.specs.Secrets as Secrets;
+ghost use Rattle.sha256.specs.Report.{reported};
+ghost use Rattle.keys.specs.Counts.{prfBlocks, masterBlocks, masterUnderBlocks};
 
 // The four labels of the PRF. No other can be handed in.
 pub enum Label {
@@ -53,7 +58,10 @@ pub fn hmac_of_two(key: &[u8], first: &[u8], second: &[u8], out: &mut [u8]) -> W
     if KEY_LIMIT < key.len() {
         return Written::Refused(Refusal::BadValue);
     }
-    let value = mac::value_of_two(key, first, second);
+    let k = mac::under(key);
+    let begun = k.inner;
+    let done = mac::end(begun.update(first).update(second), k.outer, k.blocks);
+    let value = done.value;
     refusal::put(&value, out)
 }
 
@@ -83,6 +91,23 @@ pub fn prf(secret: &[u8], label: Label, seed: &[u8], n: usize, out: &mut [u8]) -
     refusal::put(&bytes[..n], out)
 }
 
+// A master secret's 48 bytes of the PRF, with the number of blocks that were compressed, every HMAC starting afresh
+// (document 02, P8): R5 as above, then R1.
+fn derive(secret: &[u8], label: Label, seed: &[u8], out: &mut [u8]) -> Reported
+    ensures { λ r. ⌜ Answers (Prf.prf (now (secret .entry)) label (now (seed .entry)) 48) (now (out .entry)) (r .said) (now (out .exit)) ⌝ }
+    ensures { λ r. ⌜ r .blocks ≡ reported (r .said) (prfBlocks (now (secret .entry)) label (now (seed .entry)) 48) ⌝ }
+{
+    if 65536 < secret.len() {
+        return report(Written::Refused(Refusal::BadValue), 0);
+    }
+    if 65536 < seed.len() {
+        return report(Written::Refused(Refusal::BadValue), 0);
+    }
+    let mut bytes = [0u8; 64];
+    let blocks = expand_afresh(secret, label, seed, 48, &mut bytes);
+    report(refusal::put(&bytes[..48], out), blocks)
+}
+
 // The premaster secret of a PSK of 1 to 64 bytes at the front of the lent output: R5 for another
 // length, then R1.
 pub fn premaster(psk: &[u8], out: &mut [u8]) -> Written
@@ -99,23 +124,32 @@ pub fn premaster(psk: &[u8], out: &mut [u8]) -> Written
     refusal::put(&bytes[..4 + 2 * n], out)
 }
 
-// The master secret, 48 bytes at the front of the lent output: R5 where a random is not of 32 bytes or
-// the premaster secret is over 65,536, then R1.
-pub fn master(premaster: &[u8], client: &[u8], server: &[u8], out: &mut [u8]) -> Written
-    ensures { λ r. ⌜ Answers (Secrets.master (now (premaster .entry)) (now (client .entry)) (now (server .entry))) (now (out .entry)) r (now (out .exit)) ⌝ }
+// The master secret, 48 bytes at the front of the lent output, with the number of blocks that were compressed: R5
+// where a random is not of 32 bytes or the premaster secret is over 65,536, then R1.
+pub fn master(premaster: &[u8], client: &[u8], server: &[u8], out: &mut [u8]) -> Reported
+    ensures { λ r. ⌜ Answers (Secrets.master (now (premaster .entry)) (now (client .entry)) (now (server .entry))) (now (out .entry)) (r .said) (now (out .exit)) ⌝ }
+    ensures { λ r. ⌜ r .blocks ≡ reported (r .said) (masterBlocks (now (premaster .entry)) (now (client .entry)) (now (server .entry))) ⌝ }
 {
-    prf_of_randoms(premaster, Label::MasterSecret, client, server, 48, out)
+    if client.len() != 32 {
+        return report(Written::Refused(Refusal::BadValue), 0);
+    }
+    if server.len() != 32 {
+        return report(Written::Refused(Refusal::BadValue), 0);
+    }
+    let seed = joined(client, server);
+    derive(premaster, Label::MasterSecret, &seed, out)
 }
 
-// The master secret under a key, 48 bytes at the front of the lent output: R5 where the key is not of 1 to
-// 64 bytes or a random not of 32, then R1.
-pub fn master_under(key: &[u8], client: &[u8], server: &[u8], out: &mut [u8]) -> Written
-    ensures { λ r. ⌜ Answers (Secrets.masterUnder (now (key .entry)) (now (client .entry)) (now (server .entry))) (now (out .entry)) r (now (out .exit)) ⌝ }
+// The master secret under a key, 48 bytes at the front of the lent output, with the number of blocks that were
+// compressed: R5 where the key is not of 1 to 64 bytes or a random not of 32, then R1.
+pub fn master_under(key: &[u8], client: &[u8], server: &[u8], out: &mut [u8]) -> Reported
+    ensures { λ r. ⌜ Answers (Secrets.masterUnder (now (key .entry)) (now (client .entry)) (now (server .entry))) (now (out .entry)) (r .said) (now (out .exit)) ⌝ }
+    ensures { λ r. ⌜ r .blocks ≡ reported (r .said) (masterUnderBlocks (now (key .entry)) (now (client .entry)) (now (server .entry))) ⌝ }
 {
     let mut secret = [0u8; 132];
     match premaster(key, &mut secret) {
         Written::Wrote(n) => master(&secret[..n], client, server, out),
-        Written::Refused(r) => Written::Refused(r),
+        Written::Refused(r) => report(Written::Refused(r), 0),
     }
 }
 
@@ -147,7 +181,14 @@ pub fn key_block(master: &[u8], server: &[u8], client: &[u8], suite: u16, out: &
     if n < 1 {
         return Written::Refused(Refusal::BadValue);
     }
-    prf_of_randoms(master, Label::KeyExpansion, server, client, n, out)
+    if server.len() != 32 {
+        return Written::Refused(Refusal::BadValue);
+    }
+    if client.len() != 32 {
+        return Written::Refused(Refusal::BadValue);
+    }
+    let seed = joined(server, client);
+    prf(master, Label::KeyExpansion, &seed, n, out)
 }
 
 // The verify data of a Finished message, 12 bytes at the front of the lent output: R5 where the master
@@ -199,27 +240,6 @@ fn premaster_bytes(psk: &[u8]) -> [u8; 132]
     append(&mut bytes, 2 + n, &size);
     append(&mut bytes, 4 + n, psk);
     bytes
-}
-
-// n bytes of the PRF whose seed is two randoms: R5 where one is not of 32 bytes, then what `prf` tests.
-fn prf_of_randoms(
-    secret: &[u8],
-    label: Label,
-    first: &[u8],
-    second: &[u8],
-    n: usize,
-    out: &mut [u8],
-) -> Written
-    ensures { λ r. ⌜ Answers (Secrets.prfOfRandoms (now (secret .entry)) label (now (first .entry)) (now (second .entry)) n) (now (out .entry)) r (now (out .exit)) ⌝ }
-{
-    if first.len() != 32 {
-        return Written::Refused(Refusal::BadValue);
-    }
-    if second.len() != 32 {
-        return Written::Refused(Refusal::BadValue);
-    }
-    let seed = joined(first, second);
-    prf(secret, label, &seed, n, out)
 }
 
 // Two randoms one after the other.

@@ -14,6 +14,7 @@ use Rattle.refusal.specs.declared.Refusal.{Refusal}
 use Rattle.layout.specs.declared.Verdict.{Verdict}
 use Rattle.handshake.specs.declared.Outgoing.{Outgoing}
 use Rattle.handshake.specs.Flight.{Flight, silence, longest}
+use Rattle.handshake.specs.Handed.{Derived, derived}
 use Rattle.handshake.specs.Outgoing.{flightOf, total}
 use Rattle.handshake.specs.Step.{accept}
 use Rattle.server.specs.declared.Phase.{Phase}
@@ -21,7 +22,7 @@ use Rattle.server.specs.declared.Connection.{Connection}
 use Rattle.server.specs.declared.step.Decision.{Decision}
 use Rattle.server.specs.KeyExchange.{View}
 use Rattle.server.specs.Decision.{Decides, decidedBy}
-use Rattle.server.specs.Message.{messageStep, handedOver}
+use Rattle.server.specs.Message.{messageStep, handedOver, blocksIn}
 use Rattle.record_server.specs.declared.progress.Progress as Code
 use Rattle.record_server.specs.declared.progress.Course.{Course}
 use Rattle.record_server.specs.Joining as Judging
@@ -39,7 +40,7 @@ silent-behind : (f g : Flight) → g ≡ silence → joinedFlight f g ≡ f
 silent-behind f g e = rw (e, append-nil (f .plain), append-nil (f .protected))
 
 -- progress by its parts
-progress : (c : Connection) {f g : Flight} {a b : Option (List ℕ)} {k l : List ℕ} → f ≡ g → a ≡ b → k ≡ l
+progress : (c : Connection) {f g : Flight} {a b : Option Derived} {k l : List ℕ} → f ≡ g → a ≡ b → k ≡ l
     → _≡_ {A = Progress} (record { connection = c; flight = f; master = a; left = k }) (record { connection = c; flight = g; master = b; left = l })
 progress c e d h = rw (e, d, h)
 
@@ -60,16 +61,24 @@ module _ (v : View) (held : ℕ) (bytes : List ℕ) (p : Code.Progress) (sound :
 
   module _ (size : ℕ) (some : 4 ≤ size) (over : p .at ≡ 0 → held ≤ size) (room : size ≤ length (drop (p .at) bytes)) (d : Decision) where
     -- the progress behind it
-    abbrev behind : Outgoing → Bool → List ℕ → Code.Progress
-    behind outgoing handed master =
-        record { course = Course.Going; connection = d .next; outgoing = outgoing; handed = handed; master = master; at = p .at + size }
+    abbrev behind : Outgoing → Bool → List ℕ → ℕ → Code.Progress
+    behind outgoing handed master blocks =
+        record {
+          course = Course.Going;
+          connection = d .next;
+          outgoing = outgoing;
+          handed = handed;
+          master = master;
+          blocks = blocks;
+          at = p .at + size;
+        }
 
-    goes-on : (outgoing : Outgoing) (handed : Bool) (master : List ℕ) {flight : Flight} {secret : Option (List ℕ)}
-        → total (outgoing .lengths) ≤ longest → (answers (d .next .phase) → ⊥) → flight ≡ flightOf outgoing → secret ≡ masterOf handed master
+    goes-on : (outgoing : Outgoing) (handed : Bool) (master : List ℕ) (blocks : ℕ) {flight : Flight} {secret : Option Derived}
+        → total (outgoing .lengths) ≤ longest → (answers (d .next .phase) → ⊥) → flight ≡ flightOf outgoing → secret ≡ masterOf handed master blocks
         → Goes v held bytes
         (judgeLeft v (record { connection = d .next; flight = flight; master = secret; left = drop size (drop (p .at) bytes) }))
-        (p .at) (behind outgoing handed master)
-    goes-on outgoing handed master fits last e h =
+        (p .at) (behind outgoing handed master blocks)
+    goes-on outgoing handed master blocks fits last e h =
         let inside : p .at + size ≤ length bytes = omega (arith, length-drop (p .at) bytes) in
         record {
           means = ap (judgeLeft v) (progress (d .next) e h (drop-drop size (p .at) bytes));
@@ -85,44 +94,56 @@ module _ (v : View) (held : ℕ) (bytes : List ℕ) (p : Code.Progress) (sound :
 
     -- by what its step leads to
     goes-after : {flight : Flight} {next : Connection} {phase : Phase} → After (accept flight next) phase
-        → flight ≡ flightOf (d .outgoing) → next ≡ d .next → total (d .outgoing .lengths) ≤ longest
+        → flight ≡ flightOf (d .outgoing) → next ≡ d .next → total (d .outgoing .lengths) ≤ longest → {n : ℕ} → d .blocks ≡ n
         → (answers phase → flightOf (p .outgoing) ≡ silence)
         → Goes v held bytes
         (judgeLeft v (record {
           connection = d .next;
           flight = joinedFlight (flightOf (p .outgoing)) (flightOf (d .outgoing));
-          master = later (masterOf (p .handed) (p .master)) (handedOver phase (accept (flightOf (d .outgoing)) (d .next)));
+          master =
+              later (masterOf (p .handed) (p .master) (p .blocks)) (derived (handedOver phase (accept (flightOf (d .outgoing)) (d .next))) n);
           left = drop size (drop (p .at) bytes);
         }))
         (p .at) (advanced phase p d (p .at + size))
-    goes-after (greeted last) f n fits quiet =
-        goes-on (d .outgoing) (p .handed) (p .master) fits (rw n at last)
+    goes-after (greeted last) f n fits counts quiet =
+        goes-on (d .outgoing) (p .handed) (p .master) (p .blocks) fits (rw n at last)
         (silent-before (flightOf (p .outgoing)) (flightOf (d .outgoing)) (quiet tt)) refl
-    goes-after (parted last) f n fits quiet =
-        goes-on (d .outgoing) (p .handed) (p .master) fits (rw n at last)
+    goes-after (parted last) f n fits counts quiet =
+        goes-on (d .outgoing) (p .handed) (p .master) (p .blocks) fits (rw n at last)
         (silent-before (flightOf (p .outgoing)) (flightOf (d .outgoing)) (quiet tt)) refl
-    goes-after (keyed last) f n fits quiet =
-        goes-on (p .outgoing) true (d .next .secrets .master) (sound .fits) (rw n at last)
-        (silent-behind (flightOf (p .outgoing)) (flightOf (d .outgoing)) (sym f)) refl
+    goes-after (keyed last) f n fits counts quiet =
+        goes-on (p .outgoing) true (d .next .secrets .master) (d .blocks) (sound .fits) (rw n at last)
+        (silent-behind (flightOf (p .outgoing)) (flightOf (d .outgoing)) (sym f))
+        (ap (masterOf true (d .next .secrets .master)) (sym counts))
 
-    module _ (decides : Decides d (messageStep v (p .connection) (take (p .at + size - p .at) (drop (p .at) bytes)) (p .connection .phase))) where
+    module _ (decides : Decides d (messageStep v (p .connection) (take (p .at + size - p .at) (drop (p .at) bytes)) (p .connection .phase))
+        (blocksIn v (p .connection) (take (p .at + size - p .at) (drop (p .at) bytes)) (p .connection .phase))) where
       abbrev message : List ℕ
       message = take size (drop (p .at) bytes)
+
+      -- the number for it
+      abbrev blocks : ℕ
+      blocks = blocksIn v (p .connection) message (p .connection .phase)
 
       step-is : {verdict : Verdict} → d .verdict ≡ verdict → messageStep v (p .connection) message (p .connection .phase) ≡ decidedBy verdict d
       step-is e =
           let same : p .at + size - p .at ≡ size = omega arith in
           sym (rw same at (decides .means)) ∙ ap (λ (t : Verdict). decidedBy t d) e
 
+      counted : d .verdict ≡ Verdict.Accepted → d .blocks ≡ blocks
+      counted e =
+          let same : p .at + size - p .at ≡ size = omega arith in
+          rw (same, step-is e) at (decides .counts)
+
       whole : {verdict : Verdict} → d .verdict ≡ verdict
-          → whereWhole v (judgeLeft v) (progressOf bytes p) size ≡ afterStep (judgeLeft v) (progressOf bytes p) size (decidedBy verdict d)
-      whole e = rw (le-ltb (length (drop (p .at) bytes)) size room) (ap (afterStep (judgeLeft v) (progressOf bytes p) size) (step-is e))
+          → whereWhole v (judgeLeft v) (progressOf bytes p) size ≡ afterStep (judgeLeft v) (progressOf bytes p) size blocks (decidedBy verdict d)
+      whole e = rw (le-ltb (length (drop (p .at) bytes)) size room) (ap (afterStep (judgeLeft v) (progressOf bytes p) size blocks) (step-is e))
 
       pub goes-accepted : d .verdict ≡ Verdict.Accepted
           → Goes v held bytes (whereWhole v (judgeLeft v) (progressOf bytes p) size) (p .at) (advanced (p .connection .phase) p d (p .at + size))
       goes-accepted e =
           rw (whole e)
-          (goes-after (rw (step-is e) at (step-after v (p .connection) message (p .connection .phase))) refl refl (decides .fits) (sound .quiet))
+          (goes-after (rw (step-is e) at (step-after v (p .connection) message (p .connection .phase))) refl refl (decides .fits) (counted e) (sound .quiet))
 
       pub goes-rejected : {r : Refusal} → d .verdict ≡ Verdict.Refused r
           → Goes v held bytes (whereWhole v (judgeLeft v) (progressOf bytes p) size) (p .at) (onCourse p (Course.Refused r))
@@ -156,7 +177,7 @@ module _ (v : View) (held : ℕ) (bytes : List ℕ) (p : Code.Progress) where
   pub begins : p .course ≡ Course.Going → p .at ≡ 0 → p .handed ≡ false → flightOf (p .outgoing) ≡ silence → total (p .outgoing .lengths) ≤ longest
       → Running v held bytes (judged v (p .connection) bytes) p true
   begins going first unhanded silent fits =
-      let secret : none ≡ masterOf (p .handed) (p .master) = rw unhanded in
+      let secret : none ≡ masterOf (p .handed) (p .master) (p .blocks) = rw unhanded in
       let all : bytes ≡ drop (p .at) bytes = rw first in
       record {
         means = rw going (ap (judgeLeft v) (progress (p .connection) (sym silent) secret all));

@@ -40,9 +40,9 @@ not-empty (b ∷ l) e = refl
 module _ (v : View) where
   -- what judges the rest is asked only where there is less left
   module _ (f g : Progress → Judged) (p : Progress) (same : (q : Progress) → length (q .left) < length (p .left) → f q ≡ g q) where
-    same-step : (end : ℕ) → 4 ≤ end → end ≤ length (p .left) → (step : Step) → afterStep f p end step ≡ afterStep g p end step
-    same-step end some inside (Shared.refuse r) = refl
-    same-step end some inside (Shared.accept flight next) = same _ (simp length-drop (omega arith))
+    same-step : (end blocks : ℕ) → 4 ≤ end → end ≤ length (p .left) → (step : Step) → afterStep f p end blocks step ≡ afterStep g p end blocks step
+    same-step end blocks some inside (Shared.refuse r) = refl
+    same-step end blocks some inside (Shared.accept flight next) = same _ (simp length-drop (omega arith))
 
     same-first : judgeFirst v f p ≡ judgeFirst v g p
     same-first =
@@ -50,7 +50,7 @@ module _ (v : View) where
         same-cond (ltb (length (p .left)) 4) _ (λ e.
         same-early (earlyTest (awaited (p .connection .phase)) (p .left))
         (same-cond (ltb (length (p .left)) (messageEnd (p .left))) _ (λ e.
-        same-step (messageEnd (p .left)) (omega arith) (ltb-false (length (p .left)) (messageEnd (p .left)) e)
+        same-step (messageEnd (p .left)) _ (omega arith) (ltb-false (length (p .left)) (messageEnd (p .left)) e)
         (messageStep v (p .connection) (take (messageEnd (p .left)) (p .left)) (p .connection .phase))))))
 
   -- where nothing is left it ends

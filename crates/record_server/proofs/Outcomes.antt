@@ -13,6 +13,7 @@ use Rattle.refusal.specs.declared.Refusal.the-variants.{ShortOutput}
 use Rattle.refusal.specs.declared.Written.the-variants.{Wrote}
 use Rattle.layout.specs.declared.Verdict.{Verdict}
 use Rattle.handshake.specs.Flight.{counted}
+use Rattle.handshake.specs.Handed.{Derived}
 use Rattle.record_server.specs.declared.RecordConnection.{RecordConnection}
 use Rattle.record_server.specs.declared.Taken.{Taken}
 use Rattle.record_server.specs.declared.taking.Decided.{Decided}
@@ -21,10 +22,11 @@ use Rattle.record_server.specs.InnerProgress.{masterOf}
 use Rattle.record_server.specs.InnerTaking.{heldBy, decidedBy, answeredBy, Does}
 
 -- a master secret, if one is handed over, as the code's type has it
-handed-is : (b : Bool) (secret : List ℕ) (s : Settled)
-    → record { said = s .said; holds = s .holds; handed = b; master = cond b secret (replicate 48 0); next = s .next } ≡ handed (masterOf b secret) s
-handed-is true secret s = refl
-handed-is false secret s = refl
+handed-is : (b : Bool) (secret : List ℕ) (n : ℕ) (s : Settled)
+    → record { said = s .said; holds = s .holds; handed = b; master = cond b secret (replicate 48 0); blocks = cond b n 0; next = s .next }
+    ≡ handed (masterOf b secret n) s
+handed-is true secret n s = refl
+handed-is false secret n s = refl
 
 -- what is to be sent
 abbrev answer : Decided → List ℕ
@@ -49,14 +51,14 @@ module _ {c : RecordConnection} {d : Decided} {held bytes out memory : List ℕ}
       → out' ≡ front (answer d) out → memory' ≡ front (heldBy (d .keep) memory held bytes) memory → Does c d held bytes out memory t out' memory'
   settled-does v sent kept e o m =
       record {
-        takes = rw (v, sent, kept) (record { gives = e ∙ handed-is (d .handed) (d .master) _; out-left = o; memory-left = m });
+        takes = rw (v, sent, kept) (record { gives = e ∙ handed-is (d .handed) (d .master) (d .blocks) _; out-left = o; memory-left = m });
       }
 
 -- ---- no answer is longer than its array
 
-said-kept : (o : Option (List ℕ)) (s : Settled) → handed o s .said ≡ s .said
+said-kept : (o : Option Derived) (s : Settled) → handed o s .said ≡ s .said
 said-kept none s = refl
-said-kept (some secret) s = refl
+said-kept (some d) s = refl
 
 module _ (c : RecordConnection) (d : Decided) (held bytes out memory : List ℕ) (fits : d .len ≤ 336) where
   settled-brief : (v : Verdict) → counted (settled c out memory (decidedBy v d memory held bytes) .said) ≤ 336

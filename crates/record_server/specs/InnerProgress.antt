@@ -8,6 +8,7 @@ use mathlib.Core.List.{List}
 use mathlib.Core.Option.{Option, none, some}
 use lib.ListN.{length, drop}
 use Rattle.handshake.specs.Flight.{silence, longest}
+use Rattle.handshake.specs.Handed.{Derived}
 use Rattle.handshake.specs.Outgoing.{total, flightOf}
 use Rattle.server.specs.declared.Phase.{Phase}
 use Rattle.server.specs.declared.step.Decision.{Decision}
@@ -17,9 +18,9 @@ use Rattle.record_server.specs.declared.progress.Course.{Course}
 use Rattle.record_server.specs.Joining as Judging
 use Rattle.record_server.specs.Joining.{Progress, Judged, goesOn, judgeBytes}
 
-abbrev pub masterOf : Bool → List ℕ → Option (List ℕ)
-masterOf false secret = none
-masterOf true secret = some secret
+abbrev pub masterOf : Bool → List ℕ → ℕ → Option Derived
+masterOf false secret n = none
+masterOf true secret n = some (record { master = secret; blocks = n })
 
 -- the progress that the code's value stands for, over these bytes
 abbrev pub progressOf : List ℕ → Code.Progress → Progress
@@ -27,7 +28,7 @@ progressOf bytes p =
     record {
       connection = p .connection;
       flight = flightOf (p .outgoing);
-      master = masterOf (p .handed) (p .master);
+      master = masterOf (p .handed) (p .master) (p .blocks);
       left = drop (p .at) bytes;
     }
 
@@ -48,16 +49,40 @@ isGoing (Course.Refused r) = false
 
 abbrev pub onCourse : Code.Progress → Course → Code.Progress
 onCourse p course =
-    record { course = course; connection = p .connection; outgoing = p .outgoing; handed = p .handed; master = p .master; at = p .at }
+    record {
+      course = course;
+      connection = p .connection;
+      outgoing = p .outgoing;
+      handed = p .handed;
+      master = p .master;
+      blocks = p .blocks;
+      at = p .at;
+    }
 
 -- behind a message that was accepted: one whose step answers, or a ClientKeyExchange
 abbrev pub withAnswer : Code.Progress → Decision → ℕ → Code.Progress
 withAnswer p d at =
-    record { course = Course.Going; connection = d .next; outgoing = d .outgoing; handed = p .handed; master = p .master; at = at }
+    record {
+      course = Course.Going;
+      connection = d .next;
+      outgoing = d .outgoing;
+      handed = p .handed;
+      master = p .master;
+      blocks = p .blocks;
+      at = at;
+    }
 
 abbrev pub withMaster : Code.Progress → Decision → ℕ → Code.Progress
 withMaster p d at =
-    record { course = Course.Going; connection = d .next; outgoing = p .outgoing; handed = true; master = d .next .secrets .master; at = at }
+    record {
+      course = Course.Going;
+      connection = d .next;
+      outgoing = p .outgoing;
+      handed = true;
+      master = d .next .secrets .master;
+      blocks = d .blocks;
+      at = at;
+    }
 
 abbrev pub advanced : Phase → Code.Progress → Decision → ℕ → Code.Progress
 advanced Phase.Hello p d at = withAnswer p d at

@@ -37,7 +37,7 @@ decidedBy Verdict.Accepted d memory held bytes =
       answer = take (d .len) (d .records);
       next = d .next;
       held = heldBy (d .keep) memory held bytes;
-      master = masterOf (d .handed) (d .master);
+      master = masterOf (d .handed) (d .master) (d .blocks);
       holds = d .holds;
     })
 decidedBy (Verdict.Refused r) d memory held bytes = Taking.refuse r
@@ -64,7 +64,7 @@ pub record Holds (memory : List ℕ) (kept : ℕ) (bytes : List ℕ) (n : ℕ) :
 
 -- handshake bytes that came so far, the rest of them being kept so
 pub record Progresses (c : RecordConnection) (p : Code.Progress) (keep : Keep) (left : ℕ) (d : Decided) : Type 0 where
-  pub is : (q : Progress) → q .connection ≡ p .connection → q .flight ≡ flightOf (p .outgoing) → q .master ≡ masterOf (p .handed) (p .master)
+  pub is : (q : Progress) → q .connection ≡ p .connection → q .flight ≡ flightOf (p .outgoing) → q .master ≡ masterOf (p .handed) (p .master) (p .blocks)
       → length (q .left) ≡ left → (memory held bytes : List ℕ) → heldBy keep memory held bytes ≡ q .left
       → decidedBy (d .verdict) d memory held bytes ≡ handshakeStep c (goesOn q)
   pub keeps : d .keep ≡ keep
@@ -86,6 +86,7 @@ answeredBy d said =
       holds = d .holds;
       handed = d .handed;
       master = cond (d .handed) (d .master) (replicate 48 0);
+      blocks = cond (d .handed) (d .blocks) 0;
       next = d .next;
     }
 

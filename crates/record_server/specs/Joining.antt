@@ -10,20 +10,22 @@ use Rattle.refusal.specs.declared.Refusal.{Refusal}
 use Rattle.refusal.specs.declared.Refusal.the-variants.{UnexpectedMessage}
 use Rattle.layout.specs.declared.Verdict.{Verdict}
 use Rattle.handshake.specs.Flight.{Flight, silence}
+use Rattle.handshake.specs.Handed.{Derived, derived}
 use Rattle.handshake.specs.Header.{earlyTest}
 use Rattle.handshake.specs.Step as Shared
 use Rattle.server.specs.declared.Connection.{Connection}
 use Rattle.server.specs.KeyExchange.{View}
 use Rattle.server.specs.Step.{Step}
-use Rattle.server.specs.Message.{awaited, messageStep, handedOver}
+use Rattle.server.specs.Message.{awaited, messageStep, handedOver, blocksIn}
 use Rattle.records.specs.Joining.{messageEnd}
 use Rattle.record_server.specs.Connection.{isComplete}
 
--- how far the bytes have been judged: the connection, what is to be sent, the master secret if one is handed over, and the bytes that are left
+-- how far the bytes have been judged: the connection, what is to be sent, the master secret with the number of its blocks if one is handed over, and the
+-- bytes that are left
 pub record Progress : Type 0 where
   pub connection : Connection
   pub flight : Flight
-  pub master : Option (List ℕ)
+  pub master : Option Derived
   pub left : List ℕ
 
 pub data Judged : Type 0 where
@@ -39,25 +41,27 @@ abbrev pub joinedFlight : Flight → Flight → Flight
 joinedFlight f g = record { plain = f .plain ++ g .plain; protected = f .protected ++ g .protected }
 
 -- the later one where there are two
-abbrev pub later : Option (List ℕ) → Option (List ℕ) → Option (List ℕ)
+abbrev pub later : Option Derived → Option Derived → Option Derived
 later old none = old
-later old (some secret) = some secret
+later old (some d) = some d
 
--- the message that ends at `end` was judged; `on` judges what stands behind it
-abbrev pub afterStep : (Progress → Judged) → Progress → ℕ → Step → Judged
-afterStep on p end (Shared.refuse r) = refuse r
-afterStep on p end (Shared.accept flight next) =
+-- the message that ends at `end` was judged, for whose master secret, if one is handed over, so many blocks were hashed; `on` judges what stands behind it
+abbrev pub afterStep : (Progress → Judged) → Progress → (end blocks : ℕ) → Step → Judged
+afterStep on p end blocks (Shared.refuse r) = refuse r
+afterStep on p end blocks (Shared.accept flight next) =
     on (record {
       connection = next;
       flight = joinedFlight (p .flight) flight;
-      master = later (p .master) (handedOver (p .connection .phase) (Shared.accept flight next));
+      master = later (p .master) (derived (handedOver (p .connection .phase) (Shared.accept flight next)) blocks);
       left = drop end (p .left);
     })
 
 -- a message of which all is there is judged, and any other waits
 abbrev pub whereWhole : View → (Progress → Judged) → Progress → ℕ → Judged
 whereWhole v on p end =
-    cond (ltb (length (p .left)) end) (goesOn p) (afterStep on p end (messageStep v (p .connection) (take end (p .left)) (p .connection .phase)))
+    cond (ltb (length (p .left)) end) (goesOn p)
+    (afterStep on p end (blocksIn v (p .connection) (take end (p .left)) (p .connection .phase))
+    (messageStep v (p .connection) (take end (p .left)) (p .connection .phase)))
 
 -- type and limit are judged as soon as the header is in
 abbrev pub afterEarly : Verdict → Judged → Judged

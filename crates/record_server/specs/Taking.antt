@@ -16,6 +16,7 @@ use Rattle.refusal.specs.Table.{numberOf}
 use Rattle.layout.specs.declared.Verdict.{Verdict}
 use Rattle.handshake.specs.declared.Heard.{Heard}
 use Rattle.handshake.specs.Alert.{heard}
+use Rattle.handshake.specs.Handed.{Derived}
 use Rattle.handshake.specs.Step as Shared
 use Rattle.server.specs.declared.Connection.{Connection}
 use Rattle.server.specs.KeyExchange.{View}
@@ -36,13 +37,13 @@ use Rattle.record_server.specs.Joining.{Progress, Judged, goesOn, isEmpt
 
 -- ---- what a record comes to, whatever the room
 
--- what is sent, the connection then, what is held of an unfinished message, the master secret if one is handed over, and application data if there
--- is some
+-- what is sent, the connection then, what is held of an unfinished message, the master secret with the number of its blocks if one is handed over, and
+-- application data if there is some
 pub record Accepted : Type 0 where
   pub answer : List ℕ
   pub next : RecordConnection
   pub held : List ℕ
-  pub master : Option (List ℕ)
+  pub master : Option Derived
   pub holds : Data
 
 pub data Step : Type 0 where
@@ -90,9 +91,9 @@ changedBy c held (Shared.accept flight next) = silently (changed c next) held Da
 -- ---- handshake bytes
 
 -- the keys of the pending states: made where a master secret was handed over
-abbrev pub pendingWith : Pending → Connection → Option (List ℕ) → Pending
+abbrev pub pendingWith : Pending → Connection → Option Derived → Pending
 pendingWith pending next none = pending
-pendingWith pending next (some secret) = keysOf next
+pendingWith pending next (some d) = keysOf next
 
 -- the server's key is pending no more when its change of cipher is sent
 abbrev pub pendingAfter : Pending → List (List ℕ) → Pending
@@ -174,13 +175,14 @@ takeStep v c memory bytes =
 
 -- ---- what the call gives back
 
--- what is said, the connection, the lent output and the lent memory afterwards, the master secret if one is handed over, and application data
+-- what is said, the connection, the lent output and the lent memory afterwards, the master secret with the number of its blocks if one is handed over, and
+-- application data
 pub record Settled : Type 0 where
   pub said : Written
   pub next : RecordConnection
   pub out : List ℕ
   pub memory : List ℕ
-  pub master : Option (List ℕ)
+  pub master : Option Derived
   pub holds : Data
 
 abbrev pub refused : RecordConnection → (out memory : List ℕ) → Refusal → Settled
@@ -210,9 +212,9 @@ abbrev pub takeCall : View → RecordConnection → (bytes memory out : List ℕ
 takeCall v c bytes memory out = settled c out memory (takeStep v c memory bytes)
 
 -- as the code's type has it: zeros where no master secret is handed over
-abbrev pub handed : Option (List ℕ) → Settled → Taken
-handed none s = record { said = s .said; holds = s .holds; handed = false; master = replicate 48 0; next = s .next }
-handed (some secret) s = record { said = s .said; holds = s .holds; handed = true; master = secret; next = s .next }
+abbrev pub handed : Option Derived → Settled → Taken
+handed none s = record { said = s .said; holds = s .holds; handed = false; master = replicate 48 0; blocks = 0; next = s .next }
+handed (some d) s = record { said = s .said; holds = s .holds; handed = true; master = d .master; blocks = d .blocks; next = s .next }
 
 abbrev pub taken : Settled → Taken
 taken s = handed (s .master) s

@@ -59,11 +59,12 @@ pub enum Data {
 }
 
 // What a record is answered with: how many bytes were written or a refusal, whether it holds application data, the
-// master secret where one is handed over, and the connection.
+// master secret where one is handed over with how many blocks were hashed for it, and the connection.
 pub struct Taken {
     pub said: Written,
     pub holds: Data,
     pub handed: bool,
     pub master: [u8; 48],
+    pub blocks: u64,
     pub next: RecordConnection,
 }

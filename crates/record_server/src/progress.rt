@@ -10,7 +10,7 @@ ghost use Rattle.lists.specs.Lists.{part};
 ghost use Rattle.handshake.specs.Flight.{silence};
 ghost use Rattle.handshake.specs.Outgoing.{flightOf, total};
 ghost use Rattle.server.specs.KeyExchange.{viewOf};
-ghost use Rattle.server.specs.Message.{messageStep};
+ghost use Rattle.server.specs.Message.{messageStep, blocksIn};
 ghost use Rattle.server.specs.Decision as Server;
 ghost use Rattle.records.specs.Joining.{unfinished};
 ghost use Rattle.record_server.specs.declared.progress.Course.{Course};
@@ -39,6 +39,7 @@ pub struct Progress {
     pub outgoing: Outgoing,
     pub handed: bool,
     pub master: [u8; 48],
+    pub blocks: u64,
     pub at: usize,
 }
 
@@ -79,7 +80,8 @@ fn decide_at(
 ) -> Decision
     requires { ⌜ (at ≤ end) × (end ≤ length (now held) + length (now content)) × (end ≤ at + 16384) ⌝ }
     requires { ⌜ ((at ≡ 0) × (length (now held) ≤ end)) ⊎ (length (now held) ≤ at) ⌝ }
-    ensures { λ d. ⌜ Server.Decides d (messageStep (viewOf (now (table .entry)) (now (starts .entry)) count) c (take (end - at) (drop at (now (held .entry) ++ now (content .entry)))) (c .phase)) ⌝ }
+    ensures { λ d. ⌜ Server.Decides d (messageStep (viewOf (now (table .entry)) (now (starts .entry)) count) c (take (end - at) (drop at (now (held .entry) ++ now (content .entry)))) (c .phase))
+        (blocksIn (viewOf (now (table .entry)) (now (starts .entry)) count) c (take (end - at) (drop at (now (held .entry) ++ now (content .entry)))) (c .phase)) ⌝ }
 {
     let kept = held.len();
     if kept <= at {
@@ -104,6 +106,7 @@ fn on_course(p: Progress, course: Course) -> Progress
         outgoing,
         handed: p.handed,
         master,
+        blocks: p.blocks,
         at: p.at,
     }
 }
@@ -121,11 +124,12 @@ fn with_answer(p: Progress, d: Decision, at: usize) -> Progress
         outgoing,
         handed: p.handed,
         master,
+        blocks: p.blocks,
         at,
     }
 }
 
-// Behind a ClientKeyExchange, which is not answered: its master secret is handed over.
+// Behind a ClientKeyExchange, which is not answered: its master secret is handed over, with the number of its blocks.
 fn with_master(p: Progress, d: Decision, at: usize) -> Progress
     ensures { λ r. ⌜ r ≡ withMaster p d at ⌝ }
 {
@@ -139,6 +143,7 @@ fn with_master(p: Progress, d: Decision, at: usize) -> Progress
         outgoing,
         handed: true,
         master,
+        blocks: d.blocks,
         at,
     }
 }
@@ -241,6 +246,7 @@ fn begin(c: Connection) -> Progress
         outgoing,
         handed: false,
         master: [0u8; 48],
+        blocks: 0,
         at: 0,
     }
 }

@@ -54,6 +54,7 @@ pub struct Decided {
     pub keep: Keep,
     pub handed: bool,
     pub master: [u8; 48],
+    pub blocks: u64,
     pub holds: Data,
 }
 
@@ -71,6 +72,7 @@ fn refused(c: RecordConnection, r: Refusal) -> Decided
         keep: Keep::Same,
         handed: false,
         master: [0u8; 48],
+        blocks: 0,
         holds: Data::Nothing,
     }
 }
@@ -87,6 +89,7 @@ fn silent(next: RecordConnection, holds: Data) -> Decided
         keep: Keep::Same,
         handed: false,
         master: [0u8; 48],
+        blocks: 0,
         holds,
     }
 }
@@ -183,7 +186,7 @@ fn keys_of(c: Connection) -> Pending
 
 // The keys of the pending states behind handshake bytes.
 fn pending_with(pending: Pending, p: Progress) -> Pending
-    ensures { λ r. ⌜ r ≡ Taking.pendingWith pending (p .connection) (masterOf (p .handed) (p .master)) ⌝ }
+    ensures { λ r. ⌜ r ≡ Taking.pendingWith pending (p .connection) (masterOf (p .handed) (p .master) (p .blocks)) ⌝ }
 {
     if p.handed {
         let connection = p.connection;
@@ -240,6 +243,7 @@ fn progressed(c: RecordConnection, p: Progress, keep: Keep, left: usize) -> Deci
         keep,
         handed: p.handed,
         master,
+        blocks: p.blocks,
         holds: Data::Nothing,
     }
 }
@@ -466,6 +470,7 @@ fn refuse(c: RecordConnection, r: Refusal) -> Taken
         holds: Data::Nothing,
         handed: false,
         master: [0u8; 48],
+        blocks: 0,
         next,
     }
 }
@@ -513,6 +518,7 @@ fn answered(d: Decided, said: Written) -> Taken
             holds,
             handed: true,
             master,
+            blocks: d.blocks,
             next,
         };
     }
@@ -521,6 +527,7 @@ fn answered(d: Decided, said: Written) -> Taken
         holds,
         handed: false,
         master: [0u8; 48],
+        blocks: 0,
         next,
     }
 }

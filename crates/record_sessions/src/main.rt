@@ -89,7 +89,8 @@ fn start() -> RecordConnection {
     answer.next
 }
 
-// The rest of a record's line: application data, and the master secret where one was handed over.
+// The rest of a record's line: application data, and the master secret where one was handed over with how many blocks
+// were hashed for it.
 fn print_taken(taken: Taken, received: &[u8]) {
     let holds = taken.holds;
     match holds {
@@ -101,6 +102,8 @@ fn print_taken(taken: Taken, received: &[u8]) {
     }
     if taken.handed {
         let master = taken.master;
+        lines::text(b" blocks ");
+        lines::number(taken.blocks as usize);
         lines::text(b" master");
         print_bytes(&master);
     }

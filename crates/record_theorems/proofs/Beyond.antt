@@ -29,7 +29,7 @@ use Rattle.server.specs.KeyExchange.{View}
 use Rattle.server.specs.Step as Server
 use Rattle.server.specs.Change.{changeStep}
 use Rattle.server.specs.Finished.{completed, finishedValue}
-use Rattle.server.specs.Message.{awaited, messageStep}
+use Rattle.server.specs.Message.{awaited, messageStep, blocksIn}
 use Rattle.records.specs.declared.ContentType.{ContentType}
 use Rattle.records.specs.declared.Opened.{Opened}
 use Rattle.records.specs.Protection.{opened, contentOf}
@@ -45,27 +45,28 @@ use Rattle.record_server.specs.Taking.{unlistedFirst, openedStep, settled, take
 use Rattle.record_server.proofs.Settling.{alerts-close}
 use Rattle.record_theorems.specs.Series.{Call, takes, sends, Kept, call}
 use Rattle.record_theorems.proofs.Taking.{took}
-use Rattle.record_theorems.proofs.Cutting.{taken}
+use Rattle.record_theorems.proofs.Cutting.{taken, blocksFor}
 
 -- ---- one turn, under two tables
 
 -- what is judged behind a message
-abbrev pub behind : (Progress → Judged) → Progress → (rest : List ℕ) → Server.Step → Judged
-behind on p rest (Shared.refuse r) = Judging.refuse r
-behind on p rest (Shared.accept flight next) = on (taken p rest flight next)
+abbrev pub behind : (Progress → Judged) → Progress → (rest : List ℕ) → (blocks : ℕ) → Server.Step → Judged
+behind on p rest blocks (Shared.refuse r) = Judging.refuse r
+behind on p rest blocks (Shared.accept flight next) = on (taken p rest blocks flight next)
 
 -- it differs only where the first message does
 pub turn-pair : (v v' : View) (on on' : Progress → Judged) (R : Judged → Judged → Type 0) (p : Progress)
     → ((r : Refusal) → R (Judging.refuse r) (Judging.refuse r))
     → R (goesOn p) (goesOn p)
     → ((m rest : List ℕ) → p .left ≡ m ++ rest
-    → R (behind on p rest (messageStep v (p .connection) m (p .connection .phase)))
-    (behind on' p rest (messageStep v' (p .connection) m (p .connection .phase))))
+    → R (behind on p rest (blocksFor v p m) (messageStep v (p .connection) m (p .connection .phase)))
+    (behind on' p rest (blocksFor v' p m) (messageStep v' (p .connection) m (p .connection .phase))))
     → R (judgeFirst v on p) (judgeFirst v' on' p)
 turn-pair v v' on on' R p refused waits steps =
     go (isComplete (p .connection .phase) && not (isEmpty (p .left))) (ltb (length (p .left)) 4)
     (earlyTest (awaited (p .connection .phase)) (p .left))
-    (ltb (length (p .left)) (messageEnd (p .left)))
+    (ltb (length (p .left)) (messageEnd (p .left))) (blocksFor v p (take (messageEnd (p .left)) (p .left)))
+    (blocksFor v' p (take (messageEnd (p .left)) (p .left)))
     (messageStep v (p .connection) (take (messageEnd (p .left)) (p .left)) (p .connection .phase))
     (messageStep v' (p .connection) (take (messageEnd (p .left)) (p .left)) (p .connection .phase))
     (steps (take (messageEnd (p .left)) (p .left)) rest (sym (take-append-drop (messageEnd (p .left)) (p .left))))
@@ -73,23 +74,24 @@ turn-pair v v' on on' R p refused waits steps =
     rest : List ℕ
     rest = drop (messageEnd (p .left)) (p .left)
 
-    after : (step step' : Server.Step) → R (behind on p rest step) (behind on' p rest step')
-        → R (afterStep on p (messageEnd (p .left)) step) (afterStep on' p (messageEnd (p .left)) step')
-    after (Shared.refuse r) (Shared.refuse q) h = h
-    after (Shared.refuse r) (Shared.accept flight next) h = h
-    after (Shared.accept flight next) (Shared.refuse q) h = h
-    after (Shared.accept flight next) (Shared.accept flight' next') h = h
+    after : (n n' : ℕ) (step step' : Server.Step) → R (behind on p rest n step) (behind on' p rest n' step')
+        → R (afterStep on p (messageEnd (p .left)) n step) (afterStep on' p (messageEnd (p .left)) n' step')
+    after n n' (Shared.refuse r) (Shared.refuse q) h = h
+    after n n' (Shared.refuse r) (Shared.accept flight next) h = h
+    after n n' (Shared.accept flight next) (Shared.refuse q) h = h
+    after n n' (Shared.accept flight next) (Shared.accept flight' next') h = h
 
-    go : (over few : Bool) (early : Verdict) (short : Bool) (step step' : Server.Step) → R (behind on p rest step) (behind on' p rest step')
+    go : (over few : Bool) (early : Verdict) (short : Bool) (n n' : ℕ) (step step' : Server.Step)
+        → R (behind on p rest n step) (behind on' p rest n' step')
         → R (cond over (Judging.refuse UnexpectedMessage) (cond few (goesOn p) (afterEarly early (cond short (goesOn p)
-        (afterStep on p (messageEnd (p .left)) step)))))
+        (afterStep on p (messageEnd (p .left)) n step)))))
         (cond over (Judging.refuse UnexpectedMessage) (cond few (goesOn p) (afterEarly early (cond short (goesOn p)
-        (afterStep on' p (messageEnd (p .left)) step')))))
-    go true few early short step step' h = refused UnexpectedMessage
-    go false true early short step step' h = waits
-    go false false (Verdict.Refused r) short step step' h = refused r
-    go false false Verdict.Accepted true step step' h = waits
-    go false false Verdict.Accepted false step step' h = after step step' h
+        (afterStep on' p (messageEnd (p .left)) n' step')))))
+    go true few early short n n' step step' h = refused UnexpectedMessage
+    go false true early short n n' step step' h = waits
+    go false false (Verdict.Refused r) short n n' step step' h = refused r
+    go false false Verdict.Accepted true n n' step step' h = waits
+    go false false Verdict.Accepted false n n' step step' h = after n n' step step' h
 
 -- ---- past the ClientKeyExchange
 
@@ -136,6 +138,14 @@ message-same v v' c m Phase.Finished past = refl
 message-same v v' c m Phase.Complete past = refl
 message-same v v' c m Phase.Closed past = refl
 
+blocks-same : (v v' : View) (c : Connection) (m : List ℕ) (phase : Phase) → Beyond phase → blocksIn v c m phase ≡ blocksIn v' c m phase
+blocks-same v v' c m Phase.Hello past = absurd past
+blocks-same v v' c m Phase.KeyExchange past = absurd past
+blocks-same v v' c m Phase.Change past = refl
+blocks-same v v' c m Phase.Finished past = refl
+blocks-same v v' c m Phase.Complete past = refl
+blocks-same v v' c m Phase.Closed past = refl
+
 abbrev StaysOn : Judged → Type 0
 StaysOn (Judging.refuse r) = Unit
 StaysOn (goesOn p) = Beyond (p .connection .phase)
@@ -148,15 +158,16 @@ unfolding judgeBytes
 judged-same v v' zero p past = (refl, past)
 judged-same v v' (suc n) p past =
     turn-pair v v' (judgeBytes n v) (judgeBytes n v') SameOn p (λ r. (refl, tt)) (refl, past)
-    (λ m rest is. go rest (messageStep v (p .connection) m (p .connection .phase)) (messageStep v' (p .connection) m (p .connection .phase))
+    (λ m rest is. go rest (blocksFor v p m) (blocksFor v' p m) (blocks-same v v' (p .connection) m (p .connection .phase) past)
+    (messageStep v (p .connection) m (p .connection .phase)) (messageStep v' (p .connection) m (p .connection .phase))
     (message-same v v' (p .connection) m (p .connection .phase) past) (message-stays v (p .connection) m (p .connection .phase) past)
     (judged-same v v' n))
   where
-    go : (rest : List ℕ) (step step' : Server.Step) → step ≡ step' → Stays step
+    go : (rest : List ℕ) (k k' : ℕ) → k ≡ k' → (step step' : Server.Step) → step ≡ step' → Stays step
         → ((q : Progress) → Beyond (q .connection .phase) → SameOn (judgeBytes n v q) (judgeBytes n v' q))
-        → SameOn (behind (judgeBytes n v) p rest step) (behind (judgeBytes n v') p rest step')
-    go rest (Shared.refuse r) step' is stays on = rw (← is) (refl, tt)
-    go rest (Shared.accept flight next) step' is stays on = rw (← is) (on (taken p rest flight next) stays)
+        → SameOn (behind (judgeBytes n v) p rest k step) (behind (judgeBytes n v') p rest k' step')
+    go rest k k' same (Shared.refuse r) step' is stays on = rw (← is) (refl, tt)
+    go rest k k' same (Shared.accept flight next) step' is stays on = rw (← is, ← same) (on (taken p rest k flight next) stays)
 
 -- ---- calls
 

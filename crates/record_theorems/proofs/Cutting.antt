@@ -16,6 +16,7 @@ use Rattle.refusal.specs.declared.Refusal.{Refusal}
 use Rattle.refusal.specs.declared.Refusal.the-variants.{UnexpectedMessage}
 use Rattle.layout.specs.declared.Verdict.{Verdict}
 use Rattle.handshake.specs.Flight.{Flight, silence, joined}
+use Rattle.handshake.specs.Handed.{Derived, derived}
 use Rattle.handshake.specs.Header.{earlyTest}
 use Rattle.handshake.specs.Step as Shared
 use Rattle.server.specs.declared.Phase.{Phase}
@@ -23,7 +24,7 @@ use Rattle.server.specs.declared.Connection.{Connection}
 use Rattle.server.specs.Connection.{isOver}
 use Rattle.server.specs.KeyExchange.{View}
 use Rattle.server.specs.Step.{Step}
-use Rattle.server.specs.Message.{awaited, messageStep, handedOver}
+use Rattle.server.specs.Message.{awaited, messageStep, handedOver, blocksIn}
 use Rattle.records.specs.Joining.{messageEnd, unfinished}
 use Rattle.record_server.specs.Connection.{isComplete}
 use Rattle.record_server.specs.Joining.{Progress, Judged, refuse, goesOn, isEmpty, joinedFlight, later, afterStep, whereWhole, afterEarly, judgeFirst}
@@ -48,14 +49,18 @@ module _ (bytes more : List ℕ) (header : 4 ≤ length bytes) where
 -- ---- one turn
 
 -- a message that was accepted, and what is left behind it
-abbrev pub taken : Progress → (rest : List ℕ) → Flight → Connection → Progress
-taken p rest flight next =
+abbrev pub taken : Progress → (rest : List ℕ) → (blocks : ℕ) → Flight → Connection → Progress
+taken p rest blocks flight next =
     record {
       connection = next;
       flight = joinedFlight (p .flight) flight;
-      master = later (p .master) (handedOver (p .connection .phase) (Shared.accept flight next));
+      master = later (p .master) (derived (handedOver (p .connection .phase) (Shared.accept flight next)) blocks);
       left = rest;
     }
+
+-- how many blocks are hashed for the message m
+abbrev pub blocksFor : View → Progress → (m : List ℕ) → ℕ
+blocksFor v p m = blocksIn v (p .connection) m (p .connection .phase)
 
 -- What one turn makes of the bytes that are left, with whatever bytes behind them: they are refused; or they wait; or their first message is
 -- accepted.
@@ -64,7 +69,7 @@ data Turn (v : View) (p : Progress) : Type 0 where
   waiting : unfinished (p .left) ≡ true → ((on : Progress → Judged) → judgeFirst v on p ≡ goesOn p) → Turn v p
   taking : (m rest : List ℕ) (flight : Flight) (next : Connection) → p .left ≡ m ++ rest → length rest < length (p .left)
       → messageStep v (p .connection) m (p .connection .phase) ≡ Shared.accept flight next
-      → ((on : Progress → Judged) (more : List ℕ) → judgeFirst v on (withMore p more) ≡ on (withMore (taken p rest flight next) more)) → Turn v p
+      → ((on : Progress → Judged) (more : List ℕ) → judgeFirst v on (withMore p more) ≡ on (withMore (taken p rest (blocksFor v p m) flight next) more)) → Turn v p
 
 module _ (v : View) (on : Progress → Judged) where
   -- the header is in, and the handshake is not over
@@ -76,7 +81,7 @@ module _ (v : View) (on : Progress → Judged) where
   first-more : (p : Progress) (more : List ℕ) → isComplete (p .connection .phase) ≡ false → 4 ≤ length (p .left)
       → earlyTest (awaited (p .connection .phase)) (p .left) ≡ Verdict.Accepted → messageEnd (p .left) ≤ length (p .left)
       → judgeFirst v on (withMore p more)
-      ≡ afterStep on (withMore p more) (messageEnd (p .left))
+      ≡ afterStep on (withMore p more) (messageEnd (p .left)) (blocksFor v p (take (messageEnd (p .left)) (p .left)))
       (messageStep v (p .connection) (take (messageEnd (p .left)) (p .left)) (p .connection .phase))
   first-more p more going long early whole =
       let long-more : 4 ≤ length (p .left ++ more) = rw length-append (omega arith) in
@@ -152,25 +157,25 @@ pub refused-on : {r : Refusal} {p : Progress} → refuse r ≡ goesOn p → ⊥
 refused-on e = let z : _≡_ {A = ℕ} 0 1 = cc in omega arith
 
 -- behind a flight and a master secret of messages that were judged before
-abbrev pub onto : Flight → Option (List ℕ) → Progress → Progress
+abbrev pub onto : Flight → Option Derived → Progress → Progress
 onto before master p =
     record { connection = p .connection; flight = joinedFlight before (p .flight); master = later master (p .master); left = p .left }
 
-abbrev pub allOnto : Flight → Option (List ℕ) → Judged → Judged
+abbrev pub allOnto : Flight → Option Derived → Judged → Judged
 allOnto before master (refuse r) = refuse r
 allOnto before master (goesOn p) = goesOn (onto before master p)
 
-later-later : (a b d : Option (List ℕ)) → later (later a b) d ≡ later a (later b d)
+later-later : (a b d : Option Derived) → later (later a b) d ≡ later a (later b d)
 later-later a b none = refl
-later-later a b (some secret) = refl
+later-later a b (some d) = refl
 
-onto-taken : (before : Flight) (master : Option (List ℕ)) (p : Progress) (rest : List ℕ) (flight : Flight) (next : Connection)
-    → taken (onto before master p) rest flight next ≡ onto before master (taken p rest flight next)
-onto-taken before master p rest flight next =
+onto-taken : (before : Flight) (master : Option Derived) (p : Progress) (rest : List ℕ) (n : ℕ) (flight : Flight) (next : Connection)
+    → taken (onto before master p) rest n flight next ≡ onto before master (taken p rest n flight next)
+onto-taken before master p rest n flight next =
     rw (
       append-assoc (before .plain) (p .flight .plain) (flight .plain),
       append-assoc (before .protected) (p .flight .protected) (flight .protected),
-      later-later master (p .master) (handedOver (p .connection .phase) (Shared.accept flight next)),
+      later-later master (p .master) (derived (handedOver (p .connection .phase) (Shared.accept flight next)) n),
     )
 
 -- ---- the first message of the bytes
@@ -192,7 +197,7 @@ module _ (v : View) where
     is-left : judgeAll v p ≡ goesOn p → First p
     is-taken : (m rest : List ℕ) (flight : Flight) (next : Connection) → p .left ≡ m ++ rest
         → messageStep v (p .connection) m (p .connection .phase) ≡ Shared.accept flight next
-        → judgeAll v p ≡ judgeAll v (taken p rest flight next) → First p
+        → judgeAll v p ≡ judgeAll v (taken p rest (blocksFor v p m) flight next) → First p
 
   pub first : (p : Progress) → First p
   first p = go (turn v p)
@@ -202,12 +207,12 @@ module _ (v : View) where
       go (waiting short e) = is-left (all-first p ∙ e (judgeAll v))
       go (taking m rest flight next is shorter step e) =
           is-taken m rest flight next is step
-          (all-first p ∙ at-once (judgeAll v) p (e (judgeAll v) []) ∙ ap (judgeAll v) (no-more (taken p rest flight next)))
+          (all-first p ∙ at-once (judgeAll v) p (e (judgeAll v) []) ∙ ap (judgeAll v) (no-more (taken p rest (blocksFor v p m) flight next)))
 
   -- a message at the front that passed the tests on its header
   module _ (p : Progress) (m rest : List ℕ) {kind : ℕ} (is : p .left ≡ m ++ rest) (awaits : awaited (p .connection .phase) ≡ some kind)
       (passed : HeaderPassed kind m) where
-    message-stepped : judgeAll v p ≡ afterStep (judgeAll v) p (length m) (messageStep v (p .connection) m (p .connection .phase))
+    message-stepped : judgeAll v p ≡ afterStep (judgeAll v) p (length m) (blocksFor v p m) (messageStep v (p .connection) m (p .connection .phase))
     message-stepped =
         let alone : Progress = record { connection = p .connection; flight = p .flight; master = p .master; left = m } in
         let inside : messageEnd m ≤ length m = rw (passed .ends) (omega arith) in
@@ -225,7 +230,7 @@ module _ (v : View) where
         going Phase.Closed e = refl
 
     pub message-first : (flight : Flight) (next : Connection) → messageStep v (p .connection) m (p .connection .phase) ≡ Shared.accept flight next
-        → judgeAll v p ≡ judgeAll v (taken p rest flight next)
+        → judgeAll v p ≡ judgeAll v (taken p rest (blocksFor v p m) flight next)
     message-first flight next step = message-stepped ∙ rw (step, is, drop-append-seam)
 
     pub message-refused : (r : Refusal) → messageStep v (p .connection) m (p .connection .phase) ≡ Shared.refuse r → judgeAll v p ≡ refuse r
@@ -244,7 +249,7 @@ module _ (v : View) where
       go (refused r told e) less = e (judgeAll v) more ∙ rw (all-first p ∙ at-once (judgeAll v) p (e (judgeAll v) []))
       go (waiting short e) less = sym (all-first (withMore p more)) ∙ rw (all-first p ∙ e (judgeAll v))
       go (taking m rest flight next is shorter step e) less =
-          let q = taken p rest flight next in
+          let q = taken p rest (blocksFor v p m) flight next in
           let now : judgeAll v p ≡ judgeAll v q = all-first p ∙ at-once (judgeAll v) p (e (judgeAll v) []) ∙ ap (judgeAll v) (no-more q) in
           e (judgeAll v) more ∙ less q shorter ∙ rw now
 
@@ -269,7 +274,7 @@ module _ (v : View) where
       go (refused r told never) on less = absurd (refused-on (sym (at-once (judgeAll v) p (never (judgeAll v) [])) ∙ on))
       go (waiting short now) on less = let is : p ≡ q = cc (now (judgeAll v)) in rw (← is) short
       go (taking m rest flight next is shorter step now) on less =
-          let r = taken p rest flight next in
+          let r = taken p rest (blocksFor v p m) flight next in
           less r shorter (sym (at-once (judgeAll v) p (now (judgeAll v) [] ∙ ap (judgeAll v) (no-more r))) ∙ on)
 
   pub left-unfinished : (p q : Progress) → judgeAll v p ≡ goesOn q → unfinished (q .left) ≡ true
@@ -285,7 +290,7 @@ module _ (v : View) where
       go (refused q told now) on less = let is : q ≡ r = cc (at-once (judgeAll v) p (now (judgeAll v) [])) in rw (← is) told
       go (waiting short now) on less = absurd (refused-on (sym on ∙ now (judgeAll v)))
       go (taking m rest flight next is shorter step now) on less =
-          let q = taken p rest flight next in
+          let q = taken p rest (blocksFor v p m) flight next in
           less q shorter (sym (at-once (judgeAll v) p (now (judgeAll v) [] ∙ ap (judgeAll v) (no-more q))) ∙ on)
 
   pub judged-told : (p : Progress) (r : Refusal) → judgeAll v p ≡ refuse r → Told v r
@@ -293,33 +298,33 @@ module _ (v : View) where
 
   -- ---- behind messages that were judged before
 
-  onto-within : (before : Flight) (master : Option (List ℕ)) (n : ℕ) (p : Progress)
+  onto-within : (before : Flight) (master : Option Derived) (n : ℕ) (p : Progress)
       → judgeBytes n v (onto before master p) ≡ allOnto before master (judgeBytes n v p)
   unfolding judgeBytes
   onto-within before master zero p = refl
   onto-within before master (suc n) p =
       go (isComplete (p .connection .phase) && not (isEmpty (p .left))) (ltb (length (p .left)) 4)
       (earlyTest (awaited (p .connection .phase)) (p .left))
-      (ltb (length (p .left)) (messageEnd (p .left)))
+      (ltb (length (p .left)) (messageEnd (p .left))) (blocksFor v p (take (messageEnd (p .left)) (p .left)))
       (messageStep v (p .connection) (take (messageEnd (p .left)) (p .left)) (p .connection .phase)) (onto-within before master n)
     where
-      go : (over few : Bool) (early : Verdict) (short : Bool) (step : Step)
+      go : (over few : Bool) (early : Verdict) (short : Bool) (blocks : ℕ) (step : Step)
           → ((q : Progress) → judgeBytes n v (onto before master q) ≡ allOnto before master (judgeBytes n v q))
           → cond over (refuse UnexpectedMessage)
           (cond few (goesOn (onto before master p)) (afterEarly early (cond short (goesOn (onto before master p))
-          (afterStep (judgeBytes n v) (onto before master p) (messageEnd (p .left)) step))))
+          (afterStep (judgeBytes n v) (onto before master p) (messageEnd (p .left)) blocks step))))
           ≡ allOnto before master (cond over (refuse UnexpectedMessage) (cond few (goesOn p) (afterEarly early (cond short (goesOn p)
-          (afterStep (judgeBytes n v) p (messageEnd (p .left)) step)))))
-      go true few early short step next = refl
-      go false true early short step next = refl
-      go false false (Verdict.Refused r) short step next = refl
-      go false false Verdict.Accepted true step next = refl
-      go false false Verdict.Accepted false (Shared.refuse r) next = refl
-      go false false Verdict.Accepted false (Shared.accept flight after) next =
-          ap (judgeBytes n v) (onto-taken before master p (drop (messageEnd (p .left)) (p .left)) flight after)
-          ∙ next (taken p (drop (messageEnd (p .left)) (p .left)) flight after)
+          (afterStep (judgeBytes n v) p (messageEnd (p .left)) blocks step)))))
+      go true few early short blocks step next = refl
+      go false true early short blocks step next = refl
+      go false false (Verdict.Refused r) short blocks step next = refl
+      go false false Verdict.Accepted true blocks step next = refl
+      go false false Verdict.Accepted false blocks (Shared.refuse r) next = refl
+      go false false Verdict.Accepted false blocks (Shared.accept flight after) next =
+          ap (judgeBytes n v) (onto-taken before master p (drop (messageEnd (p .left)) (p .left)) blocks flight after)
+          ∙ next (taken p (drop (messageEnd (p .left)) (p .left)) blocks flight after)
 
-  pub judged-onto : (before : Flight) (master : Option (List ℕ)) (p : Progress)
+  pub judged-onto : (before : Flight) (master : Option Derived) (p : Progress)
       → judgeAll v (onto before master p) ≡ allOnto before master (judgeAll v p)
   judged-onto before master p = onto-within before master (length (p .left)) p
 

@@ -26,7 +26,7 @@ use Rattle.theorems.proofs.Finishing.{Right, wrong, finished-right, finished-ot
 use Rattle.record_theorems.specs.Cutting.{judgeAll}
 use Rattle.record_theorems.proofs.Headers.{read-passed}
 use Rattle.record_theorems.proofs.Refusing.{Told}
-use Rattle.record_theorems.proofs.Cutting.{taken, First, is-refused, is-left, is-taken, first, message-first, left-unfinished, judged-told}
+use Rattle.record_theorems.proofs.Cutting.{taken, blocksFor, First, is-refused, is-left, is-taken, first, message-first, left-unfinished, judged-told}
 
 -- all of the bytes are left, and nothing is sent
 abbrev pub waiting : Connection → List ℕ → Progress
@@ -59,17 +59,17 @@ module _ (s : Settings) (v : View) (ok : acceptable s ≡ true) {hello : List �
   finishing bytes = go (first v (waiting c bytes))
     where
       behind : (m rest : List ℕ) (flight : Flight) (next : Connection) → bytes ≡ m ++ rest → next ≡ ended Phase.Complete
-          → Right s legal exchange found m → judged v c bytes ≡ judgeAll v (taken (waiting c bytes) rest flight next)
+          → Right s legal exchange found m → judged v c bytes ≡ judgeAll v (taken (waiting c bytes) rest (blocksFor v (waiting c bytes) m) flight next)
           → Finishing s v legal exchange found bytes
       behind m [] flight next split over right e =
           let whole : m ≡ bytes = sym (split ∙ append-nil m) in
-          completes (rw whole at right) (taken (waiting c bytes) [] flight next) over (e ∙ nothing-behind v _ refl)
+          completes (rw whole at right) (taken (waiting c bytes) [] (blocksFor v (waiting c bytes) m) flight next) over (e ∙ nothing-behind v _ refl)
       behind m (b ∷ bs) flight next split over right e =
-          refused UnexpectedMessage (inl refl) (e ∙ something-behind v (taken (waiting c bytes) (b ∷ bs) flight next) over refl)
+          refused UnexpectedMessage (inl refl) (e ∙ something-behind v (taken (waiting c bytes) (b ∷ bs) (blocksFor v (waiting c bytes) m) flight next) over refl)
 
       of-finished : (m rest : List ℕ) (flight : Flight) (next : Connection) → bytes ≡ m ++ rest
           → messageStep v c m Phase.Finished ≡ Shared.accept flight next
-          → judged v c bytes ≡ judgeAll v (taken (waiting c bytes) rest flight next)
+          → judged v c bytes ≡ judgeAll v (taken (waiting c bytes) rest (blocksFor v (waiting c bytes) m) flight next)
           → Right s legal exchange found m ⊎ (messageStep v c m Phase.Finished ≡ Shared.refuse (wrong m)) → Finishing s v legal exchange found bytes
       of-finished m rest flight next split step e (inl right) =
           let own = finished-right s v legal exchange found ok legal-exchange m right in
@@ -90,7 +90,7 @@ module _ (s : Settings) (v : View) (ok : acceptable s ≡ true) {hello : List �
       let own = finished-right s v legal exchange found ok legal-exchange m right in
       let passed =
       read-passed (λ h. contents m (afterHeader h (filledBy 12 m))) (λ r. refl) 20 m (right .finished .value) (right .finished .read) in (
-        taken (waiting c m) [] (finishedFlight (own .0)) (ended Phase.Complete),
+        taken (waiting c m) [] (blocksFor v (waiting c m) m) (finishedFlight (own .0)) (ended Phase.Complete),
         refl,
         message-first v (waiting c m) m [] (sym (append-nil m)) refl passed (finishedFlight (own .0)) (ended Phase.Complete) (own .2)
             ∙ nothing-behind v _ refl,

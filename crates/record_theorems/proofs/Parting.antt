@@ -10,6 +10,7 @@ use lib.Dec.{ltb}
 use Rattle.refusal.specs.declared.Refusal.the-variants.{UnexpectedMessage}
 use Rattle.messages.specs.KeyExchange.{readVector}
 use Rattle.handshake.specs.Flight.{Flight, silence}
+use Rattle.handshake.specs.Handed.{Derived}
 use Rattle.handshake.specs.Step as Shared
 use Rattle.server.specs.declared.Rule.{Rule}
 use Rattle.server.specs.declared.Phase.{Phase}
@@ -22,7 +23,7 @@ use Rattle.theorems.specs.Terms.{LegalHello, LegalKeyExchange, answerTo}
 use Rattle.handshake.proofs.Settling.{unread}
 use Rattle.theorems.proofs.Stages.{helloed, keyed, hello-legal, exchange-read, exchange-legal}
 use Rattle.record_theorems.specs.Cutting.{judgeAll}
-use Rattle.record_theorems.proofs.Cutting.{taken, all-first}
+use Rattle.record_theorems.proofs.Cutting.{taken, blocksFor, all-first}
 use Rattle.record_theorems.proofs.Reaching.{Reached, awaits-hello, awaits-exchange, awaits-change, hello-accepted, change-judged}
 use Rattle.record_theorems.proofs.Standing.{alone}
 use Rattle.record_theorems.proofs.Beyond.{behind, turn-pair}
@@ -49,7 +50,7 @@ module _ (s : Settings) (hide : ruleOf (s .named) ≡ Rule.Hide) (v v' : View) (
       go true = parted p p' refl refl awaits awaits' flight left
       go false = equal refl
 
-  exchange-pair : {hello : List ℕ} (legal : LegalHello (s .suites) hello) (flight : Flight) (master : Option (List ℕ)) (left : List ℕ) →
+  exchange-pair : {hello : List ℕ} (legal : LegalHello (s .suites) hello) (flight : Flight) (master : Option Derived) (left : List ℕ) →
       let p : Progress = record { connection = helloed s legal; flight = flight; master = master; left = left } in
       Pair (judgeAll v p) (judgeAll v' p)
   exchange-pair legal flight master left =
@@ -59,22 +60,23 @@ module _ (s : Settings) (hide : ruleOf (s .named) ≡ Rule.Hide) (v v' : View) (
       p : Progress
       p = record { connection = helloed s legal; flight = flight; master = master; left = left }
 
-      of-steps : (rest : List ℕ) {step step' : Server.Step} (one other : Server.Step) → step ≡ one → step' ≡ other
-          → Pair (behind (judgeAll v) p rest one) (behind (judgeAll v') p rest other)
-          → Pair (behind (judgeAll v) p rest step) (behind (judgeAll v') p rest step')
-      of-steps rest one other e e' pair = rw (e, e') pair
+      of-steps : (rest : List ℕ) (n n' : ℕ) {step step' : Server.Step} (one other : Server.Step) → step ≡ one → step' ≡ other
+          → Pair (behind (judgeAll v) p rest n one) (behind (judgeAll v') p rest n' other)
+          → Pair (behind (judgeAll v) p rest n step) (behind (judgeAll v') p rest n' step')
+      of-steps rest n n' one other e e' pair = rw (e, e') pair
 
       of-read : (m rest : List ℕ) (o : Option (List ℕ)) → readVector 16 m ≡ o
-          → Pair (behind (judgeAll v) p rest (messageStep v (helloed s legal) m Phase.KeyExchange))
-          (behind (judgeAll v') p rest (messageStep v' (helloed s legal) m Phase.KeyExchange))
+          → Pair (behind (judgeAll v) p rest (blocksFor v p m) (messageStep v (helloed s legal) m Phase.KeyExchange))
+          (behind (judgeAll v') p rest (blocksFor v' p m) (messageStep v' (helloed s legal) m Phase.KeyExchange))
       of-read m rest none read =
-          of-steps rest (Shared.refuse (unread 16 m)) (Shared.refuse (unread 16 m))
+          of-steps rest _ _ (Shared.refuse (unread 16 m)) (Shared.refuse (unread 16 m))
           (exchange-read s v legal m good ∙ rw read) (exchange-read s v' legal m good' ∙ rw read) (equal refl)
       of-read m rest (some identity) read =
           let exchange : LegalKeyExchange m = record { identity = identity; read = read } in
-          of-steps rest (Shared.accept silence (keyed s legal m (v .lookup identity))) (Shared.accept silence (keyed s legal m (v' .lookup identity)))
+          of-steps rest (blocksFor v p m) (blocksFor v' p m) (Shared.accept silence (keyed s legal m (v .lookup identity))) (Shared.accept silence (keyed s legal m (v' .lookup identity)))
           (exchange-legal s v legal good exchange ∙ rw hide) (exchange-legal s v' legal good' exchange ∙ rw hide)
-          (change-pair (taken p rest silence (keyed s legal m (v .lookup identity))) (taken p rest silence (keyed s legal m (v' .lookup identity)))
+          (change-pair (taken p rest (blocksFor v p m) silence (keyed s legal m (v .lookup identity)))
+          (taken p rest (blocksFor v' p m) silence (keyed s legal m (v' .lookup identity)))
           refl refl refl refl)
 
   hello-pair : (left : List ℕ) → Pair (judged v (started s) left) (judged v' (started s) left)
@@ -88,8 +90,8 @@ module _ (s : Settings) (hide : ruleOf (s .named) ≡ Rule.Hide) (v v' : View) (
       p = alone (started s) left
 
       of-step : (m rest : List ℕ) (step : Server.Step) → messageStep v (started s) m Phase.Hello ≡ step
-          → Pair (behind (judgeAll v) p rest (messageStep v (started s) m Phase.Hello))
-          (behind (judgeAll v') p rest (messageStep v (started s) m Phase.Hello))
+          → Pair (behind (judgeAll v) p rest 0 (messageStep v (started s) m Phase.Hello))
+          (behind (judgeAll v') p rest 0 (messageStep v (started s) m Phase.Hello))
       of-step m rest (Shared.refuse r) e = rw e (equal refl)
       of-step m rest (Shared.accept flight next) e =
           let legal = hello-accepted s v m flight next e in

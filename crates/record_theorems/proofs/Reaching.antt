@@ -23,7 +23,7 @@ use Rattle.server.specs.declared.Phase.{Phase}
 use Rattle.server.specs.declared.Connection.{Connection}
 use Rattle.server.specs.Connection.{Settings, ruleOf, started}
 use Rattle.server.specs.Step as Server
-use Rattle.server.specs.KeyExchange.{View}
+use Rattle.server.specs.KeyExchange.{View, keyUsed, blocksUnder, identityBlocks}
 use Rattle.server.specs.Message.{messageStep}
 use Rattle.record_server.specs.Joining.{Progress, refuse, goesOn, judged}
 use Rattle.theorems.specs.Terms.{LegalHello, LegalKeyExchange, answerTo}
@@ -117,7 +117,11 @@ module _ (s : Settings) {hello : List ℕ} (legal : LegalHello (s .suites) hello
       record {
         connection = keyed s legal exchange found;
         flight = answerTo s legal;
-        master = some (keyed s legal exchange found .secrets .master);
+        master =
+            some (record {
+              master = keyed s legal exchange found .secrets .master;
+              blocks = blocksUnder (helloed s legal) (keyUsed (helloed s legal) found);
+            });
         left = left;
       }
 
@@ -132,8 +136,9 @@ pub data Reached (s : Settings) (v : View) (bytes : List ℕ) (p : Progress) : T
 
 module _ (s : Settings) (v : View) where
   exchange-taken : {hello : List ℕ} (legal : LegalHello (s .suites) hello) (exchange : List ℕ) (found : Option (List ℕ)) (bytes left : List ℕ)
-      → taken (helloRead s legal bytes) left silence (keyed s legal exchange found) ≡ keysMade s legal exchange found left
-  exchange-taken legal exchange found bytes left = rw (append-nil (answerTo s legal .plain))
+      → {n : ℕ} → n ≡ blocksUnder (helloed s legal) (keyUsed (helloed s legal) found)
+      → taken (helloRead s legal bytes) left n silence (keyed s legal exchange found) ≡ keysMade s legal exchange found left
+  exchange-taken legal exchange found bytes left same = rw (append-nil (answerTo s legal .plain), same)
 
   -- ---- forwards
 
@@ -150,10 +155,12 @@ module _ (s : Settings) (v : View) where
       → judged v (started s) (hello ++ (exchange ++ left)) ≡ judgeAll v (keysMade s legal exchange (v .lookup (legal-exchange .identity)) left)
   exchange-judged {exchange = exchange} legal legal-exchange left good known =
       let found = v .lookup (legal-exchange .identity) in
+      let named = rw (exchange-passed legal-exchange .accepted) at (legal-exchange .read) in
+      let blocks = ap (identityBlocks (v .lookup) (helloed s legal)) named in
       hello-judged legal (exchange ++ left)
       ∙ message-first v (helloRead s legal (exchange ++ left)) exchange left refl refl (exchange-passed legal-exchange)
       silence (keyed s legal exchange found) (exchange-accepts s v legal (record { good = good; exchange = legal-exchange; known = known }))
-      ∙ ap (judgeAll v) (exchange-taken legal exchange found (exchange ++ left) left)
+      ∙ ap (judgeAll v) (exchange-taken legal exchange found (exchange ++ left) left blocks)
 
   -- with a table that is refused
   pub exchange-refused : {hello exchange : List ℕ} (legal : LegalHello (s .suites) hello) (legal-exchange : LegalKeyExchange exchange) (left : List ℕ)

@@ -15,6 +15,7 @@ use Rattle.refusal.specs.declared.Refusal.the-variants.{UnexpectedMessage, Sequ
 use Rattle.refusal.specs.declared.Written.the-variants.{Refused}
 use Rattle.layout.specs.declared.Verdict.{Verdict}
 use Rattle.handshake.specs.Flight.{silence}
+use Rattle.handshake.specs.Handed.{Derived}
 use Rattle.handshake.specs.Step as Shared
 use Rattle.server.specs.declared.Phase.{Phase}
 use Rattle.server.specs.declared.Connection.{Connection}
@@ -223,10 +224,10 @@ module _ (s : Settings) (v : View) where
       none-protected = rw (reached-plain (reached s v bytes p goes)) at (reached-plain (reached s v (bytes ++ content) then goes-on))
 
       -- once there are keys nothing is accepted any more before the change of cipher
-      pending-kept : Reached s v bytes p → (o : Option (List ℕ)) → q .master ≡ o
+      pending-kept : Reached s v bytes p → (o : Option Derived) → q .master ≡ o
           → pendingWith (plainly n p .pending) (q .connection) o
           ≡ pendingWith (record { client = noKey; server = noKey }) (q .connection) (later (p .master) o)
-      pending-kept r (some secret) e = refl
+      pending-kept r (some d) e = refl
       pending-kept (awaits-hello is) none e = rw is
       pending-kept (awaits-exchange hello left legal split is) none e = rw is
       pending-kept (awaits-change hello exchange left legal legal-exchange split good known is) none e =

@@ -23,8 +23,12 @@ use Rattle.server.specs.Inner.{Does}
 use Rattle.handshake.proofs.Settling.{sent-settles, short-settles}
 
 -- what is decided for one step is decided for the same step
-pub same-step : {d : Decision} {s t : Step} → s ≡ t → Decides d t → Decides d s
+pub same-step : {d : Decision} {s t : Step} {n : ℕ} → s ≡ t → Decides d t n → Decides d s n
 same-step e h = rw e h
+
+-- a refusal reports no number, whatever there was to be reported
+pub refusing : {d : Decision} {r : Refusal} → Decides d (refuse r) 0 → (n : ℕ) → Decides d (refuse r) n
+refusing h n = record { means = h .means; fits = h .fits; counts = h .counts }
 
 pub same-does : {c : Connection} {out left : List ℕ} {a : Answer} {s t : Step} → s ≡ t → Does c out t a left → Does c out s a left
 same-does e h = rw e h

@@ -8,6 +8,7 @@ use Rattle.refusal.specs.declared.Refusal.the-variants.{DecodeError, UnknownPsk
 use Rattle.refusal.specs.Lent.{bytesOf}
 use Rattle.sha256.specs.State.{absorb}
 use Rattle.keys.specs.Secrets.{masterUnder}
+use Rattle.keys.specs.Counts.{masterUnderBlocks}
 use Rattle.keytable.specs.Starts.{listRefusal}
 use Rattle.keytable.specs.Table.{keyOf}
 use Rattle.handshake.specs.Flight.{silence}
@@ -36,6 +37,22 @@ afterKeys c m key listed =
       secrets = record { master = bytesOf (masterUnder key (c .client .random) (c .setup .random)) };
       transcript = absorb (c .transcript) m;
     }
+
+-- ---- how many blocks are hashed for the master secret (document 02, P8)
+
+-- the key that it is derived from: the identity's, or the stand-in key for one that isn't listed
+abbrev pub keyUsed : Connection → Option (List ℕ) → List ℕ
+keyUsed c none = c .setup .«stand_in»
+keyUsed c (some key) = key
+
+abbrev pub blocksUnder : Connection → List ℕ → ℕ
+blocksUnder c key = masterUnderBlocks key (c .client .random) (c .setup .random)
+
+abbrev pub identityBlocks : (List ℕ → Option (List ℕ)) → Connection → Option (List ℕ) → ℕ
+identityBlocks lookup c none = 0
+identityBlocks lookup c (some identity) = blocksUnder c (keyUsed c (lookup identity))
+
+-- ---- the step
 
 -- an identity that isn't listed: 115 under tell; under hide the stand-in key serves, and it is noted that the identity is unlisted
 abbrev pub unlisted : Rule → Connection → List ℕ → Step

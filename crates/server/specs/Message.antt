@@ -9,6 +9,7 @@ use Rattle.layout.specs.Types.{clientHelloType, clientKeyExchangeType, finished
 use Rattle.hellos.specs.ClientHello.{clientBody, clientFields}
 use Rattle.layout.specs.Place.{lastAt, filledBy, contents}
 use Rattle.handshake.specs.Finished.{verifyDataLength}
+use Rattle.handshake.specs.Handed.{Derived, derived}
 use Rattle.handshake.specs.Header.{headerTest}
 use Rattle.handshake.specs.Step.{refuse, accept, afterTests, unlessRefused}
 use Rattle.server.specs.declared.Phase.{Phase}
@@ -18,7 +19,7 @@ use Rattle.server.specs.declared.Reply.{Reply}
 use Rattle.server.specs.Connection.{isOver}
 use Rattle.server.specs.Step.{Step, Settled, settled, answered}
 use Rattle.server.specs.Hello.{helloFields}
-use Rattle.server.specs.KeyExchange.{View, keyIdentity}
+use Rattle.server.specs.KeyExchange.{View, identityBlocks, keyIdentity}
 use Rattle.server.specs.Finished.{finishedValue}
 
 -- the type of the message that is awaited in each phase, if one is
@@ -58,10 +59,21 @@ handedOver Phase.Finished step = none
 handedOver Phase.Complete step = none
 handedOver Phase.Closed step = none
 
+-- how many blocks were hashed for it (document 02, P8)
+abbrev pub blocksIn : View → Connection → List ℕ → Phase → ℕ
+blocksIn v c m Phase.Hello = 0
+blocksIn v c m Phase.KeyExchange = identityBlocks (v .lookup) c (contents m (lastAt 2 m 4))
+blocksIn v c m Phase.Change = 0
+blocksIn v c m Phase.Finished = 0
+blocksIn v c m Phase.Complete = 0
+blocksIn v c m Phase.Closed = 0
+
 -- what a message is answered with: zeros where no master is handed over
-abbrev pub withMaster : Answer → Option (List ℕ) → Reply
-withMaster a none = record { said = a .said; handed = false; master = replicate 48 0; next = a .next }
-withMaster a (some secret) = record { said = a .said; handed = true; master = secret; next = a .next }
+abbrev pub withMaster : Answer → Option Derived → Reply
+withMaster a none = record { said = a .said; handed = false; master = replicate 48 0; blocks = 0; next = a .next }
+withMaster a (some d) = record { said = a .said; handed = true; master = d .master; blocks = d .blocks; next = a .next }
 
 abbrev pub messageReply : View → Connection → List ℕ → List ℕ → Reply
-messageReply v c m out = withMaster (answered (messageCall v c m out)) (handedOver (c .phase) (messageStep v c m (c .phase)))
+messageReply v c m out =
+    withMaster (answered (messageCall v c m out))
+    (derived (handedOver (c .phase) (messageStep v c m (c .phase))) (blocksIn v c m (c .phase)))

@@ -3,6 +3,7 @@ ghost use mathlib.Core.Path.{_≡_};
 ghost use mathlib.Core.Option.{none};
 ghost use Rattle.layout.specs.declared.Verdict.the-variants.{Accepted};
 ghost use Rattle.handshake.specs.Flight.{longest, counted};
+ghost use Rattle.handshake.specs.Handed.{derived};
 ghost use Rattle.handshake.specs.Header.{headerTest, earlyTest, kindAwaited};
 ghost use Rattle.server.specs.declared.Phase.{Phase};
 ghost use Rattle.server.specs.Connection.{isOver};
@@ -10,7 +11,7 @@ ghost use Prim.Native.Nat.{_≤_};
 ghost use Rattle.server.specs.Step.{answered};
 ghost use Rattle.server.specs.KeyExchange.{viewOf};
 ghost use Rattle.server.specs.Message as Message;
-ghost use Rattle.server.specs.Message.{bodyStep, messageStep, messageCall, messageReply, handedOver, withMaster};
+ghost use Rattle.server.specs.Message.{bodyStep, messageStep, messageCall, messageReply, handedOver, blocksIn, withMaster};
 ghost use Rattle.server.specs.Change.{afterChange, changeCall};
 ghost use Rattle.server.specs.Alert.{alertCall};
 ghost use Rattle.server.specs.Decision.{Decides, decided};
@@ -64,7 +65,8 @@ fn awaited_in(phase: Phase) -> Awaited
 // The step of a message whose header is tested already.
 fn body(c: Connection, table: &[u8], starts: &[u32], count: usize, m: &[u8]) -> Decision
     requires { ⌜ headerTest (Message.awaited (c .phase)) (now m) ≡ Accepted ⌝ }
-    ensures { λ d. ⌜ Decides d (bodyStep (viewOf (now (table .entry)) (now (starts .entry)) count) c (now (m .entry)) (c .phase)) ⌝ }
+    ensures { λ d. ⌜ Decides d (bodyStep (viewOf (now (table .entry)) (now (starts .entry)) count) c (now (m .entry)) (c .phase))
+        (blocksIn (viewOf (now (table .entry)) (now (starts .entry)) count) c (now (m .entry)) (c .phase)) ⌝ }
 {
     let phase = c.phase;
     match phase {
@@ -79,7 +81,8 @@ fn body(c: Connection, table: &[u8], starts: &[u32], count: usize, m: &[u8]) -> 
 
 // What a message comes to, whatever the room, for a caller that has its own way of writing the answer.
 pub fn decide(c: Connection, table: &[u8], starts: &[u32], count: usize, m: &[u8]) -> Decision
-    ensures { λ d. ⌜ Decides d (messageStep (viewOf (now (table .entry)) (now (starts .entry)) count) c (now (m .entry)) (c .phase)) ⌝ }
+    ensures { λ d. ⌜ Decides d (messageStep (viewOf (now (table .entry)) (now (starts .entry)) count) c (now (m .entry)) (c .phase))
+        (blocksIn (viewOf (now (table .entry)) (now (starts .entry)) count) c (now (m .entry)) (c .phase)) ⌝ }
 {
     let phase = c.phase;
     if is_over(phase) {
@@ -101,13 +104,14 @@ fn without_master(a: Answer) -> Reply
         said,
         handed: false,
         master: [0u8; 48],
+        blocks: 0,
         next,
     }
 }
 
-// The reply to a key exchange: the master secret is handed over where it was accepted.
+// The reply to a key exchange: the master secret and the number of its blocks are handed over where it was accepted.
 fn with_master(d: Decision, a: Answer) -> Reply
-    ensures { λ r. ⌜ r ≡ withMaster a (handedOver Phase.KeyExchange (decided d)) ⌝ }
+    ensures { λ r. ⌜ r ≡ withMaster a (derived (handedOver Phase.KeyExchange (decided d)) (d .blocks)) ⌝ }
 {
     let verdict = d.verdict;
     match verdict {
@@ -120,6 +124,7 @@ fn with_master(d: Decision, a: Answer) -> Reply
                 said,
                 handed: true,
                 master,
+                blocks: d.blocks,
                 next,
             }
         }
@@ -128,7 +133,7 @@ fn with_master(d: Decision, a: Answer) -> Reply
 }
 
 fn reply(phase: Phase, d: Decision, a: Answer) -> Reply
-    ensures { λ r. ⌜ r ≡ withMaster a (handedOver phase (decided d)) ⌝ }
+    ensures { λ r. ⌜ r ≡ withMaster a (derived (handedOver phase (decided d)) (d .blocks)) ⌝ }
 {
     match phase {
         Phase::Hello => without_master(a),

@@ -46,7 +46,7 @@ fn answer(value: &[u8; 12]) -> Outgoing
 
 // The server's Finished, to a client's that was right.
 fn complete(c: Connection, m: &[u8]) -> Decision
-    ensures { λ d. ⌜ Decides d (Inner.completion c (now (m .entry))) ⌝ }
+    ensures { λ d. ⌜ Decides d (Inner.completion c (now (m .entry))) 0 ⌝ }
 {
     let secrets = c.secrets;
     let master = secrets.master;
@@ -60,6 +60,7 @@ fn complete(c: Connection, m: &[u8]) -> Decision
                 verdict: Verdict::Accepted,
                 outgoing,
                 next,
+                blocks: 0,
             }
         }
         Written::Refused(_) => step::refused(c, Refusal::DecryptError),
@@ -68,7 +69,7 @@ fn complete(c: Connection, m: &[u8]) -> Decision
 
 // A Finished whose header is tested already.
 pub(crate) fn body(c: Connection, m: &[u8]) -> Decision
-    ensures { λ d. ⌜ Decides d (finishedValue c (now (m .entry)) (contents (now (m .entry)) (filledBy 12 (now (m .entry))))) ⌝ }
+    ensures { λ d. ⌜ Decides d (finishedValue c (now (m .entry)) (contents (now (m .entry)) (filledBy 12 (now (m .entry))))) 0 ⌝ }
 {
     match messages::fixed::read_finished_body(m) {
         Part::At { start, len } => {

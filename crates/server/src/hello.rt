@@ -168,7 +168,7 @@ fn after_hello(c: Connection, m: &[u8], suite: u16, flight: &[u8]) -> Connection
 // A hello that chose this suite.
 fn accept(c: Connection, m: &[u8], suite: u16) -> Decision
     requires { ⌜ 38 ≤ length (now m) ⌝ }
-    ensures { λ d. ⌜ Decides d (accept (flightFor c suite) (Inner.afterHelloWith c (now (m .entry)) suite (flightBytes (flightFor c suite)))) ⌝ }
+    ensures { λ d. ⌜ Decides d (accept (flightFor c suite) (Inner.afterHelloWith c (now (m .entry)) suite (flightBytes (flightFor c suite)))) 0 ⌝ }
 {
     let setup = c.setup;
     let outgoing = answer(setup, suite);
@@ -179,12 +179,13 @@ fn accept(c: Connection, m: &[u8], suite: u16) -> Decision
         verdict: Verdict::Accepted,
         outgoing,
         next,
+        blocks: 0,
     }
 }
 
 // A hello whose header is tested already.
 pub(crate) fn body(c: Connection, m: &[u8]) -> Decision
-    ensures { λ d. ⌜ Decides d (helloFields c (now (m .entry)) (clientFields (now (m .entry)) (clientBody (now (m .entry))))) ⌝ }
+    ensures { λ d. ⌜ Decides d (helloFields c (now (m .entry)) (clientFields (now (m .entry)) (clientBody (now (m .entry))))) 0 ⌝ }
 {
     match hellos::client_hello::read_body(m) {
         Client::Read {

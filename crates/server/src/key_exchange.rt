@@ -7,13 +7,15 @@ ghost use Rattle.layout.specs.Header.{header};
 ghost use Rattle.layout.specs.Place.{lastAt, contents};
 ghost use Rattle.refusal.specs.Lent.{bytesOf};
 ghost use Rattle.keys.specs.Secrets.{masterUnder};
+ghost use Rattle.handshake.specs.Flight.{silence};
+ghost use Rattle.handshake.specs.Step as Step;
 ghost use mathlib.Core.Bool.{true};
 ghost use Rattle.keytable.specs.Starts.{isList};
 ghost use Rattle.keytable.specs.Table.{keyOf};
 ghost use Rattle.server.specs.declared.Phase.{Phase};
 ghost use Rattle.server.specs.KeyExchange as Exchange;
-ghost use Rattle.server.specs.KeyExchange.{keyFound, keyIdentity, viewOf};
-ghost use Rattle.server.specs.Message.{bodyStep};
+ghost use Rattle.server.specs.KeyExchange.{keyFound, keyIdentity, viewOf, keyUsed, blocksUnder, identityBlocks};
+ghost use Rattle.server.specs.Message.{bodyStep, blocksIn};
 ghost use Rattle.server.specs.Decision.{Decides};
 ghost use Rattle.server.specs.Inner.{afterKeysWith};
 use crate::Connection;
@@ -28,19 +30,29 @@ use layout::Part;
 use refusal::Refusal;
 use refusal::Written;
 
+// A master secret, and how many blocks were hashed for it.
+pub struct Derived {
+    pub master: [u8; 48],
+    pub blocks: u64,
+}
+
 // The master secret under a key. It is made before the connection is put together, so that the two do not stand on
 // the stack at a time.
-fn master_under(c: Connection, key: &[u8]) -> [u8; 48]
+fn master_under(c: Connection, key: &[u8]) -> Derived
     requires { ⌜ (1 ≤ length (now key)) × (length (now key) ≤ 64) ⌝ }
-    ensures { λ r. ⌜ r ≡ bytesOf (masterUnder (now (key .entry)) (c .client .random) (c .setup .random)) ⌝ }
+    ensures { λ r. ⌜ r .master ≡ bytesOf (masterUnder (now (key .entry)) (c .client .random) (c .setup .random)) ⌝ }
+    ensures { λ r. ⌜ r .blocks ≡ blocksUnder c (now (key .entry)) ⌝ }
 {
     let setup = c.setup;
     let said = c.client;
     let own = setup.random;
     let random = said.random;
     let mut master = [0u8; 48];
-    keys::master_under(key, &random, &own, &mut master);
-    master
+    let told = keys::master_under(key, &random, &own, &mut master);
+    Derived {
+        master,
+        blocks: told.blocks,
+    }
 }
 
 // The connection when the key exchange has come.
@@ -65,9 +77,17 @@ fn after_keys(c: Connection, m: &[u8], master: [u8; 48], listed: bool) -> Connec
     }
 }
 
+// What the key exchange comes to with a master secret that was derived before: nothing for the client.
+fn accept(c: Connection, m: &[u8], derived: Derived, listed: bool) -> Decision
+    ensures { λ d. ⌜ Decides d (Step.accept silence (afterKeysWith c (now (m .entry)) (derived .master) listed)) (derived .blocks) ⌝ }
+{
+    let master = derived.master;
+    step::silent(after_keys(c, m, master, listed), derived.blocks)
+}
+
 // What an identity that isn't listed comes to.
 fn unlisted(c: Connection, m: &[u8]) -> Decision
-    ensures { λ d. ⌜ Decides d (Exchange.unlisted (c .setup .rule) c (now (m .entry))) ⌝ }
+    ensures { λ d. ⌜ Decides d (Exchange.unlisted (c .setup .rule) c (now (m .entry))) (blocksUnder c (c .setup .«stand_in»)) ⌝ }
 {
     let setup = c.setup;
     let rule = setup.rule;
@@ -75,7 +95,7 @@ fn unlisted(c: Connection, m: &[u8]) -> Decision
         Rule::Tell => step::refused(c, Refusal::UnknownPskIdentity),
         Rule::Hide => {
             let stand_in = setup.stand_in;
-            step::silent(after_keys(c, m, master_under(c, &stand_in), false))
+            accept(c, m, master_under(c, &stand_in), false)
         }
     }
 }
@@ -90,11 +110,12 @@ fn look_up(
     identity: &[u8],
 ) -> Decision
     requires { ⌜ isList (now table) (now starts) count ≡ true ⌝ }
-    ensures { λ d. ⌜ Decides d (keyFound c (now (m .entry)) (keyOf (now (table .entry)) (now (identity .entry)))) ⌝ }
+    ensures { λ d. ⌜ Decides d (keyFound c (now (m .entry)) (keyOf (now (table .entry)) (now (identity .entry))))
+        (blocksUnder c (keyUsed c (keyOf (now (table .entry)) (now (identity .entry))))) ⌝ }
 {
     let mut key = [0u8; 64];
     match keytable::lookup(table, starts, count, identity, &mut key) {
-        Written::Wrote(n) => step::silent(after_keys(c, m, master_under(c, &key[..n]), true)),
+        Written::Wrote(n) => accept(c, m, master_under(c, &key[..n]), true),
         Written::Refused(_) => unlisted(c, m),
     }
 }
@@ -103,7 +124,8 @@ fn look_up(
 fn identified(c: Connection, table: &[u8], starts: &[u32], count: usize, m: &[u8]) -> Decision
     requires { ⌜ header 16 (now m) ≡ Accepted ⌝ }
     requires { ⌜ isList (now table) (now starts) count ≡ true ⌝ }
-    ensures { λ d. ⌜ Decides d (keyIdentity (keyOf (now (table .entry))) c (now (m .entry)) (contents (now (m .entry)) (lastAt 2 (now (m .entry)) 4))) ⌝ }
+    ensures { λ d. ⌜ Decides d (keyIdentity (keyOf (now (table .entry))) c (now (m .entry)) (contents (now (m .entry)) (lastAt 2 (now (m .entry)) 4)))
+        (identityBlocks (keyOf (now (table .entry))) c (contents (now (m .entry)) (lastAt 2 (now (m .entry)) 4))) ⌝ }
 {
     match messages::key_exchange::read_identity_body(m) {
         Part::At { start: _, len: _ } => look_up(
@@ -121,7 +143,8 @@ fn identified(c: Connection, table: &[u8], starts: &[u32], count: usize, m: &[u8
 // A key exchange whose header is tested already.
 pub(crate) fn body(c: Connection, table: &[u8], starts: &[u32], count: usize, m: &[u8]) -> Decision
     requires { ⌜ header 16 (now m) ≡ Accepted ⌝ }
-    ensures { λ d. ⌜ Decides d (bodyStep (viewOf (now (table .entry)) (now (starts .entry)) count) c (now (m .entry)) Phase.KeyExchange) ⌝ }
+    ensures { λ d. ⌜ Decides d (bodyStep (viewOf (now (table .entry)) (now (starts .entry)) count) c (now (m .entry)) Phase.KeyExchange)
+        (blocksIn (viewOf (now (table .entry)) (now (starts .entry)) count) c (now (m .entry)) Phase.KeyExchange) ⌝ }
 {
     match keytable::judge(table, starts, count) {
         Judged::Good => identified(c, table, starts, count, m),

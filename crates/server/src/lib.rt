@@ -91,11 +91,12 @@ pub struct Answer {
 }
 
 // What a message is answered with: how many bytes were written or a refusal, the master secret where
-// one is handed over, and the connection.
+// one is handed over with how many blocks were hashed for it, and the connection.
 pub struct Reply {
     pub said: Written,
     pub handed: bool,
     pub master: [u8; 48],
+    pub blocks: u64,
     pub next: Connection,
 }
 

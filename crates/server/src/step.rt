@@ -18,34 +18,38 @@ use layout::Verdict;
 use refusal::Refusal;
 use refusal::Written;
 
-// What a step comes to: a refusal, or messages for the client and the connection as it is then.
+// What a step comes to: a refusal, or messages for the client and the connection as it is then. `blocks` is
+// how many were hashed for the master secret, where one was derived.
 pub struct Decision {
     pub verdict: Verdict,
     pub outgoing: Outgoing,
     pub next: Connection,
+    pub blocks: u64,
 }
 
 // A refusal; `settle` says what becomes of the connection.
 pub(crate) fn refused(c: Connection, r: Refusal) -> Decision
-    ensures { λ d. ⌜ Decides d (Step.refuse r) ⌝ }
+    ensures { λ d. ⌜ Decides d (Step.refuse r) 0 ⌝ }
 {
     let outgoing = handshake::no_messages();
     Decision {
         verdict: Verdict::Refused(r),
         outgoing,
         next: c,
+        blocks: 0,
     }
 }
 
 // Nothing for the client.
-pub(crate) fn silent(next: Connection) -> Decision
-    ensures { λ d. ⌜ Decides d (accept silence next) ⌝ }
+pub(crate) fn silent(next: Connection, blocks: u64) -> Decision
+    ensures { λ d. ⌜ Decides d (accept silence next) blocks ⌝ }
 {
     let outgoing = handshake::no_messages();
     Decision {
         verdict: Verdict::Accepted,
         outgoing,
         next,
+        blocks,
     }
 }
 

@@ -58,6 +58,13 @@ byte-size s x h l = elim (decLe (s .count % 64) 62) [ yes k ↦ held (omega arit
     full : s .count % 64 ≡ 63 → length (absorbByte s x .block) ≡ 64
     full k = rw (byte-completes s x h k l)
 
+pub absorb-size : (s : Sha256) (xs : List ℕ) → s .count + length xs ≤ limit → length (s .block) ≡ 64 → length (absorb s xs .block) ≡ 64
+unfolding absorb
+absorb-size s [] h l = l
+absorb-size s (x ∷ xs) h l =
+    let first : s .count < limit = omega arith in
+    absorb-size (absorbByte s x) xs (rw (byte-count s x first) (omega arith)) (byte-size s x first l)
+
 -- ---- a whole message
 
 pending-all : (s : Sha256) (xs rest : List ℕ) → s .count + length xs ≤ limit → length (s .block) ≡ 64

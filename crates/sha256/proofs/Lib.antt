@@ -1,4 +1,5 @@
 pub mod Absorb
+pub mod Counting
 pub mod Finish
 pub mod Padding
 pub mod Saving

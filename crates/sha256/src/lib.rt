@@ -11,7 +11,7 @@ use sha256_block::Words;
 use sha256_block::all_blocks;
 ghost use mathlib.Core.Path.{_≡_};
 ghost use mathlib.Core.List.{_∷_, _++_};
-ghost use Prim.Native.Nat.{_+_, _-_, _*_, _%_, _≤_, _<_};
+ghost use Prim.Native.Nat.{_+_, _-_, _*_, _%_, _^_, _≤_, _<_};
 ghost use lib.ListN.{length, take, drop, replicate};
 ghost use Rattle.endian.specs.Number.{be};
 ghost use Rattle.refusal.specs.Lent.{Answers};
@@ -19,12 +19,25 @@ ghost use Rattle.sha256_block.specs.Blocks.{parse, hashBlocks};
 ghost use Rattle.sha256.specs.Message.{padding};
 ghost use Rattle.sha256.specs.Hash.{limit, sha256, concatenated};
 ghost use Rattle.sha256.specs.State.{fresh, over, absorb, finished};
+ghost use Rattle.sha256.specs.Report.{compressed, reported};
 
 // A hash under way. specs/State.antt says what each field means.
 pub struct Sha256 {
     words: Words,
     block: [u8; 64],
     count: u64,
+}
+
+// What was said, and how many blocks went through the compression function for it: 0 where it was refused.
+pub struct Reported {
+    pub said: Written,
+    pub blocks: u64,
+}
+
+// The hash value when the padding has come, and how many blocks made it.
+struct Padded {
+    words: Words,
+    blocks: u64,
 }
 
 // The most bytes that a hash takes in all: 2^61 - 1.
@@ -177,34 +190,70 @@ impl Sha256 {
     }
 
     // The hash value when the padding has come too: one block more, or two where the message's
-    // length has no room behind what the block holds.
-    fn padded(self) -> Words
+    // length has no room behind what the block holds. The blocks before it were counted as they were
+    // compressed: `count` passes a multiple of 64 there and nowhere else.
+    fn padded(self) -> Padded
         requires { ⌜ self .count ≤ limit ⌝ }
-        ensures { λ r. ⌜ r ≡ hashBlocks (self .words) (parse (take (self .count % 64) (self .block) ++ padding (self .count))) ⌝ }
+        ensures { λ r. ⌜ r .words ≡ hashBlocks (self .words) (parse (take (self .count % 64) (self .block) ++ padding (self .count))) ⌝ }
+        ensures { λ r. ⌜ (r .blocks ≡ compressed self) × (r .blocks ≤ 2 ^ 55 + 1) ⌝ }
     {
         let held = (self.count % 64) as usize;
+        let before = self.count / 64;
         let words = self.words;
         let kept = self.block;
         let block = marked(kept, held);
         if held < 56 {
             let last = with_length(block, self.count);
-            return all_blocks(words, &last);
+            let value = all_blocks(words, &last);
+            return Padded {
+                words: value,
+                blocks: before + 1,
+            };
         }
         let next = all_blocks(words, &block);
         let last = with_length([0u8; 64], self.count);
-        all_blocks(next, &last)
+        let value = all_blocks(next, &last);
+        Padded {
+            words: value,
+            blocks: before + 2,
+        }
     }
 
-    // The digest of what was absorbed at the front of the lent output: R5 where that was more than
-    // the limit, then R1.
+    // The digest of what was absorbed at the front of the lent output, with the number of blocks that
+    // it took: R5 where that was more than the limit, then R1. A caller in another crate does not see
+    // how long a block is, so that the number's bound is promised here.
+    pub fn finish_counted(self, out: &mut [u8]) -> Reported
+        ensures { λ r. ⌜ Answers (finished self) (now (out .entry)) (r .said) (now (out .exit)) ⌝ }
+        ensures { λ r. ⌜ (r .blocks ≡ reported (r .said) (compressed self)) × (r .blocks ≤ 2 ^ 55 + 1) ⌝ }
+    {
+        if LIMIT < self.count {
+            return Reported {
+                said: Written::Refused(Refusal::BadValue),
+                blocks: 0,
+            };
+        }
+        let last = self.padded();
+        let words = last.words;
+        let bytes = concatenation(words);
+        report(refusal::put(&bytes, out), last.blocks)
+    }
+
+    // The same without the number.
     pub fn finish(self, out: &mut [u8]) -> Written
         ensures { λ r. ⌜ Answers (finished self) (now (out .entry)) r (now (out .exit)) ⌝ }
     {
-        if LIMIT < self.count {
-            return Written::Refused(Refusal::BadValue);
-        }
-        let bytes = concatenation(self.padded());
-        refusal::put(&bytes, out)
+        let done = self.finish_counted(out);
+        done.said
+    }
+}
+
+// What was said with the number of blocks, 0 beside a refusal.
+pub fn report(said: Written, blocks: u64) -> Reported
+    ensures { λ r. ⌜ (r .said ≡ said) × (r .blocks ≡ reported said blocks) ⌝ }
+{
+    match said {
+        Written::Wrote(_) => Reported { said, blocks },
+        Written::Refused(_) => Reported { said, blocks: 0 },
     }
 }
 

@@ -5,7 +5,11 @@ use Rattle.refusal.proofs.Laws.{refusal-keeps, answer-keeps-rest, short-exactly
 use Rattle.endian.proofs.Numbers.{be-injective, number-injective}
 use Rattle.endian.proofs.Vectors.{split-vector, split-none, split-writable, vector-injective}
 use Rattle.sha256.proofs.Padding.{zeros-fill, zeros-least}
+use Rattle.sha256.specs.State.{absorb, fresh}
+use Rattle.sha256.specs.Report.{blocksOf}
 use Rattle.sha256.proofs.Finish.{finish-absorbed}
+use Rattle.sha256.proofs.Counting.{compressed-absorbed}
+use Rattle.keys.proofs.Counting.{master-counts}
 use Rattle.utf8.proofs.Ranges.{valid-text}
 use Rattle.extensions.proofs.Blocks.{by-types, ticket-numbered}
 use Rattle.hellos.proofs.ClientHellos.{client-inverse}
@@ -95,6 +99,8 @@ claims =
       suitesInOrder = suites-in-order;
       masterHanded = λ flight next. refl;
       masterHandedOnce = λ v c m. handed-once (c .phase) _;
+      masterCounts = λ key client server some. master-counts key client server;
+      digestCounts = λ m few. unfold blocksOf in compressed-absorbed (absorb fresh m) m refl few;
       rulesApply = rules-apply;
       sameness = sameness;
       samenessOfLookups = sameness-of-lookups;

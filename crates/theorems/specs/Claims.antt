@@ -3,11 +3,11 @@
 use mathlib.Core.Path.{_≡_}
 use mathlib.Core.Logic.{_↔_}
 use Prim.Native.Nat.{ℕ, _+_, _-_, _%_, _^_, _≤_, _<_}
-use mathlib.Core.Bool.{true, false}
+use mathlib.Core.Bool.{true, false, cond}
 use mathlib.Core.List.{List, [], _∷_, _++_, map}
 use mathlib.Core.Option.{none, some}
 use lib.ListN.{length, take, drop, replicate}
-use lib.Dec.{eqb}
+use lib.Dec.{leb, eqb}
 use Rattle.lists.specs.Lists.{each, distinct, Each}
 use Rattle.refusal.specs.declared.Refusal.{Refusal}
 use Rattle.refusal.specs.declared.Refusal.the-variants.{ShortOutput}
@@ -15,9 +15,12 @@ use Rattle.refusal.specs.declared.Written.{Written}
 use Rattle.refusal.specs.declared.Written.the-variants.{Wrote, Refused}
 use Rattle.refusal.specs.Lent.{Outcome, gives, refuses, within, answer, after}
 use Rattle.endian.specs.Number.{Bytes, be, number}
-use Rattle.sha256.specs.Message.{zeros}
-use Rattle.sha256.specs.Hash.{sha256}
+use Rattle.sha256_block.specs.Blocks.{parse}
+use Rattle.sha256.specs.Message.{zeros, pad}
+use Rattle.sha256.specs.Hash.{sha256, limit}
 use Rattle.sha256.specs.State.{fresh, absorb, finished}
+use Rattle.sha256.specs.Report.{compressed}
+use Rattle.keys.specs.Counts.{masterUnderBlocks}
 use Rattle.layout.specs.Layout.{Inverse}
 use Rattle.endian.specs.Vector.{vector, writable, Split, split}
 use Rattle.extensions.specs.Extensions.{Ext, writableExt, blockBytes, extensionsIn, kinds, blockRule, ticketExtension}
@@ -143,6 +146,11 @@ pub record Claims : Type 1 where
   pub masterHanded : (flight : Flight) (next : Connection) → handedOver Phase.KeyExchange (accept flight next) ≡ some (next .secrets .master)
   pub masterHandedOnce : (v : View) (c : Connection) (m secret : List ℕ) → handedOver (c .phase) (messageStep v c m (c .phase)) ≡ some secret
       → c .phase ≡ Phase.KeyExchange
+  -- how many blocks are hashed for a master secret (document 02, P8), by the length of its key
+  pub masterCounts : (key client server : List ℕ) → 1 ≤ length key → length key ≤ 64 → length client ≡ 32 → length server ≡ 32
+      → masterUnderBlocks key client server ≡ cond (leb (length key) 30) 19 (cond (leb (length key) 57) 27 31)
+  -- what is counted for a digest is how often its definition compresses, whether the message is hashed whole or as it is absorbed
+  pub digestCounts : (m : List ℕ) → length m ≤ limit → compressed (absorb fresh m) ≡ length (parse (pad m))
   -- demand 3
   pub rulesApply : RulesApply
   pub sameness : Sameness

@@ -1,14 +1,17 @@
 -- `keys::hmac_of_two` meets its contract: the tests in their order, and then the value.
 -- Assumes nothing.
 use Prim.Native.Nat.{ℕ, _+_, _≤_, _<_}
-use mathlib.Core.Path.{_≡_}
+use mathlib.Core.Path.{_≡_, sym, _∙_}
 use mathlib.Core.Bool.{and-false}
 use mathlib.Core.List.{List, _++_}
 use native.Mathlib.Omega.{arith}
 use lib.ListN.{length, length-append}
 use borrow.Author.Tests.{le-leb, lt-leb}
 use Rattle.refusal.proofs.Laws.{refuses-answers}
+use Rattle.sha256.specs.State.{absorb}
+use Rattle.sha256.proofs.Absorb.{absorb-append}
 use Rattle.keys.specs.Hmac.{hmac}
+use Rattle.keys.proofs.HmacSteps.{ends}
 use borrow.Author.Needs.{needs}
 use Rattle.keys.proofs.hmac_of_two.Statement.{statement}
 use Rattle.keys.proofs.hmac_of_two.Tie as tie
@@ -42,11 +45,17 @@ returns-3 c = simp (lt-leb _ _ (c .if3 .taken), and-false) (refuses-answers _ _)
 returns-4 : tie.Need-returns-4
 unfolding hmac
 returns-4 c =
-    let at-value = c .before .before .before .before .before in
-    let tests = at-value .before in
+    let at-value = c .before .before .before .before .before .before in
+    let at-first = at-value .before .before in
+    let at-under = at-first .before .before in
+    let tests = at-under .before in
     let start = entry (tests .before .before .before) in
     let fits : length (message start) ≤ 0x1fffffffffffffbf = omega (arith, size start) in
-    simp (le-leb _ _ fits, le-leb _ _ (tests .if3 .left)) (rw (at-value .value-of-two .ensures) at (c .before .before .put .ensures))
+    let begun = at-under .under .result .inner in
+    let whole : at-value .before .update2 .result ≡ absorb begun (message start) =
+    at-value .before .update2 .ensures ∙ rw (at-first .update .ensures) (sym (absorb-append begun (start .args .first .now) (start .args .second .now))) in
+    let made = ends (at-under .under .ensures .0) whole fits (at-value .end .ensures .0) in
+    simp (le-leb _ _ fits, le-leb _ _ (tests .if3 .left)) (rw (made .value) at (c .before .before .put .ensures))
 
 pub hmac-of-two-spec : {M : Type 1} → statement M
 hmac-of-two-spec =
@@ -56,6 +65,9 @@ hmac-of-two-spec =
     (λ c. search needs)
     returns-2
     returns-3
+    (λ c κs. search needs)
+    (λ c κs. search needs)
+    (λ c κs. search needs)
     (λ c κs. search needs)
     (λ c. search needs)
     (λ c κs. search needs)

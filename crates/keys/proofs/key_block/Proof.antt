@@ -18,12 +18,27 @@ returns-2 c = simp (lt-leb _ _ (rw (c .before .key-block-length .ensures) at (c 
 
 returns-3 : tie.Need-returns-3
 unfolding keys
-returns-3 c =
-    let at-prf = c .before .before in
-    let tests = at-prf .before .before in
-    let size = tests .before .key-block-length .ensures in
-    simp (eq-eqb _ _ (tests .before .before .if1 .left), le-leb _ _ (rw size at (tests .if2 .left)), and-true)
-    (rw size at (at-prf .prf-of-randoms .ensures))
+returns-3 c = simp (ne-eqb _ _ (c .if3 .taken), and-false) (refuses-answers _ _)
+
+returns-4 : tie.Need-returns-4
+unfolding keys
+returns-4 c = simp (ne-eqb _ _ (c .if4 .taken), and-false) (refuses-answers _ _)
+
+returns-5 : tie.Need-returns-5
+unfolding keys
+returns-5 c =
+    let at-joined = c .before .before .before .before .before in
+    let tests = at-joined .before in
+    let at-length = tests .before .before .before in
+    let size = at-length .key-block-length .ensures in
+    simp (
+      eq-eqb _ _ (at-length .before .if1 .left),
+      eq-eqb _ _ (tests .before .if3 .left),
+      eq-eqb _ _ (tests .if4 .left),
+      le-leb _ _ (rw size at (tests .before .before .if2 .left)),
+      and-true,
+    )
+    (rw (size, at-joined .joined .ensures) at (c .before .before .prf .ensures))
 
 pub key-block-spec : {M : Type 1} → statement M
 key-block-spec =
@@ -32,6 +47,10 @@ key-block-spec =
     returns
     (λ c κs. search needs)
     returns-2
+    returns-3
+    returns-4
     (λ c κs. search needs)
     (λ c. search needs)
-    returns-3)
+    (λ c κs. search needs)
+    (λ c. search needs)
+    returns-5)

@@ -1,5 +1,5 @@
--- `c_interface::record_connection::tn_take_record` meets its contract: what `record_server::take` gave, kept, the master secret where one is handed
--- over, and the four numbers where the record is accepted.
+-- `c_interface::record_connection::tn_take_record` meets its contract: what `record_server::take` gave, kept, the master secret with its number
+-- where one is handed over, and the four numbers where the record is accepted.
 -- Assumes nothing.
 use borrow.Author.Needs.{needs}
 use mathlib.Core.Path.{_≡_, ap, _∙_}
@@ -8,7 +8,8 @@ use Rattle.server.specs.KeyExchange.{View, viewOf}
 use Rattle.record_server.specs.declared.RecordConnection.{RecordConnection}
 use Rattle.record_server.specs.Taking.{Settled, takeCall, taken}
 use Rattle.saved_records.specs.Saved.{restored}
-use Rattle.c_interface.proofs.Keeping.{master-handed, master-kept}
+use Rattle.c_interface.specs.Kept.{masterAfter, blocksAfter}
+use Rattle.c_interface.proofs.Keeping.{was-handed, was-kept}
 use Rattle.c_interface.proofs.RecordSizes.{data-fits}
 use Rattle.c_interface.proofs.RecordKeeping.{taken-parts, told-accepted, told-refused, took-keeps}
 use Rattle.c_interface.proofs.record_connection.tn_take_record.Statement.{statement}
@@ -49,8 +50,11 @@ returns c =
     let w = wanted m in
     let master = a .master .now in
     let over = taken-parts w (w .master) (given m) .4 in
-    let secret = ⊎-elim (λ x. x .2 ∙ master-handed master over (x .0 .taken))
-    (λ x. x .1 ∙ master-kept master over (x .0 .left)) (c .before .before .before .if1 .came) in
+    let blocks = a .blocks .now in
+    let joined = c .before .before .before .if1 in
+    let handed : (joined .master ≡ masterAfter (w .master) master) × (joined .blocks ≡ blocksAfter (w .master) blocks) =
+    ⊎-elim (λ x. let told = was-handed master blocks over (x .0 .taken) in (x .2 ∙ told .0, x .3 ∙ told .1))
+    (λ x. let told = was-kept master blocks over (x .0 .left) in (x .1 ∙ told .0, x .2 ∙ told .1)) (joined .came) in
     let told = ⊎-elim (λ x. told-accepted w (a .told .now) (given m) (x .1 .given .1) (x .3 ∙ x .2 .ensures))
     (λ x. told-refused w (a .told .now) (given m) (x .1 .given .1) (x .2)) (c .before .before .match .came) in (
       took-keeps (view m) (a .connection .now) (a .received .now) (a .memory .now) (a .out .now) (given m) (c .keep .ok) (c .keep .ensures .0)
@@ -58,8 +62,9 @@ returns c =
       record {
         out-left = m .take .ensures .0 .out-left ∙ ap (λ (x : RecordConnection). takenOn m x .out) (same m);
         memory-left = m .take .ensures .0 .memory-left ∙ ap (λ (x : RecordConnection). takenOn m x .memory) (same m);
-        handed = secret;
+        handed = handed .0;
         fields = told;
+        counted = handed .1;
       },
     )
 

@@ -10,6 +10,7 @@ use Rattle.handshake.specs.Header.{headerTest}
 use Rattle.handshake.specs.Step.{refuse, afterTests}
 use Rattle.client.specs.Step.{Step}
 use Rattle.client.specs.Message.{awaited, bodyStep, messageStep}
+use Rattle.client.proofs.Decisions.{same-step, refusing}
 use borrow.Author.Needs.{needs}
 use Rattle.client.proofs.calls.decide.Statement.{statement}
 use Rattle.client.proofs.calls.decide.Tie as tie
@@ -45,13 +46,13 @@ behind c e =
     step-after-over (c .before .before .before) ∙ rw (c .before .before .if1 .left) (ap (λ (v : Verdict). afterTests v step) (sym (tested c) ∙ e))
 
 returns : tie.Need-returns
-returns c = c .refused .ensures ∙ sym (step-after-over (c .before .before) ∙ rw (c .before .if1 .taken))
+returns c = same-step (step-after-over (c .before .before) ∙ rw (c .before .if1 .taken)) (refusing (c .refused .ensures) _)
 
 returns-2 : tie.Need-returns-2
-returns-2 c = c .body .ensures ∙ sym (behind (c .before .before .before) (c .before .enum-told .given .1))
+returns-2 c = same-step (behind (c .before .before .before) (c .before .enum-told .given .1)) (c .body .ensures)
 
 returns-3 : tie.Need-returns-3
-returns-3 c = c .refused2 .ensures ∙ sym (behind (c .before .before .before .before) (c .before .before .r .given .1))
+returns-3 c = same-step (behind (c .before .before .before .before) (c .before .before .r .given .1)) (refusing (c .refused2 .ensures) _)
 
 pub decide-spec : {M : Type 1} → statement M
 decide-spec =

@@ -12,6 +12,7 @@ use Rattle.keys.proofs.Lengths.{finished-of-sized}
 use Rattle.sha256.specs.declared.Sha256.{Sha256}
 use Rattle.sha256.specs.State.{absorb}
 use Rattle.client.specs.Inner.{afterDoneWith}
+use Rattle.client.proofs.Decisions.{same-step, refusing}
 use Rattle.client.proofs.Exchanges.{answer-made, answer-refused}
 use borrow.Author.Needs.{needs}
 use Rattle.client.proofs.exchange.answer.Statement.{statement}
@@ -67,8 +68,10 @@ returns c =
     let args = put hashed .before .before .before .args in
     let made = sized-gives _ (finished-of-sized Client (args .t3) (hashed .with-message2 .result)) refl (at-value .finished-of .ensures) (told .enum-told .given .1) in
     let message = at-two .before .before .before .finished .ensures in
-    answer-made (args .c) (args .m .now) (args .t3) (put hashed .put-exchange .ensures .2) (before hashed) made message (at-two .two .ensures .means)
-    (c .after-done .ensures ∙ ap (afterDoneWith (args .c) (args .t3)) (c .before .with-message3 .ensures))
+    let next = c .after-done .ensures ∙ ap (afterDoneWith (args .c) (args .t3)) (c .before .with-message3 .ensures) in
+    same-step {n = args .blocks}
+    (answer-made (args .c) (args .m .now) (args .t3) (put hashed .put-exchange .ensures .2) (before hashed) made message (at-two .two .ensures .means) next)
+    (record { means = refl; counts = refl })
 
 returns-2 : tie.Need-returns-2
 returns-2 c =
@@ -76,7 +79,8 @@ returns-2 c =
     let hashed = at-value .before .before .before in
     let args = put hashed .before .before .before .args in
     let none = sized-refuses _ (finished-of-sized Client (args .t3) (hashed .with-message2 .result)) refl (at-value .finished-of .ensures) (c .before .enum-told2 .given .1) in
-    c .refused .ensures ∙ answer-refused (args .c) (args .m .now) (args .t3) (put hashed .put-exchange .ensures .2) (before hashed) none
+    same-step (answer-refused (args .c) (args .m .now) (args .t3) (put hashed .put-exchange .ensures .2) (before hashed) none)
+    (refusing (c .refused .ensures) _)
 
 pub answer-spec : {M : Type 1} → statement M
 answer-spec =

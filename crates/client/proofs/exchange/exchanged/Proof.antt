@@ -8,10 +8,12 @@ use lib.ListN.{length, take}
 use lib.Seq.{length-take-le}
 use Rattle.refusal.specs.Lent.{Outcome}
 use Rattle.refusal.proofs.Laws.{sized-gives, sized-refuses}
+use Rattle.keys.specs.Counts.{masterUnderBlocks}
 use Rattle.keys.specs.Secrets.{masterUnder}
 use Rattle.keys.proofs.Lengths.{master-under-sized}
 use Rattle.client.specs.Connection.{keyOf}
-use Rattle.client.specs.Exchange.{exchangeWith, exchanged}
+use Rattle.client.specs.Exchange.{exchangeWith, exchanged, blocksUnder}
+use Rattle.client.proofs.Decisions.{same-step, refusing}
 use borrow.Author.Needs.{needs}
 use Rattle.client.proofs.exchange.exchanged.Statement.{statement}
 use Rattle.client.proofs.exchange.exchanged.Tie as tie
@@ -41,11 +43,17 @@ module _ (c : tie.After-in-field) where
 
 -- what the master secret comes to decides
 decided-by : (c : tie.After-in-field) {o : Outcome} → masterUnder (take (size c) (field c)) (start c .args .c .setup .random) (start c .args .c .server .random) ≡ o
-    → exchangeWith (start c .args .c) (start c .args .m .now) o ≡ exchanged (start c .args .c) (start c .args .m .now)
+    → exchanged (start c .args .c) (start c .args .m .now) ≡ exchangeWith (start c .args .c) (start c .args .m .now) o
 decided-by c e =
     let conn = start c .args .c in
     let under = ap (λ (k : List ℕ). masterUnder k (conn .setup .random) (conn .server .random)) (key c) in
-    ap (exchangeWith conn (start c .args .m .now)) (sym e ∙ under)
+    ap (exchangeWith conn (start c .args .m .now)) (sym under ∙ e)
+
+-- the number is that of the key
+counted-by : (c : tie.After-in-field) →
+    let conn = start c .args .c in
+    masterUnderBlocks (take (size c) (field c)) (conn .setup .random) (conn .server .random) ≡ blocksUnder conn
+counted-by c = let conn = start c .args .c in ap (λ (k : List ℕ). masterUnderBlocks k (conn .setup .random) (conn .server .random)) (key c)
 
 array-share-prefix-key : tie.Need-array-share-prefix-key
 array-share-prefix-key c = within c
@@ -60,7 +68,9 @@ returns c =
     let at-field = at-master .before .before .before .before .before in
     let conn = start at-field .args .c in
     let sized = master-under-sized (take (size at-field) (field at-field)) (conn .setup .random) (conn .server .random) in
-    c .answer .ensures ∙ decided-by at-field (sized-gives _ sized refl (at-master .master-under .ensures) (told .enum-told .given .1))
+    let wrote = told .enum-told .given .1 in
+    let number : at-master .master-under .result .blocks ≡ blocksUnder conn = rw wrote at (at-master .master-under .ensures .1) ∙ counted-by at-field in
+    same-step (decided-by at-field (sized-gives _ sized refl (at-master .master-under .ensures .0) wrote)) (rw number at (c .answer .ensures))
 
 returns-2 : tie.Need-returns-2
 returns-2 c =
@@ -69,7 +79,8 @@ returns-2 c =
     let at-field = at-master .before .before .before .before .before in
     let conn = start at-field .args .c in
     let sized = master-under-sized (take (size at-field) (field at-field)) (conn .setup .random) (conn .server .random) in
-    c .refused .ensures ∙ decided-by at-field (sized-refuses _ sized refl (at-master .master-under .ensures) (told .enum-told2 .given .1))
+    same-step (decided-by at-field (sized-refuses _ sized refl (at-master .master-under .ensures .0) (told .enum-told2 .given .1)))
+    (refusing (c .refused .ensures) _)
 
 pub exchanged-spec : {M : Type 1} → statement M
 exchanged-spec =

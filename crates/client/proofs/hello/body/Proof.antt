@@ -10,6 +10,7 @@ use Rattle.hellos.specs.declared.server_hello.Server.the-variants.{Read}
 use Rattle.hellos.specs.ServerHello.{serverBody, serverFields}
 use Rattle.client.specs.Step.{Step}
 use Rattle.client.specs.Hello.{among, helloStep}
+use Rattle.client.proofs.Decisions.{same-step}
 use Rattle.client.proofs.Hellos.{Inside, hello-inside, among-small}
 use mathlib.Core.Bool.{Bool, cond, not}
 use Rattle.refusal.specs.declared.Refusal.the-variants.{UnsupportedExtension}
@@ -67,12 +68,12 @@ module _ (c : tie.After-no-extension) where
 
   tests-passed : {b : Bool} → c .no-extension .result ≡ b →
       let a = entry known .args in
-      byBlock b ≡ helloStep (a .c) (a .m .now) (serverFields (a .m .now) (serverBody (a .m .now)))
+      helloStep (a .c) (a .m .now) (serverFields (a .m .now) (serverBody (a .m .now))) ≡ byBlock b
   tests-passed e =
       let g = known .before .version .given .0 in
       let so-far : fieldsStep known ≡ byBlock (c .no-extension .result) =
       rw (ours at-else, eq-eqb (g .0) 0x0303 (c .before .before .if2 .left), eq-eqb (g .1 .1 .1 .0) 0 (c .before .if3 .left), inside known .bareness, ← c .no-extension .ensures) in
-      ap byBlock (sym e) ∙ sym so-far ∙ read known
+      sym (read known) ∙ so-far ∙ ap byBlock e
 
 returns : tie.Need-returns
 returns c =
@@ -97,7 +98,7 @@ returns-3 c =
 returns-4 : tie.Need-returns-4
 returns-4 c =
     let test = c .before .before in
-    c .refused4 .ensures ∙ tests-passed test (not-true (test .no-extension .result) (c .before .if4 .taken))
+    same-step (tests-passed test (not-true (test .no-extension .result) (c .before .if4 .taken))) (c .refused4 .ensures)
 
 cast-after-hello : tie.Need-cast-after-hello
 cast-after-hello c = omega (arith, among-small (known (c .before) .before .version .given .0 .1 .1 .0) (ours (at-else (c .before))))
@@ -108,7 +109,8 @@ after-hello-requires c κs = omega (arith, inside (known (c .before)) .room)
 returns-5 : tie.Need-returns-5
 returns-5 c =
     let test = c .before .before .before in
-    rw (c .before .after-hello .ensures) at (c .silent .ensures) ∙ tests-passed test (not-false (test .no-extension .result) (c .before .before .if4 .left))
+    same-step (tests-passed test (not-false (test .no-extension .result) (c .before .before .if4 .left)))
+    (rw (c .before .after-hello .ensures) at (c .silent .ensures))
 
 returns-6 : tie.Need-returns-6
 returns-6 c = rw (← c .before .before .before .read-body .ensures, c .before .enum-told .given .1) (c .refused5 .ensures)

@@ -1,28 +1,33 @@
--- `keys::mac::end` meets its contract: two digests, by `two-digests`.
+-- `keys::mac::end` meets its contract: two digests, by `two-digests` and `two-counts`.
 -- Assumes nothing.
-use mathlib.Core.Path.{_≡_, refl, _∙_}
-use lib.ListN.{length}
-use Rattle.keys.proofs.HmacSteps.{digest-of, two-digests}
+use mathlib.Core.Path.{refl, ap, _∙_}
+use Prim.Native.Nat.{_+_, _^_, _≤_}
+use native.Mathlib.Omega.{arith}
+use Rattle.sha256.specs.declared.Sha256.{Sha256}
+use Rattle.sha256.specs.State.{absorb}
+use Rattle.keys.proofs.HmacSteps.{two-digests, two-counts}
 use borrow.Author.Needs.{needs}
 use Rattle.keys.proofs.mac.end.Statement.{statement}
 use Rattle.keys.proofs.mac.end.Tie as tie
 
-block-size : (c : tie.Start) → length (c .args .block) ≡ 64
-block-size c = search needs
-
 returns : tie.Need-returns
-returns c text e h =
-    let at-update = c .before .before .before in
-    let at-begin = at-update .before .before in
-    let at-finish = at-begin .before .before in
-    let start = at-finish .before .before in
-    let inner = at-finish .finish .last .1 .0 in
-    let value = c .before .finish2 .last .1 .0 in
-    let size : length (start .args .block) ≡ 64 = block-size start in
-    two-digests (start .args .block) text inner value (start .args .inner) (at-update .update .result) size h e
-    (λ m same few. digest-of (start .args .inner) m same few refl (at-finish .finish .ensures))
-    (at-update .update .ensures ∙ rw (at-begin .begin .ensures))
-    (λ m same few. digest-of (at-update .update .result) m same few refl (c .before .finish2 .ensures))
+returns c =
+    let at-second = c .before .before .before in
+    let second = at-second .finish-counted2 in
+    let at-update = at-second .before .before in
+    let first = at-update .before .before .before .finish-counted in
+    let args = at-update .before .before .before .before .before .args in
+    let sum : args .blocks + first .result .blocks + second .result .blocks ≤ 2 ^ 58 = omega (arith, first .ensures .1 .1, second .ensures .1 .1) in (
+      λ key text ei eo eb few.
+          let outer = at-update .update .ensures ∙ ap (λ (s : Sha256). absorb s (first .last .1 .0)) eo in
+          record {
+            value = two-digests key text few ei (first .ensures .0) refl (first .ensures .1 .0) outer (second .ensures .0) refl (second .ensures .1 .0);
+            blocks =
+                rw eb
+                (two-counts key text few ei (first .ensures .0) refl (first .ensures .1 .0) outer (second .ensures .0) refl (second .ensures .1 .0));
+          },
+      sum,
+    )
 
 pub end-spec : {M : Type 1} → statement M
 end-spec =
@@ -30,9 +35,10 @@ end-spec =
     (tie.spec
     (λ c. search needs)
     (λ c κs. search needs)
-    (λ c κs. search needs)
     (λ c. search needs)
     (λ c κs. search needs)
     (λ c. search needs)
     (λ c κs. search needs)
+    (λ c. search needs)
+    (λ c. search needs)
     returns)

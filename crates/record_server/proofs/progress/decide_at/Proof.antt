@@ -3,27 +3,33 @@
 -- Assumes nothing.
 use Prim.Native.Nat.{ℕ, _+_, _-_, _≤_}
 use native.Mathlib.Omega.{arith}
-use mathlib.Core.Path.{_≡_, sym, ap, _∙_}
+use mathlib.Core.Path.{_≡_, sym, ap, subst, _∙_}
 use mathlib.Core.Logic.{⊎-elim}
 use mathlib.Core.List.{List, _++_}
 use lib.ListN.{length, take, length-append}
 use lib.Seq.{length-take-le}
 use borrow.Rule.Slice.PartMut.{putMid, same-len-mid}
 use Rattle.lists.proofs.Parts.{length-part}
-use Rattle.server.specs.KeyExchange.{viewOf}
-use Rattle.server.specs.Message.{messageStep}
-use Rattle.server.proofs.Decisions.{same-step}
+use Rattle.server.specs.declared.Connection.{Connection}
+use Rattle.server.specs.declared.step.Decision.{Decision}
+use Rattle.server.specs.KeyExchange.{View, viewOf}
+use Rattle.server.specs.Message.{messageStep, blocksIn}
+use Rattle.server.specs.Decision.{Decides}
 use Rattle.record_server.proofs.Places.{behind-held, over-seam, joined-front}
 use borrow.Author.Needs.{needs}
 use Rattle.record_server.proofs.progress.decide_at.Statement.{statement}
 use Rattle.record_server.proofs.progress.decide_at.Tie as tie
 
+-- what is decided for a message is decided for the same message
+same-message : (v : View) (c : Connection) {d : Decision} {m n : List ℕ} → m ≡ n → Decides d (messageStep v c n (c .phase)) (blocksIn v c n (c .phase))
+    → Decides d (messageStep v c m (c .phase)) (blocksIn v c m (c .phase))
+same-message v c {d} e h = subst (λ (m : List ℕ). Decides d (messageStep v c m (c .phase)) (blocksIn v c m (c .phase))) (sym e) h
+
 returns : tie.Need-returns
 returns c =
     let a = c .before .before .before .before .before .before .before .args in
-    same-step (ap (λ (m : List ℕ). messageStep (viewOf (a .table .now) (a .starts .now) (a .count)) (a .c) m (a .c .phase))
-    (behind-held (a .held .now) (a .content .now) (a .at) (a .end) (omega arith) (omega arith)))
-    (c .decide .ensures)
+    same-message (viewOf (a .table .now) (a .starts .now) (a .count)) (a .c)
+    (behind-held (a .held .now) (a .content .now) (a .at) (a .end) (omega arith) (omega arith)) (c .decide .ensures)
 
 -- ---- the first message, which is joined
 
@@ -94,9 +100,8 @@ returns-2 c =
     let else1 = at-second .before .before .before .before .before .before in
     let a = entry else1 .args in
     let alone = first-alone else1 in
-    same-step (ap (λ (m : List ℕ). messageStep (viewOf (a .table .now) (a .starts .now) (a .count)) (a .c) m (a .c .phase))
-    (over-seam (a .held .now) (a .content .now) (a .at) (a .end) (alone .0) (alone .1)))
-    (rw (← message-in at-second) (c .decide2 .ensures))
+    same-message (viewOf (a .table .now) (a .starts .now) (a .count)) (a .c)
+    (over-seam (a .held .now) (a .content .now) (a .at) (a .end) (alone .0) (alone .1)) (rw (← message-in at-second) (c .decide2 .ensures))
 
 pub decide-at-spec : {M : Type 1} → statement M
 decide-at-spec =

@@ -11,7 +11,7 @@ use Rattle.handshake.specs.Step.{refuse, afterTests}
 use Rattle.server.specs.Step.{Step}
 use Rattle.server.specs.KeyExchange.{viewOf}
 use Rattle.server.specs.Message.{awaited, bodyStep, messageStep}
-use Rattle.server.proofs.Decisions.{same-step}
+use Rattle.server.proofs.Decisions.{same-step, refusing}
 use borrow.Author.Needs.{needs}
 use Rattle.server.proofs.calls.decide.Statement.{statement}
 use Rattle.server.proofs.calls.decide.Tie as tie
@@ -34,7 +34,7 @@ step-after-over c =
 returns : tie.Need-returns
 returns c =
     let at-over = c .before .before in
-    same-step (step-after-over at-over ∙ rw (c .before .if1 .taken)) (c .refused .ensures)
+    same-step (step-after-over at-over ∙ rw (c .before .if1 .taken)) (refusing (c .refused .ensures) _)
 
 -- what the tests on the header showed is what they show of the awaited type
 tested : (c : tie.After-test-header) →
@@ -61,7 +61,7 @@ returns-2 : tie.Need-returns-2
 returns-2 c = same-step (behind (c .before .before .before) (c .before .enum-told .given .1)) (c .body .ensures)
 
 returns-3 : tie.Need-returns-3
-returns-3 c = same-step (behind (c .before .before .before .before) (c .before .before .r .given .1)) (c .refused2 .ensures)
+returns-3 c = same-step (behind (c .before .before .before .before) (c .before .before .r .given .1)) (refusing (c .refused2 .ensures) _)
 
 pub decide-spec : {M : Type 1} → statement M
 decide-spec =

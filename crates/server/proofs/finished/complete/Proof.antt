@@ -43,7 +43,7 @@ returns c =
     let value = sized-gives _ (finished-of-sized Server (conn .secrets .master) made) refl (at-value .finished-of .ensures)
     (told .enum-told .given .1) in
     let sent = c .before .answer .ensures in
-    same-step (ap completed (wanted at-value value)) (rw (c .ended .ensures) (record { means = rw (sent .means); fits = sent .fits }))
+    same-step (ap completed (wanted at-value value)) (rw (c .ended .ensures) (record { means = rw (sent .means); fits = sent .fits; counts = refl }))
 
 returns-2 : tie.Need-returns-2
 returns-2 c =

@@ -1,6 +1,6 @@
 -- `server::hello::accept` meets its contract: what is sent is what goes to the transcript.
 -- Assumes nothing.
-use mathlib.Core.Path.{_≡_, sym, ap, _∙_}
+use mathlib.Core.Path.{_≡_, refl, sym, ap, _∙_}
 use native.Mathlib.Omega.{arith}
 use lib.ListN.{length, take}
 use lib.Seq.{length-take-le}
@@ -35,7 +35,7 @@ returns c =
     rw (at-size .size .ensures) (size-taken outgoing (array at-answer) ∙ sym (flight-bytes outgoing)) ∙ ap flightBytes (sent .means) in
     let next : c .after-hello .result ≡ afterHelloWith (args .c) (args .m .now) (args .suite) (flightBytes (flightFor (args .c) (args .suite))) =
     c .after-hello .ensures ∙ ap (afterHelloWith (args .c) (args .m .now) (args .suite)) all in
-    record { means = rw (sent .means, next); fits = sent .fits }
+    record { means = rw (sent .means, next); fits = sent .fits; counts = refl }
 
 pub accept-spec : {M : Type 1} → statement M
 accept-spec =

@@ -6,6 +6,7 @@ use Rattle.refusal.specs.declared.Refusal.{Refusal}
 use Rattle.keytable.specs.Starts.{listRefusal}
 use Rattle.keytable.proofs.Listed.{passed-both}
 use Rattle.server.proofs.Values.{not-refused, refused-itself}
+use Rattle.server.proofs.Decisions.{refusing}
 use borrow.Author.Needs.{needs}
 use Rattle.server.proofs.key_exchange.body.Statement.{statement}
 use Rattle.server.proofs.key_exchange.body.Tie as tie
@@ -28,7 +29,7 @@ returns-2 : tie.Need-returns-2
 returns-2 c =
     let at-judge = c .before .before .before .before in
     let found = sym (at-judge .judge .ensures) ∙ c .before .before .r .given .1 in
-    rw (refused-itself (refusal at-judge) (c .before .before .r .given .0 .0) found) (c .refused .ensures)
+    rw (refused-itself (refusal at-judge) (c .before .before .r .given .0 .0) found) (refusing (c .refused .ensures) _)
 
 pub body-spec : {M : Type 1} → statement M
 body-spec =

@@ -2,6 +2,7 @@
 -- Assumes nothing.
 use mathlib.Core.Path.{sym, _∙_}
 use Rattle.server.proofs.Values.{identity-there}
+use Rattle.server.proofs.Decisions.{refusing}
 use borrow.Author.Needs.{needs}
 use Rattle.server.proofs.key_exchange.identified.Statement.{statement}
 use Rattle.server.proofs.key_exchange.identified.Tie as tie
@@ -14,7 +15,7 @@ returns c =
     rw (identity-there (start .args .m .now) (start .pre .0) there, ← c .before .identity .ensures) (c .look-up .ensures)
 
 returns-2 : tie.Need-returns-2
-returns-2 c = rw (← c .before .before .before .read-identity-body .ensures, c .before .enum-told2 .given .1) (c .refused .ensures)
+returns-2 c = rw (← c .before .before .before .read-identity-body .ensures, c .before .enum-told2 .given .1) (refusing (c .refused .ensures) _)
 
 pub identified-spec : {M : Type 1} → statement M
 identified-spec =

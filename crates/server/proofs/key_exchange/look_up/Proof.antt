@@ -59,8 +59,8 @@ master-under-requires c κs = key-size (table (look (c .before))) (identity (loo
 
 returns : tie.Need-returns
 returns c =
-    let told = c .before .before .before .before in
-    rw (put told .1, ← c .before .before .master-under .ensures, ← c .before .after-keys .ensures) (c .silent .ensures)
+    let made = c .before .master-under .ensures in
+    rw (put (c .before .before .before) .1, ← made .0, ← made .1) (c .accept .ensures)
 
 returns-2 : tie.Need-returns-2
 returns-2 c =
@@ -78,7 +78,6 @@ look-up-spec =
     array-share-prefix-key
     slice-aggregate-master-under
     master-under-requires
-    (λ c κs. search needs)
     (λ c κs. search needs)
     (λ c. search needs)
     (λ c κs. search needs)

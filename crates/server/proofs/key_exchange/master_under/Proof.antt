@@ -1,9 +1,10 @@
 -- `server::key_exchange::master_under` meets its contract: a key of 1 to 64 bytes has a master secret, which fills its array.
 -- Assumes nothing.
-use mathlib.Core.Path.{_≡_}
+use mathlib.Core.Path.{_≡_, _∙_}
 use lib.ListN.{length}
 use Rattle.refusal.proofs.Laws.{whole-gives}
 use Rattle.keys.proofs.Lengths.{master-under-given}
+use Rattle.keys.proofs.Reports.{reported-whole}
 use borrow.Author.Needs.{needs}
 use Rattle.server.proofs.key_exchange.master_under.Statement.{statement}
 use Rattle.server.proofs.key_exchange.master_under.Tie as tie
@@ -32,7 +33,8 @@ returns c =
     let key = start .args .key .now in
     let conn = start .args .c in
     let given = master-under-given key (conn .client .random) (conn .setup .random) (start .pre .0) (start .pre .1) (client start) (own start) in
-    rw (whole-gives (given .2) (given .1) (at-master .master-under .ensures))
+    let told = at-master .master-under .ensures in
+    (rw (whole-gives (given .2) (given .1) (told .0)), told .1 ∙ reported-whole (given .2) (given .1) (told .0) _)
 
 pub master-under-spec : {M : Type 1} → statement M
 master-under-spec =

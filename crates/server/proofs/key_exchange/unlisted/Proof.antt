@@ -5,7 +5,7 @@ use native.Mathlib.Omega.{arith}
 use lib.ListN.{length}
 use Rattle.server.specs.declared.Rule.{Rule}
 use Rattle.server.specs.KeyExchange.{unlisted}
-use Rattle.server.proofs.Decisions.{same-step}
+use Rattle.server.proofs.Decisions.{same-step, refusing}
 use borrow.Author.Needs.{needs}
 use Rattle.server.proofs.key_exchange.unlisted.Statement.{statement}
 use Rattle.server.proofs.key_exchange.unlisted.Tie as tie
@@ -18,14 +18,14 @@ master-under-requires c κs =
     (omega arith, omega arith)
 
 returns : tie.Need-returns
-returns c = rw (c .before .enum-told .given .1) (c .refused .ensures)
+returns c = rw (c .before .enum-told .given .1) (refusing (c .refused .ensures) _)
 
 returns-2 : tie.Need-returns-2
 returns-2 c =
-    let told = c .before .before .before .before .before in
+    let told = c .before .before .before .before in
     let args = told .before .before .before .before .args in
-    same-step (ap (λ (r : Rule). unlisted r (args .c) (args .m .now)) (told .enum-told2 .given .1))
-    (rw (c .before .after-keys .ensures, c .before .before .master-under .ensures) at (c .silent .ensures))
+    let made = c .before .master-under .ensures in
+    same-step (ap (λ (r : Rule). unlisted r (args .c) (args .m .now)) (told .enum-told2 .given .1)) (rw (made .0, made .1) at (c .accept .ensures))
 
 pub unlisted-spec : {M : Type 1} → statement M
 unlisted-spec =
@@ -36,7 +36,6 @@ unlisted-spec =
     (λ c. search needs)
     (λ c. search needs)
     master-under-requires
-    (λ c κs. search needs)
     (λ c κs. search needs)
     returns
     returns-2)
