@@ -4,11 +4,13 @@
   handshakes.py stdout   what the program has to print of them
 
 The server follows RFC 5246, RFC 4279 and document 01 with Python's hashlib and hmac and shares
-nothing with the library. Whole handshakes for each suite, hint and rule come first, then every
+nothing with the library; the blocks of a master secret are counted in tests/counting.py. Whole handshakes for each suite, hint and rule come first, then every
 refusal of document 01's table, lists of line starts that are not the table's (document 02, P6), replayed
 messages, and series of calls drawn from a fixed seed.
 """
 import hashlib, hmac, sys
+
+from counting import master_blocks
 
 SUITES = {0x00AE: 96, 0x008C: 72, 0x00B0: 64}
 EVERY = tuple(SUITES)
@@ -56,9 +58,17 @@ def prf(secret, label, seed, n):
     return out[:n]
 
 
+class Master(bytes):
+    """A master secret, and how many blocks were hashed for it."""
+    blocks = 0
+
+
 def master_secret(key, client, server):
     size = len(key).to_bytes(2, "big")
-    return prf(size + bytes(len(key)) + size + key, b"master secret", client + server, 48)
+    premaster = size + bytes(len(key)) + size + key
+    master = Master(prf(premaster, b"master secret", client + server, 48))
+    master.blocks = master_blocks(premaster, client, server)
+    return master
 
 
 def verify_data(master, label, messages):
@@ -275,7 +285,7 @@ class Script(Calls):
         self.calls.append(bytes([3, room]) + vector(3, m))
         said, answer, master = self.server.message(m, room, self.table, self.good, self.matches())
         line = "message " + said + " " + (answer + b"\xee" * (room - len(answer))).hex()
-        self.lines.append(line + (" master " + master.hex() if master else ""))
+        self.lines.append(line + (f" blocks {master.blocks} master {master.hex()}" if master else ""))
         if master:
             self.last = master
         return said

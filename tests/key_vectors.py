@@ -1,6 +1,7 @@
 #!/usr/bin/env python3
 """The input of the program key_vectors, and what it must print: HMAC from Python's hmac, P_SHA256 written here over
-it, and every PRF output whose secret a command line can hold compared with OpenSSL's TLS1-PRF.
+it, and every PRF output whose secret a command line can hold compared with OpenSSL's TLS1-PRF. How many blocks a master
+secret takes is counted block by block in tests/counting.py, for keys of every length.
 
   key_vectors.py stdin    HMAC's cases of RFC 4231 (sections 4.2 to 4.8), and PRF, secrets, key blocks and Finished
                           values at every length that document 01 or a block's end makes interesting
@@ -13,6 +14,7 @@ import subprocess
 import sys
 
 from calls import field, literal, number, series, shown
+from counting import master_blocks
 
 LABELS = {
     "master": b"master secret",
@@ -71,7 +73,20 @@ def master(secret, client, server):
     call(7, 0, 48, secret, client, server)
     client, server = shown(client), shown(server)
     sizes = len(client) == 32 and len(server) == 32
-    line("master", prf(shown(secret), "master", client + server, 48) if sizes else REFUSED)
+    line("master", counted(shown(secret), client, server) if sizes else REFUSED)
+
+
+def counted(secret, client, server):
+    value = prf(secret, "master", client + server, 48)
+    return value if value == REFUSED else f"{value} blocks {master_blocks(secret, client, server)}"
+
+
+def master_under(psk, client, server):
+    call(11, 0, 48, psk, client, server)
+    psk = shown(psk)
+    size = len(psk).to_bytes(2, "big")
+    good = 1 <= len(psk) <= 64
+    line("master under a key", counted(size + bytes(len(psk)) + size + psk, shown(client), shown(server)) if good else REFUSED)
 
 
 def key_block(secret, server, client, suite):
@@ -134,6 +149,10 @@ master(data(6), two, one)
 master(data(132), one, two)
 master(data(132), series(1, 0, 31), two)
 master(data(132), one, series(2, 0, 33))
+for size in range(66):
+    master_under(data(size), one, two)
+for size in [55, 56, 63, 64, 65, 119, 120, 1000]:
+    master(data(size), one, two)
 for suite in [0x00AE, 0x008C, 0x00B0, 0x00AF]:
     key_block(data(48), two, one, suite)
 key_block(data(47), two, one, 0x00AE)

@@ -187,7 +187,7 @@ class Script(Calls):
         said, answer, master, data = self.server.take(record, room, self.table, self.good, self.matches())
         more = [shown(self.server.memory)]
         more += ["data " + shown(data)] if data is not None else []
-        more += ["master " + master.hex()] if master else []
+        more += [f"blocks {master.blocks} master {master.hex()}"] if master else []
         self.line("record", said, answer, room, *more)
         return said
 
