@@ -17,11 +17,11 @@
  *
  * A `const uint8_t *p` with its `size_t p_len` is read and left as it was; a `uint8_t *out` with its `size_t out_len` is lent for the answer. Of a list,
  * `uint32_t *starts`, `starts_len` counts the numbers, not their bytes. A parameter written as an array, as `uint32_t fields[9]`, is a pointer to so many
- * elements, and `size_t *count` to one. The caller sees to it that
+ * elements, and `size_t *count` and `uint64_t *blocks` to one. The caller sees to it that
  *
  *   - each pointer points to as many bytes or elements as its length or its type says, and is not null, also where the length is 0;
- *   - memory that is lent to be written (`out`, `memory`, `fields`, `connection`, `told`, and `client`, `master`, `starts` and `count` without `const`)
- *     overlaps no other argument of the same call;
+ *   - memory that is lent to be written (`out`, `memory`, `fields`, `connection`, `told`, `blocks`, and `client`, `master`, `starts` and `count` without
+ *     `const`) overlaps no other argument of the same call;
  *   - nobody else writes to any of it before the call returns.
  *
  * Nothing else is asked: there is no length, no byte and no order of calls that may not be given.
@@ -36,7 +36,7 @@
  *
  * The peer is the client where the host is a server, and the server where it is a client.
  *
- * So a refusal never writes to `out`, `memory`, `starts`, `count`, `fields`, `master` or `told`. The tests `tn_is_count`, `tn_is_host_refusal` and
+ * So a refusal never writes to `out`, `memory`, `starts`, `count`, `fields`, `master`, `blocks` or `told`. The tests `tn_is_count`, `tn_is_host_refusal` and
  * `tn_is_alert` below tell the kinds apart.
  */
 #ifndef TURRETNAIL_H
@@ -51,7 +51,7 @@ extern "C" {
 #endif
 
 /* The version of header and library, as pkg-config has it. */
-#define TN_VERSION "0.2"
+#define TN_VERSION "0.3"
 
 /* ==== Sizes ================================================================================================================================== */
 
@@ -214,6 +214,28 @@ static inline uint8_t tn_alert_number(int32_t result)
 #define TN_HELLO_RANDOM_AT 6
 #define TN_HELLO_SESSION_ID_AT 39
 
+/* ==== What a master secret costs ============================================================================================================= */
+
+/*
+ * `blocks` tells how many 64-byte blocks went through SHA-256's compression function while the master secret was derived. tn_message, tn_client_message,
+ * tn_take_record and tn_master write it exactly where they write the master secret, and leave it as it was everywhere else.
+ *
+ * A master secret takes four HMACs (RFC 5246 section 5: A(1), the first 32 bytes, A(2) and the other 16), each of which starts afresh: it counts the blocks of
+ * its two digests, their padding among them, and before these the blocks of the premaster secret's own digest where that has over 64 bytes.
+ *
+ *   pre-shared key      premaster secret       blocks
+ *   1 to 30 bytes       6 to 64 bytes          19
+ *   31 to 57            66 to 118              27
+ *   58 to 64            120 to 132             31
+ *
+ * tn_master takes other premaster secrets too: up to 64 bytes give 19, and n bytes above that 19 + 4 * ((n + 72) / 64), without the division's remainder.
+ * The number is for a battery's budget: what a master secret costs is `blocks` times the measured time of one block.
+ *
+ * FOR THE HOST ALONE. The key's length shows in the number: it never goes on the wire. No answer, alert or refusal depends on it. Where hide applies it is
+ * 27 after an identity that is not listed, by the 32 bytes of the stand-in key, and another number after a listed one whose key has under 31 or over 57
+ * bytes: a log that shows the number shows that too.
+ */
+
 /* ==== The server ============================================================================================================================= */
 
 /*
@@ -268,27 +290,28 @@ int32_t tn_start(uint8_t connection[TN_CONNECTION_SIZE], const uint8_t *random, 
  *   starts     the table's list, as tn_table_list made it: the first `count` numbers, the others do not matter; read with the table
  *   out        room for the answer: TN_FLIGHT_SIZE bytes are always enough
  *
- *   result                 when                                            out                                 master            connection
- *   46, or 52 + hint_len   ClientHello accepted                            ServerHello, ServerKeyExchange      as it was         phase 2
+ *   result                 when                                            out                                 master, blocks    connection
+ *   46, or 52 + hint_len   ClientHello accepted                            ServerHello, ServerKeyExchange      as they were      phase 2
  *                                                                          where there is a hint, and
  *                                                                          ServerHelloDone
- *   0                      ClientKeyExchange accepted                      as it was                           master secret     phase 3
- *   16                     Finished accepted                               the server's Finished               as it was         phase 5, complete
- *   TN_R1                  all is right, and out is shorter than that      as it was                           as it was         as it was
- *   TN_R2                  a ClientKeyExchange, table not well formed      as it was                           as it was         as it was
- *   TN_R4                  the connection is complete or closed            as it was                           as it was         as it was
- *   TN_R10                 a ClientKeyExchange, list not the table's       as it was                           as it was         as it was
- *   an alert               10, 40, 47, 50, 51, 70, 115 as listed above     as it was                           as it was         closed
+ *   0                      ClientKeyExchange accepted                      as it was                           master secret,    phase 3
+ *                                                                                                              its blocks
+ *   16                     Finished accepted                               the server's Finished               as they were      phase 5, complete
+ *   TN_R1                  all is right, and out is shorter than that      as it was                           as they were      as it was
+ *   TN_R2                  a ClientKeyExchange, table not well formed      as it was                           as they were      as it was
+ *   TN_R4                  the connection is complete or closed            as it was                           as they were      as it was
+ *   TN_R10                 a ClientKeyExchange, list not the table's       as it was                           as they were      as it was
+ *   an alert               10, 40, 47, 50, 51, 70, 115 as listed above     as it was                           as they were      closed
  *
  * After TN_R1, TN_R2 or TN_R10 the connection still awaits the same message, and the call may be made again with more room, a better table or its list.
  *
  * Order of the tests: TN_R4; fewer than 4 bytes 50; another type than the one awaited 10; the length in the header not that of the rest 50; over
  * TN_MESSAGE_LIMIT bytes 50; TN_R2; TN_R10; the body's; TN_R1. So a header that promises too much can be handed over alone, and is refused with 10 or 50.
  *
- * Where hide applies the master secret after an unlisted identity comes from the stand-in key. It is for the records only.
+ * Where hide applies the master secret after an unlisted identity comes from the stand-in key, in 27 blocks. It is for the records only.
  */
 int32_t tn_message(uint8_t connection[TN_CONNECTION_SIZE], const uint8_t *table, size_t table_len, const uint32_t *starts, size_t starts_len, size_t count,
-                   const uint8_t *message, size_t message_len, uint8_t *out, size_t out_len, uint8_t master[TN_MASTER_SIZE]);
+                   const uint8_t *message, size_t message_len, uint8_t *out, size_t out_len, uint8_t master[TN_MASTER_SIZE], uint64_t *blocks);
 
 /*
  * A change of cipher came from the client.
@@ -381,33 +404,34 @@ int32_t tn_record_start(uint8_t connection[TN_RECORD_CONNECTION_SIZE], const uin
  *   memory     the connection's memory, see above
  *   out        room for the answer: TN_RECORD_ANSWER bytes are enough on a connection that calls have made; on other bytes an answer has at most 336
  *
- *   result                 when                                    out                  memory             master             told             connection
+ *   result                 when                                    out                  memory             master, blocks     told             connection
  *   56, or 67 + hint_len   a ClientHello was finished              ServerHello,         the part of a      master secret,     {0, 0, 0, 0}, or  phase 2,
- *                                                                  ServerKeyExchange    next message at    where a            {1, 0, 0, 0}      or 3
- *                                                                  where there is a     the front, else    ClientKeyExchange  with a master
- *                                                                  hint, and            as it was          was finished too   secret
- *                                                                  ServerHelloDone
- *   59                     the client's Finished was right         change of cipher,    as it was          as it was          {0, 0, 0, 0}     phase 5
+ *                                                                  ServerKeyExchange    next message at    its blocks,        {1, 0, 0, 0}      or 3
+ *                                                                  where there is a     the front, else    where a            with a master
+ *                                                                  hint, and            as it was          ClientKeyExchange  secret
+ *                                                                  ServerHelloDone                         was finished too
+ *   59                     the client's Finished was right         change of cipher,    as it was          as they were       {0, 0, 0, 0}     phase 5
  *                                                                  and the server's
  *                                                                  Finished, protected
- *   0                      a ClientKeyExchange was finished        as it was            as above           master secret      {1, 0, 0, 0}     phase 3
- *   0                      a part of a message                     as it was            all that came      as it was          {0, 0, 0, 0}     same phase
+ *   0                      a ClientKeyExchange was finished        as it was            as above           master secret,     {1, 0, 0, 0}     phase 3
+ *                                                                                                          its blocks
+ *   0                      a part of a message                     as it was            all that came      as they were       {0, 0, 0, 0}     same phase
  *                                                                                       of it at the front
- *   0                      the awaited change of cipher            as it was            as it was          as it was          {0, 0, 0, 0}     phase 4
- *   0                      a warning other than close_notify       as it was            as it was          as it was          {0, 0, 0, 0}     same phase
- *   0                      close_notify, or a fatal alert          as it was            as it was          as it was          {0, 0, 0, 0}     closed, nothing
+ *   0                      the awaited change of cipher            as it was            as it was          as they were       {0, 0, 0, 0}     phase 4
+ *   0                      a warning other than close_notify       as it was            as it was          as they were       {0, 0, 0, 0}     same phase
+ *   0                      close_notify, or a fatal alert          as it was            as it was          as they were       {0, 0, 0, 0}     closed, nothing
  *                                                                                                                                              is to be sent
- *   0                      application data, n bytes or none       as it was            as it was          as it was          {0, 1, 5, n}     phase 5
- *   TN_R1                  all is right, and out is shorter than   as it was            as it was          as it was          as it was        as it was
+ *   0                      application data, n bytes or none       as it was            as it was          as they were       {0, 1, 5, n}     phase 5
+ *   TN_R1                  all is right, and out is shorter than   as it was            as it was          as they were       as it was        as it was
  *                          the answers of the whole record, or
  *                          memory than what is to be held
- *   TN_R2                  a ClientKeyExchange was finished, and   as it was            as it was          as it was          as it was        as it was
+ *   TN_R2                  a ClientKeyExchange was finished, and   as it was            as it was          as they were       as it was        as it was
  *                          the table is not well formed
- *   TN_R4                  the connection is closed                as it was            as it was          as it was          as it was        as it was
- *   TN_R9                  2^64 - 1 records were taken             as it was            as it was          as it was          as it was        as it was
- *   TN_R10                 a ClientKeyExchange was finished, and   as it was            as it was          as it was          as it was        as it was
+ *   TN_R4                  the connection is closed                as it was            as it was          as they were       as it was        as it was
+ *   TN_R9                  2^64 - 1 records were taken             as it was            as it was          as they were       as it was        as it was
+ *   TN_R10                 a ClientKeyExchange was finished, and   as it was            as it was          as they were       as it was        as it was
  *                          the list is not the table's
- *   an alert               10, 20, 22, 40, 47, 50, 51, 70, 115     as it was            as it was          as it was          as it was        closed, with the
+ *   an alert               10, 20, 22, 40, 47, 50, 51, 70, 115     as it was            as it was          as they were       as it was        closed, with the
  *                                                                                                                                              alert's record
  *
  * What is held stands at the front of the memory; the rest of the memory is as it was. Each message of the answer has a record of its own.
@@ -422,11 +446,11 @@ int32_t tn_record_start(uint8_t connection[TN_RECORD_CONNECTION_SIZE], const uin
  * level 47; each message in turn; TN_R1. Of a message the type (10) and the limit of TN_MESSAGE_LIMIT bytes (50) are judged as soon as its four bytes of
  * header are in, the rest as at tn_message when all of it is. The record's version is not judged, and the MAC covers the one that came.
  *
- * Where hide applies the master secret after an unlisted identity comes from the stand-in key; the connection never gets to phase 5.
+ * Where hide applies the master secret after an unlisted identity comes from the stand-in key, in 27 blocks; the connection never gets to phase 5.
  */
 int32_t tn_take_record(uint8_t connection[TN_RECORD_CONNECTION_SIZE], const uint8_t *table, size_t table_len, const uint32_t *starts, size_t starts_len,
                        size_t count, const uint8_t *received, size_t received_len, uint8_t *memory, size_t memory_len, uint8_t *out, size_t out_len,
-                       uint8_t master[TN_MASTER_SIZE], uint32_t told[4]);
+                       uint8_t master[TN_MASTER_SIZE], uint32_t told[4], uint64_t *blocks);
 
 /*
  * Application data for the client, as one record: at most TN_RECORD_CONTENT_LIMIT bytes, or none.
@@ -529,15 +553,15 @@ int32_t tn_client_start(uint8_t client[TN_CLIENT_SIZE], const uint8_t *random, s
  *
  *   out        room for the answer to ServerHelloDone: TN_CLIENT_FLIGHT_SIZE bytes are always enough
  *
- *   result                 when                                            out                                 master            client
- *   0                      ServerHello accepted                            as it was                           as it was         phase 2
- *   0                      ServerKeyExchange accepted                      as it was                           as it was         phase 3
- *   22 + identity_len      ServerHelloDone accepted                        ClientKeyExchange, and the          master secret     phase 4
- *                                                                          client's Finished
- *   0                      Finished accepted                               as it was                           as it was         phase 6, complete
- *   TN_R1                  all is right, and out is shorter than that      as it was                           as it was         as it was
- *   TN_R4                  the connection is complete or closed            as it was                           as it was         as it was
- *   an alert               10, 47, 50, 51, 70, 110 as listed above         as it was                           as it was         closed
+ *   result                 when                                            out                                 master, blocks    client
+ *   0                      ServerHello accepted                            as it was                           as they were      phase 2
+ *   0                      ServerKeyExchange accepted                      as it was                           as they were      phase 3
+ *   22 + identity_len      ServerHelloDone accepted                        ClientKeyExchange, and the          master secret,    phase 4
+ *                                                                          client's Finished                   its blocks
+ *   0                      Finished accepted                               as it was                           as they were      phase 6, complete
+ *   TN_R1                  all is right, and out is shorter than that      as it was                           as they were      as it was
+ *   TN_R4                  the connection is complete or closed            as it was                           as they were      as it was
+ *   an alert               10, 47, 50, 51, 70, 110 as listed above         as it was                           as they were      closed
  *
  * After TN_R1 the connection still awaits the same message, and the call may be made again with more room.
  *
@@ -550,7 +574,7 @@ int32_t tn_client_start(uint8_t client[TN_CLIENT_SIZE], const uint8_t *random, s
  * hint may be any bytes, and none of it matters (RFC 4279 section 5.2). tn_read_server_key_exchange reads it for a host that wants to show it.
  */
 int32_t tn_client_message(uint8_t client[TN_CLIENT_SIZE], const uint8_t *message, size_t message_len, uint8_t *out, size_t out_len,
-                          uint8_t master[TN_MASTER_SIZE]);
+                          uint8_t master[TN_MASTER_SIZE], uint64_t *blocks);
 
 /* A change of cipher came from the server, or an alert. The results are those of tn_change_of_cipher and tn_alert; tn_client_phase tells a warning from an
  * end. */
@@ -567,7 +591,7 @@ int32_t tn_client_suite(const uint8_t client[TN_CLIENT_SIZE]);
 
 /*
  * Each writes its value at the front of `out` and returns the value's length. Each tests TN_R5 first, as said at the function, and then TN_R1: `out` is
- * shorter than the value. Refused, `out` stays as it was.
+ * shorter than the value. Refused, `out` stays as it was, and tn_master's `blocks` too.
  */
 
 /* SHA-256 (FIPS 180-4), 32 bytes. TN_R5: over 2^61 - 1 bytes. */
@@ -585,10 +609,10 @@ int32_t tn_prf(const uint8_t *secret, size_t secret_len, uint8_t label, const ui
 /* The premaster secret of a pre-shared key (RFC 4279 section 2), 4 + 2 * psk_len bytes. TN_R5: no key, or over TN_PSK_LIMIT bytes. */
 int32_t tn_premaster(const uint8_t *psk, size_t psk_len, uint8_t *out, size_t out_len);
 
-/* The master secret, TN_MASTER_SIZE bytes, from the premaster secret and the two hellos' randoms (RFC 5246 section 8.1).
+/* The master secret, TN_MASTER_SIZE bytes, from the premaster secret and the two hellos' randoms (RFC 5246 section 8.1), and its blocks.
  * TN_R5: a random of other than 32 bytes, or a premaster secret over TN_PRF_INPUT_LIMIT. */
 int32_t tn_master(const uint8_t *premaster, size_t premaster_len, const uint8_t *client, size_t client_len, const uint8_t *server, size_t server_len,
-                  uint8_t *out, size_t out_len);
+                  uint8_t *out, size_t out_len, uint64_t *blocks);
 
 /* The key block without IVs (RFC 5246 section 6.3), as long as tn_key_block_length says. Mind the order of the randoms: server, then client.
  * TN_R5: a master secret of other than 48 bytes, a random of other than 32, or a suite that is none of ours. */

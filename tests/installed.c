@@ -1,7 +1,7 @@
 /*
  * A first program over the installed library, valid as C and as C++: document 01's worked bytes (V1 to V12) through the C interface, edits of its key
- * table and the list beside it, a session on a record connection, a gate's login to the library's own server, and the way that the three kinds of results
- * are told apart. Run by tests/installed.
+ * table and the list beside it, a session on a record connection, a gate's login to the library's own server, how many blocks a master secret takes, and the
+ * way that the three kinds of results are told apart. Run by tests/installed.
  */
 #include <stdio.h>
 #include <stdlib.h>
@@ -44,6 +44,24 @@ static void secrets(void)
                  "\xBA\x78\x16\xBF\x8F\x01\xCF\xEA\x41\x41\x40\xDE\x5D\xAE\x22\x23\xB0\x03\x61\xA3\x96\x17\x7A\x9C\xB4\x10\xFF\x61\xF2\x00\x15\xAD", 32));
     expect("key block lengths", tn_key_block_length(TN_SUITE_PSK_AES_128_CBC_SHA256) == 96 && tn_key_block_length(TN_SUITE_PSK_AES_128_CBC_SHA) == 72
                                     && tn_key_block_length(TN_SUITE_PSK_NULL_SHA256) == 64 && tn_key_block_length(0x00AF) == 0);
+}
+
+/* How many blocks a master secret takes from a key of so many bytes: the header's table. */
+static uint64_t blocks_of(size_t key_len)
+{
+    uint8_t key[TN_PSK_LIMIT] = {1}, premaster[TN_PREMASTER_LIMIT], random[TN_RANDOM_SIZE] = {1}, master[TN_MASTER_SIZE];
+    uint64_t blocks = 7;
+    size_t n = (size_t)tn_premaster(key, key_len, premaster, sizeof premaster);
+    expect("no room, no blocks", tn_master(premaster, n, random, 32, random, 32, master, TN_MASTER_SIZE - 1, &blocks) == TN_R1 && blocks == 7);
+    expect("a master secret", tn_master(premaster, n, random, 32, random, 32, master, sizeof master, &blocks) == TN_MASTER_SIZE);
+    return blocks;
+}
+
+static void block_counts(void)
+{
+    expect("19 blocks", blocks_of(1) == 19 && blocks_of(30) == 19);
+    expect("27 blocks", blocks_of(31) == 27 && blocks_of(57) == 27);
+    expect("31 blocks", blocks_of(58) == 31 && blocks_of(TN_PSK_LIMIT) == 31);
 }
 
 static void messages(void)
@@ -154,6 +172,7 @@ static void edits(void)
 static int32_t hello(uint32_t version, uint8_t *answer)
 {
     uint8_t connection[TN_CONNECTION_SIZE], message[45], master[TN_MASTER_SIZE], random[TN_RANDOM_SIZE] = {1};
+    uint64_t blocks = 7;
     int32_t n = tn_write_client_hello(version, random, sizeof random, random, 0, bytes("\x00\xB0"), 2, bytes("\x00"), 1, false, random, 0, message,
                                       sizeof message);
     expect("V7", n == 45 && memcmp(message, "\x01\x00\x00\x29", 4) == 0);
@@ -161,7 +180,8 @@ static int32_t hello(uint32_t version, uint8_t *answer)
     expect("phase 1", tn_phase(connection) == TN_PHASE_CLIENT_HELLO);
     expect("no suite yet", tn_suite(connection) == 0);
     expect("another rule is R3", tn_start(connection, random, sizeof random, random, 0, random, sizeof random, 3) == TN_R3);
-    int32_t result = tn_message(connection, bytes(""), 0, first, 0, 0, message, sizeof message, answer, TN_FLIGHT_SIZE, master);
+    int32_t result = tn_message(connection, bytes(""), 0, first, 0, 0, message, sizeof message, answer, TN_FLIGHT_SIZE, master, &blocks);
+    expect("no blocks of a hello", blocks == 7);
     expect("phase 2 or closed", tn_phase(connection) == (tn_is_count(result) ? TN_PHASE_CLIENT_KEY_EXCHANGE : TN_PHASE_CLOSED));
     expect("the suite told", tn_suite(connection) == (tn_is_count(result) ? TN_SUITE_PSK_NULL_SHA256 : 0));
     expect("a change of cipher here", tn_change_of_cipher(connection) == (tn_is_count(result) ? TN_ALERT_RESULT(TN_ALERT_UNEXPECTED_MESSAGE) : TN_R4));
@@ -184,7 +204,7 @@ struct session {
     uint32_t told[4];
     uint8_t transcript[200], keys[64];
     size_t transcript_len;
-    uint64_t sealed;
+    uint64_t sealed, blocks;
 };
 
 static void add(struct session *s, const uint8_t *message, size_t n)
@@ -197,7 +217,7 @@ static void add(struct session *s, const uint8_t *message, size_t n)
 static int32_t take_by(struct session *s, size_t count, const uint8_t *record, int32_t n)
 {
     return tn_take_record(s->connection, bytes("gate7:abcd\n"), 11, first, 1, count, record, (size_t)n, s->memory, sizeof s->memory, s->out, sizeof s->out,
-                          s->master, s->told);
+                          s->master, s->told, &s->blocks);
 }
 
 static int32_t take(struct session *s, const uint8_t *record, int32_t n)
@@ -235,7 +255,8 @@ static void record_login(struct session *s)
     add(s, message, 11);
     expect("a part of a message", take_plain(s, TN_TYPE_HANDSHAKE, message, 6) == 0 && s->told[0] == 0 && memcmp(s->memory, message, 6) == 0);
     expect("the rest of it, R10", take_by(s, 0, record, tn_write_record(TN_TYPE_HANDSHAKE, message + 6, 5, record, sizeof record)) == TN_R10);
-    expect("the rest of it", take_plain(s, TN_TYPE_HANDSHAKE, message + 6, 5) == 0 && s->told[0] == 1);
+    expect("no blocks yet", s->blocks == 0);
+    expect("the rest of it", take_plain(s, TN_TYPE_HANDSHAKE, message + 6, 5) == 0 && s->told[0] == 1 && s->blocks == 19);
     tn_key_block(s->master, sizeof s->master, random, sizeof random, random, sizeof random, TN_SUITE_PSK_NULL_SHA256, s->keys, sizeof s->keys);
     expect("data too soon", tn_send_data(s->connection, bytes("cow"), 3, s->out, sizeof s->out) == TN_R5);
     expect("a change of cipher", take_plain(s, TN_TYPE_CHANGE_OF_CIPHER, bytes("\x01"), 1) == 0);
@@ -266,6 +287,7 @@ static void records(void)
 struct ends {
     uint8_t client[TN_CLIENT_SIZE], server[TN_CONNECTION_SIZE], answer[TN_CLIENT_FLIGHT_SIZE], flight[TN_FLIGHT_SIZE];
     uint8_t client_master[TN_MASTER_SIZE], server_master[TN_MASTER_SIZE];
+    uint64_t client_blocks, server_blocks;
 };
 
 static int32_t start_client(struct ends *e, const char *key, size_t key_len, size_t out_len)
@@ -276,12 +298,13 @@ static int32_t start_client(struct ends *e, const char *key, size_t key_len, siz
 
 static int32_t to_server(struct ends *e, const uint8_t *message, size_t n)
 {
-    return tn_message(e->server, bytes("gate7:abcd\n"), 11, first, 1, 1, message, n, e->flight, sizeof e->flight, e->server_master);
+    return tn_message(e->server, bytes("gate7:abcd\n"), 11, first, 1, 1, message, n, e->flight, sizeof e->flight, e->server_master,
+                      &e->server_blocks);
 }
 
 static int32_t to_client(struct ends *e, const uint8_t *message, size_t n)
 {
-    return tn_client_message(e->client, message, n, e->answer, sizeof e->answer, e->client_master);
+    return tn_client_message(e->client, message, n, e->answer, sizeof e->answer, e->client_master, &e->client_blocks);
 }
 
 /* Each end's messages and change of cipher to the other, as the host would pass them on: the answer to ServerHelloDone is cut before its Finished. */
@@ -316,6 +339,7 @@ static void gate(void)
     e.server_master[0] = (uint8_t)~e.client_master[0]; /* so that they differ until both are written */
     gate_login(&e);
     expect("equal masters", memcmp(e.client_master, e.server_master, TN_MASTER_SIZE) == 0);
+    expect("equal numbers of blocks", e.client_blocks == 19 && e.server_blocks == 19);
     start_client(&e, "\xAB\xCD", 2, sizeof e.answer);
     int32_t n = tn_write_server_hello(0x0303, random, sizeof random, random, 0, TN_SUITE_PSK_NULL_SHA256, 0, true, bytes("\x00\x23\x00\x00"), 4, message,
                                       sizeof message);
@@ -327,6 +351,7 @@ int main(void)
 {
     uint8_t answer[TN_FLIGHT_SIZE];
     secrets();
+    block_counts();
     tn_clear_stack(TN_STACK_LIMIT);
     messages();
     table();

@@ -62,21 +62,23 @@ struct bytes client_start(struct client_pair *p, struct gate g, size_t room)
     return answer();
 }
 
-static int32_t message_lent(struct lent *c, const struct keys *none, struct lent *m, struct lent *out, struct lent *master)
+static int32_t message_lent(struct lent *c, const struct keys *none, struct lent *m, struct lent *out, struct lent *master, struct lent *blocks)
 {
     (void)none;
-    return tn_client_message(c->bytes, m->bytes, m->n, out->bytes, out->n, master->bytes);
+    return tn_client_message(c->bytes, m->bytes, m->n, out->bytes, out->n, master->bytes, number_of(blocks));
 }
 
 struct bytes client_message(struct client_pair *p, struct bytes message, size_t room)
 {
     model_client_message(&p->model, message, room, &wanted);
     begin("tn_client_message");
-    struct lent *c = lend_connection(p), *m = lend(message), *out = lend_room(room), *master = lend_room(TN_MASTER_SIZE);
-    int32_t result = message_lent(c, NULL, m, out, master);
+    struct lent *c = lend_connection(p), *m = lend(message), *out = lend_room(room), *master = lend_room(TN_MASTER_SIZE), *blocks = lend_number();
+    int32_t result = message_lent(c, NULL, m, out, master, blocks);
     settle_connection(c, result, false);
-    if (wanted.said > 0)
+    if (wanted.said > 0) {
         becomes(master, p->model.master, TN_MASTER_SIZE);
+        becomes(blocks, (const uint8_t *)&p->model.blocks, sizeof p->model.blocks);
+    }
     settle(result, out, &wanted);
     keep(p, c, result);
     return answer();
@@ -104,6 +106,15 @@ static bool with_answer(int32_t result)
     return result > 0;
 }
 
+/* The key stands in the connection; its bytes and the randoms do not matter. */
+static uint64_t blocks_of_message(const uint8_t *connection, const struct coming *m)
+{
+    static struct client c;
+    (void)m;
+    model_client_restore(&c, connection);
+    return model_blocks((struct bytes){c.key, c.key_n});
+}
+
 const struct end client_end = {
     .message_name = "tn_client_message",
     .change_name = "tn_client_change_of_cipher",
@@ -119,6 +130,7 @@ const struct end client_end = {
     .complete = TN_CLIENT_PHASE_COMPLETE,
     .is_result = is_result_of_message,
     .hands_master = with_answer,
+    .blocks = blocks_of_message,
     .expect_over = expect_over,
 };
 
@@ -488,7 +500,8 @@ void every_client_byte(void)
     }
 }
 
-/* Identities and keys of each length, refused ones too, and each room for both answers, also where ServerHelloDone has a body. */
+/* Identities and keys of each length, refused ones too, each key as far as its master secret; and each room for both answers, also where ServerHelloDone has
+ * a body. */
 void every_client_room(void)
 {
     static struct client_pair p, there, longest;
@@ -499,6 +512,9 @@ void every_client_room(void)
         client_start(&p, plain_gate(n, 16), n % (TN_CLIENT_HELLO_SIZE + 2));
         client_start(&p, plain_gate(n, 16), TN_CLIENT_HELLO_SIZE);
         client_start(&p, plain_gate(12, n), TN_CLIENT_HELLO_SIZE);
+        client_message(&p, plain_hello(), 0);
+        client_message(&p, composed(14, drawn(0, 0)), 33);
+        client_message(&p, composed(14, drawn(0, 0)), 34);
         p = there;
         client_message(&p, composed(14, drawn(0, n % 2)), n);
         p = longest;

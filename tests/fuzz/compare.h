@@ -68,10 +68,17 @@ int32_t memory_edit(struct memory *m, enum edit kind, struct bytes identity, str
 
 /* ---- an end of a handshake */
 
+/* A message, and what is lent with it; a client takes no keys. */
+struct coming {
+    const struct keys *keys;
+    struct bytes message;
+    size_t room;
+};
+
 /* The calls that either end has, by its names. A phase of 0 is closed; the one before `complete` awaits a Finished. */
 struct end {
     const char *message_name, *change_name, *alert_name, *phase_name, *suite_name;
-    int32_t (*message)(struct lent *c, const struct keys *keys, struct lent *m, struct lent *out, struct lent *master); /* may lend more */
+    int32_t (*message)(struct lent *c, const struct keys *keys, struct lent *m, struct lent *out, struct lent *master, struct lent *blocks); /* may lend more */
     int32_t (*change)(uint8_t *);
     int32_t (*alert)(uint8_t *, uint8_t, uint8_t);
     int32_t (*phase)(const uint8_t *);
@@ -80,6 +87,7 @@ struct end {
     int32_t complete;
     bool (*is_result)(int32_t result);                             /* of a message, on any bytes */
     bool (*hands_master)(int32_t result);                          /* of a message that was accepted */
+    uint64_t (*blocks)(const uint8_t *connection, const struct coming *m); /* of the master secret that is handed over then */
     void (*expect_over)(const uint8_t *connection, int32_t phase); /* closed or complete by a call, it has no trace of its peer */
 };
 
@@ -89,13 +97,6 @@ extern const struct end server_end, client_end;
 struct signal {
     bool change;
     uint8_t level, description;
-};
-
-/* A message, and what is lent with it; a client takes no keys. */
-struct coming {
-    const struct keys *keys;
-    struct bytes message;
-    size_t room;
 };
 
 int32_t told(const char *name, int32_t (*call)(const uint8_t *), struct bytes connection); /* by a call that only reads a connection of any kind */
@@ -179,16 +180,20 @@ void records_round(void);
 /* ---- sweeps, the same in every run */
 
 void every_suite(void);
+void every_premaster(void);
+void every_long_message(void);
 void every_character(void);
 void every_odd_table(void);
 void every_edit(void);
 void every_list(void);
 void every_alert(void);
 void every_bit(void);
+void every_key(void);
 void every_content(void);
 void every_cut(void);
 void every_record_bit(void);
 void every_record_room(void);
+void every_record_key(void);
 void every_number(void);
 void every_server_hello(void);
 void every_client_message(void);

@@ -74,6 +74,7 @@ bool drawn_signal(size_t wildness, bool change_awaited, struct signal *s)
 struct outcome {
     int32_t result;
     uint8_t connection[CONNECTION_MOST], out[ANSWER_MOST], master[TN_MASTER_SIZE];
+    uint64_t blocks;
 };
 
 static void expect_result_of_message(const struct end *e, int32_t result, size_t room)
@@ -89,16 +90,19 @@ static void probe_message(const struct end *e, const uint8_t *connection, const 
 {
     int32_t phase = phase_of(e, connection);
     begin(e->message_name);
-    struct lent *c = lend((struct bytes){connection, e->size}), *message = lend(m->message), *out = lend_room(m->room), *master = lend_room(TN_MASTER_SIZE);
-    int32_t result = e->message(c, m->keys, message, out, master);
+    struct lent *c = lend((struct bytes){connection, e->size}), *message = lend(m->message), *out = lend_room(m->room);
+    struct lent *master = lend_room(TN_MASTER_SIZE), *blocks = lend_number();
+    int32_t result = e->message(c, m->keys, message, out, master, blocks);
     expect_result_of_message(e, result, m->room);
     size_t written = result > 0 ? (size_t)result : 0, handed = result >= 0 && e->hands_master(result) ? TN_MASTER_SIZE : 0;
+    memset(o, 0, sizeof *o);
+    o->result = result;
+    o->blocks = handed ? e->blocks(connection, m) : 0;
     settle_connection(c, result, false);
     becomes(out, out->bytes, written);
     becomes(master, master->bytes, handed);
+    becomes(blocks, (const uint8_t *)&o->blocks, handed ? sizeof o->blocks : 0);
     finish();
-    memset(o, 0, sizeof *o);
-    o->result = result;
     memcpy(o->connection, c->bytes, e->size);
     memcpy(o->out, out->bytes, written);
     memcpy(o->master, master->bytes, handed);

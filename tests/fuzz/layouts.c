@@ -235,3 +235,47 @@ void layouts_round(void)
     compare_write_tickets();
     compare_records();
 }
+
+/* ---- a sweep */
+
+/* A message of n bytes that ends with a field of drawn bytes, whose 2 bytes of length stand at a place. */
+static struct bytes long_message(uint8_t type, size_t place, size_t n)
+{
+    size_t field = n - place - 2;
+    compose_message(type, drawn(0, n - 4), &wanted);
+    wanted.bytes[place] = (uint8_t)(field >> 8);
+    wanted.bytes[place + 1] = (uint8_t)field;
+    return copied(MESSAGE, (struct bytes){wanted.bytes, n});
+}
+
+/* A hello of n bytes, with one extension of as many as that takes: read, and written. */
+static void compare_long_hello(bool of_client, size_t n)
+{
+    static uint8_t block[TN_MESSAGE_LIMIT];
+    static const uint8_t suites[] = {0x00, 0xAE}, null = 0;
+    struct hello h = {.version = 0x0303, .random = drawn(0, 32), .session_id = {&null, 0}, .suites = {suites, 2}, .methods = {&null, 1}, .suite = 0x00AE};
+    h.present = true;
+    h.block = (struct bytes){block, n - (of_client ? 47 : 44)};
+    block[2] = (uint8_t)((h.block.n - 4) >> 8);
+    block[3] = (uint8_t)(h.block.n - 4);
+    bool composed = of_client ? compose_client_hello(&h, &wanted) : compose_server_hello(&h, &wanted);
+    if (!composed || wanted.said != (int32_t)n)
+        fail("a hello of %d bytes, which was to have %zu", (int)wanted.said, n);
+    compare_readers(copied(MESSAGE, (struct bytes){wanted.bytes, n}));
+    if (of_client)
+        compare_write_client_hello(&h);
+    else
+        compare_write_server_hello(&h);
+}
+
+/* Messages just below the limit, at it and above it, of each layout that can have so many bytes. */
+void every_long_message(void)
+{
+    for (size_t n = TN_MESSAGE_LIMIT - 1; n <= TN_MESSAGE_LIMIT + 2; n++) {
+        compare_readers(long_message(4, 8, n));
+        compare_readers(long_message(12, 4, n));
+        compare_readers(long_message(16, 4, n));
+        compare_long_hello(true, n);
+        compare_long_hello(false, n);
+    }
+}

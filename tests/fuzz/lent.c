@@ -13,7 +13,7 @@
 #define PAGE 4096u
 #define ROOM (32 * PAGE) /* the longest that is lent has 70,000 bytes */
 #define AROUND 64u       /* known bytes beside a piece */
-#define PIECES 8u
+#define PIECES 9u
 
 const char *run_again = "";
 uint64_t run_seed;
@@ -204,6 +204,16 @@ struct lent *lend_room(size_t n)
     draw_bytes(l->bytes, n);
     memcpy(l->before, l->bytes, n);
     return l;
+}
+
+struct lent *lend_number(void)
+{
+    return lend_room(sizeof(uint64_t));
+}
+
+uint64_t *number_of(const struct lent *l)
+{
+    return (uint64_t *)(void *)l->bytes; /* at a page's edge, as `numbers_of` */
 }
 
 void becomes(struct lent *l, const uint8_t *now, size_t n)

@@ -51,6 +51,8 @@ struct lent *lend(struct bytes contents);
 struct lent *lend_numbers(const uint32_t *numbers, size_t n); /* of numbers, for `numbers_of` */
 uint32_t *numbers_of(const struct lent *l);
 struct lent *lend_room(size_t n);                             /* of drawn bytes, for an answer */
+struct lent *lend_number(void);                               /* of a drawn number of 64 bits, for `number_of` */
+uint64_t *number_of(const struct lent *l);
 void becomes(struct lent *l, const uint8_t *now, size_t n);   /* the call is to leave these at the front */
 void finish(void);                                            /* all that was lent is as it was, or what it was to become */
 void settle(int32_t result, struct lent *out, const struct answer *wanted); /* R1 where the room is short, else the answer; then `finish` */

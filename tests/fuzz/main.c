@@ -101,16 +101,20 @@ void __ubsan_on_report(void)
 static void sweep(void)
 {
     every_suite();
+    every_premaster();
+    every_long_message();
     every_character();
     every_odd_table();
     every_edit();
     every_list();
     every_alert();
     every_bit();
+    every_key();
     every_content();
     every_cut();
     every_record_bit();
     every_record_room();
+    every_record_key();
     every_number();
     every_server_hello();
     every_client_message();

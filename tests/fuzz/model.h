@@ -13,9 +13,10 @@
 
 void model_sha256(struct bytes message, struct answer *a);
 void model_hmac(struct bytes key, struct bytes message, struct answer *a);
-void model_prf(struct bytes secret, uint8_t label, struct bytes seed, size_t n, struct answer *a);
+uint64_t model_prf(struct bytes secret, uint8_t label, struct bytes seed, size_t n, struct answer *a); /* the blocks of its digests, 0 where refused */
 void model_premaster(struct bytes psk, struct answer *a);
-void model_master(struct bytes premaster, struct bytes client, struct bytes server, struct answer *a);
+uint64_t model_master(struct bytes premaster, struct bytes client, struct bytes server, struct answer *a); /* and here */
+uint64_t model_blocks(struct bytes psk); /* of a master secret from this key and any randoms, 0 where there is none */
 void model_key_block(struct bytes master, struct bytes server, struct bytes client, uint16_t suite, struct answer *a);
 void model_finished(uint8_t side, struct bytes master, struct bytes hash, struct answer *a);
 int32_t model_key_block_length(uint16_t suite);
@@ -113,6 +114,7 @@ struct server {
     bool hides;
     bool null_only; /* of our suites 0x00B0 alone is offered */
     uint8_t client[32], master[48];
+    uint64_t blocks; /* of the master secret */
     uint32_t suite;
     bool listed;
     struct messages messages;
@@ -125,6 +127,9 @@ int32_t model_alert(struct server *s, uint8_t level, uint8_t description);
 int32_t model_suite(const struct server *s);
 int model_awaited(const struct server *s); /* the type of the message that is awaited, none where a change of cipher is */
 
+/* The blocks of the master secret that a ClientKeyExchange hands over, whatever the connection is; 0 where it hands over none. */
+uint64_t model_exchange_blocks(const struct keys *keys, struct bytes message);
+
 /* ---- the client (model_client.c) */
 
 enum { CLIENT_SUITE = 3, CLIENT_FIELDS = 309 }; /* in a client's connection: where the suite stands, and how many bytes are in front of the transcript */
@@ -134,6 +139,7 @@ struct client {
     uint8_t random[32], identity[128], key[64];
     size_t identity_n, key_n;
     uint8_t server[32], master[48];
+    uint64_t blocks; /* of the master secret */
     uint32_t suite;
     struct messages messages;
 };

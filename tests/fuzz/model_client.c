@@ -111,7 +111,7 @@ static void done_step(struct client *c, struct bytes m, size_t room, struct answ
     else if (room < 22 + c->identity_n)
         a->said = TN_R1;
     else {
-        model_master((struct bytes){premaster.bytes, (size_t)premaster.said}, (struct bytes){c->random, 32}, (struct bytes){c->server, 32}, a);
+        c->blocks = model_master((struct bytes){premaster.bytes, (size_t)premaster.said}, (struct bytes){c->random, 32}, (struct bytes){c->server, 32}, a);
         memcpy(c->master, a->bytes, 48);
         model_add(&c->messages, m);
         flight(c, a);

@@ -107,11 +107,22 @@ static void key_exchange_step(struct server *s, const struct keys *keys, struct 
         return;
     }
     model_premaster(s->listed ? (struct bytes){key.bytes, (size_t)key.said} : (struct bytes){s->stand_in, 32}, &premaster);
-    model_master((struct bytes){premaster.bytes, (size_t)premaster.said}, (struct bytes){s->client, 32}, (struct bytes){s->random, 32}, a);
+    s->blocks = model_master((struct bytes){premaster.bytes, (size_t)premaster.said}, (struct bytes){s->client, 32}, (struct bytes){s->random, 32}, a);
     memcpy(s->master, a->bytes, 48);
     model_add(&s->messages, m);
     s->phase = TN_PHASE_CHANGE_OF_CIPHER;
     a->said = 0;
+}
+
+uint64_t model_exchange_blocks(const struct keys *keys, struct bytes m)
+{
+    static struct answer key;
+    static const uint8_t stand_in[32];
+    uint32_t f[2];
+    if (!model_read_key_exchange(16, m, f))
+        return 0;
+    model_lookup(keys, (struct bytes){m.at + f[0], f[1]}, &key);
+    return model_blocks(key.said > 0 ? (struct bytes){key.bytes, (size_t)key.said} : (struct bytes){stand_in, 32});
 }
 
 static void finished_step(struct server *s, struct bytes m, size_t room, struct answer *a)

@@ -19,8 +19,8 @@ INCLUDES = [f"-I{HERE}", f"-I{HERE.parent.parent / 'include'}"]
 
 # the places where a message has just been handed over: of either end on damaged bytes, to a server, to a client
 PROBE_MADE = "    expect_result_of_message(e, result, m->room);\n    size_t written"
-MESSAGE_MADE = "message_lent(c, keys, m, out, master);\n    settle_connection(c, result, false);\n"
-CLIENT_MADE = "message_lent(c, NULL, m, out, master);\n    settle_connection(c, result, false);\n"
+MESSAGE_MADE = "message_lent(c, keys, m, out, master, blocks);\n    settle_connection(c, result, false);\n"
+CLIENT_MADE = "message_lent(c, NULL, m, out, master, blocks);\n    settle_connection(c, result, false);\n"
 
 # the places where a client has just been started, in client.c, and where its model begins with a message
 CLIENT_STARTED = "k->bytes, k->n, out->bytes, out->n);\n"
@@ -35,8 +35,43 @@ EDIT_BEGUN = "    if (*said != 0)\n        return;\n"
 PUT_TOGETHER = "        put_together(&list, e);\n"
 
 # the places in records.c where tn_take_record has just been called, on a connection and on bytes that no call has written
-RECORD_MADE = "out, master, numbers);\n    settle_connection(c, result, false);\n    if (taken"
+RECORD_MADE = "out, master, numbers, blocks);\n    settle_connection(c, result, false);\n"
 RECORD_PROBED = "    expect_result_of_record(result, room);\n    memset"
+
+# the place in secrets.c where tn_master has just been called
+MASTER_MADE = "out->bytes, out->n, number_of(blocks));\n"
+
+# the calls that give a number of blocks: where each has just been made, and when it has handed over a master secret, accepted a hello and a Finished
+COUNTING = {
+    "tn_message": ("server.c", MESSAGE_MADE, "result == 0", "result >= 46", "result == 16"),
+    "tn_client_message": ("client.c", CLIENT_MADE, "result > 0", "result == 0 && m->bytes[0] == 2", "result == 0 && m->bytes[0] == 20"),
+    "tn_take_record": ("records.c", RECORD_MADE, "result >= 0 && taken.told[0]", "result >= 56 && result != 59 && !taken.told[0]", "result == 59"),
+    "tn_master": ("secrets.c", MASTER_MADE, "result > 0", "false", "false"),
+}
+
+# where the models have just counted: whether it is for that call, the number, and how many bytes the premaster secret has
+SERVER_COUNTED, CLIENT_COUNTED = "    memcpy(s->master, a->bytes, 48);\n", "        memcpy(c->master, a->bytes, 48);\n"
+MASTER_COUNTED = "    uint64_t counted = model_master(premaster, client, server, &wanted);\n"
+COUNTED = {
+    "tn_message": ("model_server.c", SERVER_COUNTED, "!s->null_only", "s->blocks", "(uint64_t)premaster.said"),
+    "tn_client_message": ("model_client.c", CLIENT_COUNTED, "true", "c->blocks", "(uint64_t)premaster.said"),
+    "tn_take_record": ("model_server.c", SERVER_COUNTED, "s->null_only", "s->blocks", "(uint64_t)premaster.said"),
+    "tn_master": ("secrets.c", MASTER_COUNTED, "counted > 0", "counted", "premaster.n"),
+}
+
+# the number of the key in a table's first line
+FIRST_KEY = """= ({
+            const uint8_t *end = memchr(keys->text.at, ':', keys->text.n);
+            model_lookup(keys, (struct bytes){keys->text.at, (size_t)(end - keys->text.at)}, &key);
+            model_blocks((struct bytes){key.bytes, (size_t)key.said});
+        })"""
+
+# the connections that are damaged, where a call on one has just been made: in which it has handed over a master secret
+DAMAGED = {
+    "a server": ("ends.c", PROBE_MADE, "e == &server_end", "result == 0"),
+    "a client": ("ends.c", PROBE_MADE, "e == &client_end", "result > 0"),
+    "a record connection": ("records.c", RECORD_PROBED, "true", "result >= 0 && numbers_of(numbers)[0]"),
+}
 
 # how the readers of the two hellos end, and where the block's place stands among the fields
 CLIENT_HELLO, SERVER_HELLO = ("eat_extensions(&e, fields + 6)", 7), ("!e.bad && session_id.n <= 32 && eat_extensions(&e, fields + 4)", 5)
@@ -73,7 +108,7 @@ def list_kept(name, lines):
 
 def record_made(name, line):
     """A fault of what the library might do with memory that is lent to tn_take_record."""
-    return name, "records.c", RECORD_MADE, RECORD_MADE.replace("    if (taken", f"    {line}\n    if (taken")
+    return name, "records.c", RECORD_MADE, f"{RECORD_MADE}    {line}\n"
 
 
 def client_made(name, line):
@@ -92,6 +127,34 @@ def client_ignores(name, kind, phase):
     return name, "model_client.c", CLIENT_BEGUN, f"    a->said = 0;\n    if ({tested})\n        return;\n{CLIENT_BEGUN}"
 
 
+def counts(name, when, what, *calls):
+    """A fault of what the library might do with the number of blocks, of each of these calls or of all four; `*number` is what was lent for it."""
+    faults = []
+    for call in calls or COUNTING:
+        file, place, handed, hello, finished = COUNTING[call]
+        line = f"    if ({when})\n        {what};\n".format(handed=handed, hello=hello, finished=finished)
+        faults.append((f"{name}: {call}", file, place, f"{place}    uint64_t *number = number_of(blocks);\n{line}"))
+    return faults
+
+
+def counts_wrong(name, when, what, *calls):
+    """A fault in how the blocks are counted, of each of these calls or of all four: what becomes of the number where a premaster secret has such `n` bytes."""
+    faults = []
+    for call in calls or COUNTED:
+        file, place, of_call, number, n = COUNTED[call]
+        faults.append((f"{name}: {call}", file, place, f"{place}    const uint64_t n = {n};\n    if ({of_call} && ({when}))\n        {number} {what};\n"))
+    return faults
+
+
+def counts_on_damaged(name, when, what):
+    """A fault of what the library might do with the number of blocks on bytes that no call has written, of each kind of connection."""
+    faults = []
+    for kind, (file, place, of_kind, handed) in DAMAGED.items():
+        line = f"    if ({of_kind} && ({when.format(handed=handed)}))\n        {what};\n"
+        faults.append((f"{name}: {kind} that is damaged", file, place, line + place))
+    return faults
+
+
 PLANTED = [
     # secrets
     ("randoms swapped in the master secret", "model_secrets.c", "LABEL_MASTER_SECRET, client, server", "LABEL_MASTER_SECRET, server, client"),
@@ -105,6 +168,24 @@ PLANTED = [
      "side <= 1 ? TN_LABEL_CLIENT_FINISHED : TN_LABEL_SERVER"),
     ("labels exchanged", "model_secrets.c", '{"master secret", "key expansion",', '{"key expansion", "master secret",'),
     ("sides exchanged", "model_secrets.c", "side == 0 ? TN_LABEL_CLIENT", "side == 1 ? TN_LABEL_CLIENT"),
+    # how many blocks they take
+    ("a padding without the message's length", "model_secrets.c", "message.n + 1 + 8;", "message.n + 1;"),
+    ("a block more behind a padding that fills one", "model_secrets.c", "(padded % 64 > 0);", "1;"),
+    ("the blocks of a key's digest left out", "model_secrets.c", "blocks += digest(key, filled);", "digest(key, filled);"),
+    ("the blocks of an inner digest left out", "model_secrets.c", "    blocks += digest((struct bytes){inner,", "    digest((struct bytes){inner,"),
+    ("the blocks of an outer digest left out", "model_secrets.c", "    blocks += digest((struct bytes){outer,", "    digest((struct bytes){outer,"),
+    ("the blocks of A(2) left out", "model_secrets.c", "blocks += mac(secret, before, part);", "blocks += mac(secret, before, part) * (done == 0);"),
+    ("the blocks of the second part left out", "model_secrets.c", "blocks += mac(secret, (struct bytes){joined, 32 + seed.n}, part);",
+     "blocks += mac(secret, (struct bytes){joined, 32 + seed.n}, part) * (done == 0);"),
+    *counts_wrong("a long premaster secret's own digest not counted", "n > 64", "-= 4 * ((n + 72) / 64)"),
+    *counts_wrong("it is counted once and not at each HMAC", "n > 64", "-= 3 * ((n + 72) / 64)"),
+    *counts_wrong("it is counted without its padding's second block", "n > 64 && n % 64 > 55", "-= 4"),
+    *counts_wrong("it is counted with a second block that its padding has not", "n > 64 && (n % 64 == 54 || n % 64 == 55)", "+= 4"),
+    *counts_wrong("64 bytes of premaster secret counted as a longer one", "n == 64", "+= 8"),
+    *counts_wrong("66 bytes of premaster secret counted as a shorter one", "n == 66", "-= 8"),
+    *counts_wrong("the stand-in key's number for each identity where hide applies", "s->hides", "= 27", "tn_message", "tn_take_record"),
+    *counts_wrong("no blocks for an identity that is not listed", "!s->listed", "= 0", "tn_message", "tn_take_record"),
+    *counts_wrong("the first key's number for an identity that is not listed", "!s->listed && keys->text.n > 0", FIRST_KEY, "tn_message", "tn_take_record"),
     # layouts
     ("version and suite of a ServerHello exchanged", "model_layouts.c",
      "fields[2] = eat_number(&e, 2);",
@@ -269,9 +350,9 @@ PLANTED = [
      "over(s) ? TN_R4 : model_header(",
      "over(s) ? TN_R4 : model_keys(keys) == TN_R10 ? TN_R10 : model_header("),
     ("another identity's key by a list with two starts exchanged", "model_server.c",
-     "    model_lookup(keys, (struct bytes){m.at + f[0], f[1]}, &key);\n",
+     "    model_lookup(keys, (struct bytes){m.at + f[0], f[1]}, &key);\n    s->listed",
      "    struct keys other = *keys;\n    if (other.list.count > 1)\n        other.list.at[0] = other.list.at[1];\n"
-     "    model_lookup(&other, (struct bytes){m.at + f[0], f[1]}, &key);\n"),
+     "    model_lookup(&other, (struct bytes){m.at + f[0], f[1]}, &key);\n    s->listed"),
     ("50 before 10", "model_ends.c", "if (m.at[0] != awaited &&", "if (m.n >= 6 && m.at[0] != awaited &&"),
     ("rules exchanged", "model_server.c", "rule != TN_RULE_TELL", "rule != TN_RULE_HIDE"),
     ("no rule tells", "model_server.c", "rule != TN_RULE_TELL", "rule == TN_RULE_HIDE"),
@@ -543,6 +624,26 @@ PLANTED = [
     record_made("a record connection changed by R9", "if (result == TN_R9)\n        c->bytes[396] ^= 1;"),
     record_made("a key in a closed record connection", "if (tn_is_alert(result))\n        c->bytes[400] = 7;"),
     record_made("a byte of the record", "if (result == 59)\n        r->bytes[0] ^= 1;"),
+    *counts("a block less", "{handed}", "--*number"),
+    *counts("no number written", "{handed}", "*number = *(uint64_t *)(void *)blocks->before"),
+    *counts("a number of 32 bits written", "{handed}", "__builtin_memcpy(blocks->bytes + 4, blocks->before + 4, 4)"),
+    *counts("a number added to what was there", "{handed}", "*number += *(uint64_t *)(void *)blocks->before"),
+    *counts("a second number written", "{handed}", "number[1] = 0"),
+    *counts("a number written at R1", "result == TN_R1", "*number = 27"),
+    *counts("a number written at R2", "result == TN_R2", "*number = 27", "tn_message", "tn_take_record"),
+    *counts("a number written at R4", "result == TN_R4", "*number = 27", "tn_message", "tn_client_message", "tn_take_record"),
+    *counts("a number written at R5", "result == TN_R5", "*number = 27", "tn_master"),
+    *counts("a number written at R9", "result == TN_R9", "*number = 27", "tn_take_record"),
+    *counts("a number written at R10", "result == TN_R10", "*number = 27", "tn_message", "tn_take_record"),
+    *counts("a number written at an alert", "tn_is_alert(result)", "*number = 27", "tn_message", "tn_client_message", "tn_take_record"),
+    *counts("a number written at alert 115", "result == TN_ALERT_RESULT(115)", "*number = 27", "tn_message", "tn_take_record"),
+    *counts("a number written at the hello instead", "({handed}) || ({hello})", "*number = ({hello}) ? 27 : *(uint64_t *)(void *)blocks->before",
+            "tn_message", "tn_client_message", "tn_take_record"),
+    *counts("a number written at the hello too", "{hello}", "*number = 27", "tn_message", "tn_client_message", "tn_take_record"),
+    *counts("a number written at the Finished too", "{finished}", "*number = 27", "tn_message", "tn_client_message", "tn_take_record"),
+    *counts_on_damaged("a block less", "{handed}", "--*number_of(blocks)"),
+    *counts_on_damaged("a number written at R4", "result == TN_R4", "*number_of(blocks) = 27"),
+    *counts_on_damaged("a number written at an alert", "tn_is_alert(result)", "*number_of(blocks) = 27"),
     ("memory written by R4 of bytes that no call has written", "records.c",
      RECORD_PROBED,
      "    if (result == TN_R4 && m->n > 0)\n        m->bytes[0] ^= 1;\n" + RECORD_PROBED),

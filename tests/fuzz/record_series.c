@@ -217,10 +217,15 @@ static const uint8_t gate[] = "gate7:abcd\n";
 static const struct keys gates = {{gate, sizeof gate - 1}, {.n = 1, .count = 1}};
 static const struct bytes gate7 = {gate, 5};
 
-static void take(struct record_pair *p, uint8_t type, struct bytes content)
+static void take_with(struct record_pair *p, const struct keys *keys, uint8_t type, struct bytes content, size_t room)
 {
     compose_record(&p->model.reading, type, 0x0303, content, &made);
-    record_take(p, &gates, copied(RECORD, made_bytes()), TN_RECORD_MEMORY, TN_RECORD_ANSWER);
+    record_take(p, keys, copied(RECORD, made_bytes()), TN_RECORD_MEMORY, room);
+}
+
+static void take(struct record_pair *p, uint8_t type, struct bytes content)
+{
+    take_with(p, &gates, type, content, TN_RECORD_ANSWER);
 }
 
 static void start_plain(struct record_pair *p)
@@ -280,20 +285,28 @@ static void take_cut(struct record_pair *p, struct bytes bytes, size_t cut)
         take(p, HANDSHAKE, (struct bytes){bytes.at + cut, bytes.n - cut});
 }
 
-/* Hello and key exchange together, and the Finished, each cut at every place; then the longest message, and headers of one that would be longer. */
+/* Hello and key exchange together. */
+static struct bytes hello_and_exchange(struct bytes identity)
+{
+    static uint8_t both[200];
+    struct bytes m = plain_hello();
+    size_t n = m.n;
+    memcpy(both, m.at, n);
+    m = key_exchange(identity);
+    memcpy(both + n, m.at, m.n);
+    return (struct bytes){both, n + m.n};
+}
+
+/* These two, and the Finished, each cut at every place; then the longest message, and headers of one that would be longer. */
 void every_cut(void)
 {
     static struct record_pair p;
-    static uint8_t both[CONTENT_LIMIT];
     static const uint8_t one = 1, longer[] = {16, 0, 0x3f, 0xfd}, other[] = {20, 0, 0x3f, 0xfd};
     for (size_t cut = 0, n = 1; cut <= n; cut++) {
         start_plain(&p);
-        struct bytes m = plain_hello();
-        memcpy(both, m.at, n = m.n);
-        m = key_exchange(gate7);
-        memcpy(both + n, m.at, m.n);
-        n += m.n;
-        take_cut(&p, (struct bytes){both, n}, cut);
+        struct bytes m = hello_and_exchange(gate7);
+        n = m.n;
+        take_cut(&p, m, cut);
         take(&p, CHANGE, (struct bytes){&one, 1});
         m = next_message(&p);
         take_cut(&p, m, cut < m.n ? cut : m.n);
@@ -314,12 +327,14 @@ void every_cut(void)
     }
 }
 
-/* Each bit of a protected record changed, of the first one and of a later one; and of the connection before it. */
+/* Each bit of a record changed: of the key exchange, of the first protected record and of a later one; and of the connection before it. */
 void every_record_bit(void)
 {
     static struct record_pair p, there;
     uint8_t c[TN_RECORD_CONNECTION_SIZE], bytes[100];
-    for (int32_t phase = TN_PHASE_FINISHED; phase <= TN_PHASE_COMPLETE; phase++) {
+    for (int32_t phase = TN_PHASE_CLIENT_KEY_EXCHANGE; phase <= TN_PHASE_COMPLETE; phase++) {
+        if (phase == TN_PHASE_CHANGE_OF_CIPHER)
+            continue;
         go_to(&there, phase);
         struct bytes content = phase == TN_PHASE_COMPLETE ? drawn(CONTENT, 9) : next_message(&there);
         compose_record(&there.model.reading, phase == TN_PHASE_COMPLETE ? DATA : HANDSHAKE, 0x0303, content, &made);
@@ -335,6 +350,23 @@ void every_record_bit(void)
             c[bit / 8] ^= (uint8_t)(1u << bit % 8);
             record_probe(c, &gates, record, drawn(0, 20), TN_RECORD_ANSWER);
         }
+    }
+}
+
+/* Keys of each length, of the identity that has one and of one that is not listed: the key exchange with the hello, for whose answer there is room the second
+ * time, and in two records. */
+void every_record_key(void)
+{
+    static struct record_pair p;
+    for (size_t i = 0; i < 2 * TN_PSK_LIMIT; i++) {
+        struct keys keys = keys_of(full_table(6, 1, 0, 0, 1 + i / 2));
+        struct bytes both = hello_and_exchange((struct bytes){(const uint8_t *)ODD, i % 2 ? 3 : 2});
+        start_plain(&p);
+        take_with(&p, &keys, HANDSHAKE, both, 86);
+        take_with(&p, &keys, HANDSHAKE, both, 87);
+        start_plain(&p);
+        take_with(&p, &keys, HANDSHAKE, (struct bytes){both.at, both.n - 3}, 87);
+        take_with(&p, &keys, HANDSHAKE, (struct bytes){both.at + both.n - 3, 3}, 0);
     }
 }
 

@@ -73,11 +73,11 @@ void record_start(struct record_pair *p, struct settings s)
 
 /* The one call that takes a record, of lent pieces in its order and of a table and its list that it lends. */
 static int32_t take_lent(const struct lent *c, const struct keys *keys, const struct lent *r, const struct lent *m, const struct lent *out,
-                         const struct lent *master, const struct lent *numbers)
+                         const struct lent *master, const struct lent *numbers, const struct lent *blocks)
 {
     const struct lent *t = lend(keys->text), *s = lend_numbers(keys->list.at, keys->list.n);
     return tn_take_record(c->bytes, t->bytes, t->n, numbers_of(s), keys->list.n, keys->list.count, r->bytes, r->n, m->bytes, m->n, out->bytes, out->n,
-                          master->bytes, numbers_of(numbers));
+                          master->bytes, numbers_of(numbers), number_of(blocks));
 }
 
 /* Memory with what is held at its front; behind that anything may stand. */
@@ -94,14 +94,15 @@ void record_take(struct record_pair *p, const struct keys *keys, struct bytes re
     static struct taken taken;
     begin("tn_take_record");
     struct lent *c = lend(connection_bytes(p->connection)), *r = lend(record), *m = lend_memory(&p->model, memory), *out = lend_room(room);
-    struct lent *master = lend_room(TN_MASTER_SIZE), *numbers = lend_room(sizeof taken.told);
+    struct lent *master = lend_room(TN_MASTER_SIZE), *numbers = lend_room(sizeof taken.told), *blocks = lend_number();
     model_take(&p->model, keys, record, m->n, room, &taken);
-    int32_t result = take_lent(c, keys, r, m, out, master, numbers);
+    int32_t result = take_lent(c, keys, r, m, out, master, numbers, blocks);
     settle_connection(c, result, false);
     if (taken.answer.said >= 0) {
         becomes(m, p->model.held, p->model.held_n);
         becomes(numbers, (const uint8_t *)taken.told, sizeof taken.told);
         becomes(master, p->model.server.master, taken.told[0] ? TN_MASTER_SIZE : 0);
+        becomes(blocks, (const uint8_t *)&p->model.server.blocks, taken.told[0] ? sizeof p->model.server.blocks : 0);
     }
     settle(result, out, &taken.answer);
     keep(p, c, result);
@@ -146,6 +147,7 @@ struct outcome {
     int32_t result;
     uint8_t connection[TN_RECORD_CONNECTION_SIZE], out[ANSWER_MOST], master[TN_MASTER_SIZE], memory[TN_RECORD_MEMORY];
     uint32_t told[4];
+    uint64_t blocks;
 };
 
 static bool is_alert_of_record(int32_t result)
@@ -185,12 +187,34 @@ static void expect_alert(const uint8_t connection[TN_RECORD_CONNECTION_SIZE], in
     expect_closed(connection, (struct bytes){alert, n});
 }
 
+/* The ClientKeyExchange that a record finished, in what was held and what came. None where memory is to hold what no call leaves there, a whole message or
+ * more: whether that counts is left open. */
+static struct bytes finished_exchange(const uint8_t connection[TN_RECORD_CONNECTION_SIZE], struct bytes record, struct bytes memory)
+{
+    static uint8_t joined[2 * TN_RECORD_LIMIT];
+    size_t held = (size_t)connection[HELD] << 8 | connection[HELD + 1], n = 0;
+    if (held > memory.n || (held >= 4 && (size_t)model_message_end(memory.at) <= held))
+        return (struct bytes){joined, 0};
+    if (record.n > TN_RECORD_LIMIT)
+        fail("a record of %zu bytes was accepted", record.n);
+    memcpy(joined, memory.at, held);
+    memcpy(joined + held, record.at + 5, record.n - 5);
+    for (struct bytes rest = {joined, held + record.n - 5}; rest.n >= 4; rest.at += n, rest.n -= n) {
+        n = (size_t)model_message_end(rest.at);
+        if (n > rest.n)
+            break;
+        if (rest.at[0] == 16)
+            return (struct bytes){rest.at, n};
+    }
+    fail("a master secret without a ClientKeyExchange");
+}
+
 static void probe_take(const uint8_t *connection, const struct keys *keys, struct bytes record, struct bytes memory, size_t room, struct outcome *o)
 {
     begin("tn_take_record");
     struct lent *c = lend(connection_bytes(connection)), *r = lend(record), *m = lend(memory), *out = lend_room(room);
-    struct lent *master = lend_room(TN_MASTER_SIZE), *numbers = lend_room(sizeof o->told);
-    int32_t result = take_lent(c, keys, r, m, out, master, numbers);
+    struct lent *master = lend_room(TN_MASTER_SIZE), *numbers = lend_room(sizeof o->told), *blocks = lend_number();
+    int32_t result = take_lent(c, keys, r, m, out, master, numbers, blocks);
     expect_result_of_record(result, room);
     memset(o, 0, sizeof *o);
     o->result = result;
@@ -202,6 +226,11 @@ static void probe_take(const uint8_t *connection, const struct keys *keys, struc
     becomes(m, m->bytes, result >= 0 ? m->n : 0);
     becomes(out, out->bytes, result > 0 ? (size_t)result : 0);
     becomes(master, master->bytes, o->told[0] ? TN_MASTER_SIZE : 0);
+    if (o->told[0]) {
+        struct bytes exchange = finished_exchange(connection, record, memory);
+        o->blocks = exchange.n > 0 ? model_exchange_blocks(keys, exchange) : *number_of(blocks);
+        becomes(blocks, (const uint8_t *)&o->blocks, sizeof o->blocks);
+    }
     finish();
     memcpy(o->connection, c->bytes, sizeof o->connection);
     memcpy(o->out, out->bytes, out->now_n);

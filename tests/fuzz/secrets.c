@@ -48,13 +48,22 @@ static struct bytes drawn_random(size_t slot)
     return drawn(slot, once_in(12) ? draw_length(32, 66000) : 32);
 }
 
-static void compare_master(void)
+static void compare_master(struct bytes premaster, struct bytes client, struct bytes server, size_t room)
 {
-    struct bytes premaster = drawn(0, once_in(30) ? draw_length(65536, 66000) : draw_length(132, 200)), client = drawn_random(1), server = drawn_random(2);
-    model_master(premaster, client, server, &wanted);
+    uint64_t counted = model_master(premaster, client, server, &wanted);
     begin("tn_master");
-    struct lent *p = lend(premaster), *c = lend(client), *s = lend(server), *out = lend_room(drawn_room(wanted.said));
-    settle(tn_master(p->bytes, p->n, c->bytes, c->n, s->bytes, s->n, out->bytes, out->n), out, &wanted);
+    struct lent *p = lend(premaster), *c = lend(client), *s = lend(server), *out = lend_room(room), *blocks = lend_number();
+    int32_t result = tn_master(p->bytes, p->n, c->bytes, c->n, s->bytes, s->n, out->bytes, out->n, number_of(blocks));
+    if (wanted.said >= 0 && (size_t)wanted.said <= room)
+        becomes(blocks, (const uint8_t *)&counted, sizeof counted);
+    settle(result, out, &wanted);
+}
+
+static void compare_drawn_master(void)
+{
+    struct bytes premaster = drawn(0, once_in(30) ? draw_length(65536, 66000) : draw_length(132, 200));
+    struct bytes client = drawn_random(1), server = drawn_random(2);
+    compare_master(premaster, client, server, drawn_room(TN_MASTER_SIZE));
 }
 
 static void compare_key_block(void)
@@ -86,13 +95,23 @@ void every_suite(void)
     }
 }
 
+/* Premaster secrets of each length up to that of five blocks, and around the limit; with room, without it, and with randoms of other lengths. */
+void every_premaster(void)
+{
+    for (size_t n = 0; n <= TN_PRF_INPUT_LIMIT + 3; n = n == 320 ? TN_PRF_INPUT_LIMIT - 12 : n + 1) {
+        compare_master(drawn(0, n), drawn(1, 32), drawn(2, 32), TN_MASTER_SIZE);
+        compare_master(drawn(0, n), drawn(1, 32), drawn(2, 32), TN_MASTER_SIZE - 1);
+        compare_master(drawn(0, n), drawn(1, 31 + n % 3), drawn(2, 32 + n % 2), TN_MASTER_SIZE);
+    }
+}
+
 void secrets_round(void)
 {
     compare_sha256();
     compare_hmac();
     compare_prf();
     compare_premaster();
-    compare_master();
+    compare_drawn_master();
     compare_key_block();
     compare_finished();
 }

@@ -3,7 +3,7 @@
 
 Whole handshakes for each suite, hint and rule, refusals of each kind, one message of each layout, key
 tables, their edits and lists, the sessions of record_sessions.py and others in records, the client's side
-of handshakes, alone and with the server, and the recorded messages of other programs.
+of handshakes, alone and with the server, keys of several lengths, and the recorded messages of other programs.
 """
 import pathlib
 import sys
@@ -185,10 +185,11 @@ def content(kind, bytes_, room=195, memory=255):
     return bytes([11, room, memory, kind]) + vector(2, bytes_)
 
 
-def record_login(end=b"", identity=b"gate7", rule=0, hint=b"barn"):
+def record_login(end=b"", identity=b"gate7", rule=0, hint=b"barn", text=TABLE):
     """A session whose records are sealed by the target, as far as the Finished."""
     m = hello(drawn("client"), (NULL,))
-    return (table() + b"\x09" + start(rule, hint)[1:] + content(HANDSHAKE, m) + content(HANDSHAKE, exchange(identity)) + content(CHANGE_OF_CIPHER, b"\1") + end)
+    return (table(text) + b"\x09" + start(rule, hint)[1:] + content(HANDSHAKE, m) + content(HANDSHAKE, exchange(identity)) + content(CHANGE_OF_CIPHER, b"\1")
+            + end)
 
 
 def records():
@@ -292,6 +293,16 @@ def both():
                        + CLIENT_CHANGE + next_to_client)
 
 
+def keys():
+    """Keys of the lengths around which a master secret takes more blocks, at each end and in records, and an identity beside them that is not listed."""
+    for n in (30, 31, 57, 58, 61, 62):
+        text = b"gate7:" + bytes(range(n)).hex().encode() + b"\n"
+        yield gate(key=bytes(range(n))) + STEPS[0] + tell(DONE, 26) + tell(DONE) + CLIENT_CHANGE + server_finished()
+        for identity in (b"gate7", b"nobody"):
+            yield table(text) + start(2) + send(HELLO) + send(exchange(identity)) + CHANGE + finished()
+            yield record_login(bytes([12, 195, 0, 0, 0]), identity, 2, text=text)
+
+
 def recorded():
     for file in sorted((TESTS / "recorded").glob("*.hex")):
         sent = [send(bytes.fromhex(line)) for line in file.read_text().split()]
@@ -301,6 +312,6 @@ def recorded():
 
 if __name__ == "__main__":
     directory = pathlib.Path(sys.argv[1])
-    for make in (logins, hellos, messages, tables, edits, lists, starts, longest, sessions, records, clients, server_hellos, gates, both, recorded):
+    for make in (logins, hellos, messages, tables, edits, lists, starts, longest, sessions, records, clients, server_hellos, gates, both, keys, recorded):
         for i, contents in enumerate(make()):
             (directory / f"{make.__name__}-{i:02}").write_bytes(contents)

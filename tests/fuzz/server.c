@@ -48,21 +48,24 @@ void pair_start(struct pair *p, struct bytes random, struct bytes hint, struct b
 }
 
 /* The one call that takes a message, of lent pieces and of a table and its list that it lends. */
-static int32_t message_lent(struct lent *c, const struct keys *keys, struct lent *m, struct lent *out, struct lent *master)
+static int32_t message_lent(struct lent *c, const struct keys *keys, struct lent *m, struct lent *out, struct lent *master, struct lent *blocks)
 {
     const struct lent *t = lend(keys->text), *s = lend_numbers(keys->list.at, keys->list.n);
-    return tn_message(c->bytes, t->bytes, t->n, numbers_of(s), keys->list.n, keys->list.count, m->bytes, m->n, out->bytes, out->n, master->bytes);
+    return tn_message(c->bytes, t->bytes, t->n, numbers_of(s), keys->list.n, keys->list.count, m->bytes, m->n, out->bytes, out->n, master->bytes,
+                      number_of(blocks));
 }
 
 struct bytes pair_message(struct pair *p, const struct keys *keys, struct bytes message, size_t room)
 {
     model_message(&p->model, keys, message, room, &wanted);
     begin("tn_message");
-    struct lent *c = lend_connection(p), *m = lend(message), *out = lend_room(room), *master = lend_room(TN_MASTER_SIZE);
-    int32_t result = message_lent(c, keys, m, out, master);
+    struct lent *c = lend_connection(p), *m = lend(message), *out = lend_room(room), *master = lend_room(TN_MASTER_SIZE), *blocks = lend_number();
+    int32_t result = message_lent(c, keys, m, out, master, blocks);
     settle_connection(c, result, false);
-    if (wanted.said == 0)
+    if (wanted.said == 0) {
         becomes(master, p->model.master, TN_MASTER_SIZE);
+        becomes(blocks, (const uint8_t *)&p->model.blocks, sizeof p->model.blocks);
+    }
     settle(result, out, &wanted);
     keep(p, c, result);
     return (struct bytes){wanted.bytes, wanted.said > 0 ? (size_t)wanted.said : 0};
@@ -93,6 +96,13 @@ static bool without_answer(int32_t result)
     return result == 0;
 }
 
+/* The randoms and the key's bytes do not matter, and a stand-in key has 32 bytes in any connection. */
+static uint64_t blocks_of_message(const uint8_t *connection, const struct coming *m)
+{
+    (void)connection;
+    return model_exchange_blocks(m->keys, m->message);
+}
+
 const struct end server_end = {
     .message_name = "tn_message",
     .change_name = "tn_change_of_cipher",
@@ -108,6 +118,7 @@ const struct end server_end = {
     .complete = TN_PHASE_COMPLETE,
     .is_result = is_result_of_message,
     .hands_master = without_answer,
+    .blocks = blocks_of_message,
     .expect_over = expect_over,
 };
 
@@ -192,6 +203,34 @@ void every_alert(void)
         if (p.model.phase != TN_PHASE_CLIENT_HELLO)
             pair_start(&p, drawn(0, 32), drawn(1, 0), drawn(2, 32), TN_RULE_NONE);
         pair_signal(&p, (struct signal){false, (uint8_t)(i >> 8), (uint8_t)i});
+    }
+}
+
+/* A connection that awaits a ClientKeyExchange. */
+static void go_to_exchange(struct pair *p, uint8_t rule)
+{
+    const struct keys none = keys_of(drawn(6, 0));
+    do {
+        pair_start(p, drawn(0, 32), clean_text(1, 20), drawn(2, 32), rule);
+        pair_message(p, &none, drawn_login(), TN_FLIGHT_SIZE);
+    } while (p->model.phase != TN_PHASE_CLIENT_KEY_EXCHANGE);
+}
+
+/* Keys of each length under each rule, of the identity that has one and of one that is not listed; also without a well-formed table, and without its list. */
+void every_key(void)
+{
+    static struct pair p, there;
+    for (size_t i = 0; i < 3 * TN_PSK_LIMIT; i++) {
+        go_to_exchange(&there, (uint8_t)(i % 3));
+        struct keys keys = keys_of(full_table(6, 1, 0, 0, 1 + i / 3)), cut = keys, uncounted = keys;
+        const struct keys *given[] = {&keys, &keys, &cut, &uncounted};
+        cut.text.n--;
+        uncounted.list.count = 0;
+        for (size_t k = 0; k < 4; k++) {
+            model_write_key_exchange(16, (struct bytes){(const uint8_t *)ODD, k == 0 ? 2 : 3}, &wanted);
+            p = there;
+            pair_message(&p, given[k], copied(MESSAGE, (struct bytes){wanted.bytes, (size_t)wanted.said}), 0);
+        }
     }
 }
 
