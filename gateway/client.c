@@ -35,14 +35,14 @@ static void tell(struct slot *s)
     const struct connection *c = &s->connection;
     if (!s->login_reported && c->login_outcome != OUTCOME_NONE) {
         s->login_reported = true;
-        report(s->address, c, c->login_outcome, (unsigned)options.failed_lines);
+        report(s->address, c, c->login_outcome, options.blocks, (unsigned)options.failed_lines);
         if (c->login_outcome == OUTCOME_COMPLETE)
             logged_in(s);
     }
     if (!s->later_reported && c->later_outcome != OUTCOME_NONE) {
         s->later_reported = true;
         if (c->later_outcome != OUTCOME_STOPPED)
-            report(s->address, c, c->later_outcome, (unsigned)options.failed_lines);
+            report(s->address, c, c->later_outcome, options.blocks, (unsigned)options.failed_lines);
     }
 }
 

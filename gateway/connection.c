@@ -182,7 +182,7 @@ static void hand_over(struct connection *c, const struct settings *settings)
 {
     uint8_t answer[TN_FLIGHT_SIZE], master[TN_MASTER_SIZE];
     int32_t result = tn_message(c->login, settings->table, settings->table_len, settings->starts, TN_TABLE_LINES, settings->lines, c->channel.message,
-                                c->channel.message_len, answer, sizeof answer, master);
+                                c->channel.message_len, answer, sizeof answer, master, &c->blocks);
     if (!tn_is_count(result))
         refuse_result(c, result);
     else if (!accepted(c, answer, (size_t)result, master))
@@ -360,7 +360,7 @@ static void proved_record_came(struct connection *c, const struct settings *sett
     c->channel.in_len = 0;
     overhear(c, settings, n);
     int32_t result = tn_take_record(c->login, settings->table, settings->table_len, settings->starts, TN_TABLE_LINES, settings->lines, c->channel.in, n,
-                                    c->memory, sizeof c->memory, out, room, master, told);
+                                    c->memory, sizeof c->memory, out, room, master, told, &c->blocks);
     OPENSSL_cleanse(master, sizeof master);
     if (tn_is_alert(result)) {
         (void)queued(c, tn_closing_alert(c->login, out, room));

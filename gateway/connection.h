@@ -44,8 +44,9 @@ struct connection {
     uint8_t identity[TN_IDENTITY_LIMIT];
     size_t identity_len; /* as the client named it; only so many bytes as fit are kept */
     bool identity_known;
-    bool judged;   /* a message came where a ClientKeyExchange was awaited: the table may have been looked at */
-    bool unlisted; /* under the rule hide, and the gateway's own finding: the table has no such gate */
+    uint64_t blocks; /* that SHA-256 compressed to derive the master secret; 0: it was not. For the log alone, since the key's length shows in it */
+    bool judged;     /* a message came where a ClientKeyExchange was awaited: the table may have been looked at */
+    bool unlisted;   /* under the rule hide, and the gateway's own finding: the table has no such gate */
 
     size_t lines_at, lines_end;   /* application data in the channel's `in` that is not yet answered */
     unsigned long messages;       /* that came whole */

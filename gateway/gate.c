@@ -4,6 +4,7 @@
  * login and the records.
  */
 #include <errno.h>
+#include <inttypes.h>
 #include <openssl/crypto.h>
 #include <poll.h>
 #include <signal.h>
@@ -239,9 +240,18 @@ static int failed(enum came how, enum goal goal, unsigned seconds)
     return say(TIME_OUT, "%s: %s: time-out after %u s", options.server, place, seconds);
 }
 
+/* What the login cost, where that was asked for; also where it failed after the master secret was derived. */
+static void tell_blocks(void)
+{
+    if (options.blocks && session.blocks > 0)
+        (void)say(DONE, "%s: login: %" PRIu64 " blocks", options.server, session.blocks);
+}
+
 static int wait_for(enum goal goal, unsigned seconds)
 {
     enum came how = await(goal, seconds);
+    if (goal == LOGIN)
+        tell_blocks();
     return how == REACHED ? DONE : failed(how, goal, seconds);
 }
 

@@ -26,6 +26,9 @@ static const char help[] =
     "  --connect-timeout SEC    for connecting (default 10)\n"
     "  --handshake-timeout SEC  for the whole login (default 10)\n"
     "  --answer-timeout SEC     for the answer to a line (default 10)\n"
+    "  --blocks                 a line on standard error says how many blocks of 64 bytes SHA-256\n"
+    "                           compressed to derive the master secret, for a battery budget; the\n"
+    "                           key's length shows in it\n"
     "  --version                its version\n"
     "  -h, --help               this text\n"
     "\n"
@@ -45,7 +48,7 @@ static const char help[] =
     "  10  a record of the gateway did not open: another key, or it was changed on the way\n"
     "  11  the gateway closed the connection too early\n";
 
-enum { KEYS = 1000, IDENTITY, CONNECT, HANDSHAKE, ANSWER };
+enum { KEYS = 1000, IDENTITY, CONNECT, HANDSHAKE, ANSWER, BLOCKS };
 
 static const struct option names[] = {
     {"keys", required_argument, NULL, KEYS},
@@ -53,6 +56,7 @@ static const struct option names[] = {
     {"connect-timeout", required_argument, NULL, CONNECT},
     {"handshake-timeout", required_argument, NULL, HANDSHAKE},
     {"answer-timeout", required_argument, NULL, ANSWER},
+    {"blocks", no_argument, NULL, BLOCKS},
     {"version", no_argument, NULL, ARGUMENT_VERSION},
     {"help", no_argument, NULL, ARGUMENT_HELP},
     {NULL, 0, NULL, 0},
@@ -65,6 +69,7 @@ static bool take(void *options, int which, const char *text)
     switch (which) {
     case KEYS: o->keys = text; return true;
     case IDENTITY: o->identity = text; return true;
+    case BLOCKS: o->blocks = true; return true;
     case CONNECT: return argument_seconds("connect-timeout", text, &o->connect_seconds);
     case HANDSHAKE: return argument_seconds("handshake-timeout", text, &o->handshake_seconds);
     case ANSWER: return argument_seconds("answer-timeout", text, &o->answer_seconds);

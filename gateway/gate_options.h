@@ -27,6 +27,7 @@ struct gate_options {
     const char *keys;     /* a file; "-": standard input */
     const char *identity; /* NULL: the file's only one */
     unsigned connect_seconds, handshake_seconds, answer_seconds;
+    bool blocks;  /* say how many the master secret took */
     char **lines; /* to be sent; none: those of standard input */
     int count;
 };

@@ -137,7 +137,7 @@ static bool accepted(struct session *s, const uint8_t *flight, size_t n, const u
 static void hand_over(struct session *s)
 {
     uint8_t flight[TN_CLIENT_FLIGHT_SIZE], master[TN_MASTER_SIZE];
-    int32_t result = tn_client_message(s->login, s->channel.message, s->channel.message_len, flight, sizeof flight, master);
+    int32_t result = tn_client_message(s->login, s->channel.message, s->channel.message_len, flight, sizeof flight, master, &s->blocks);
     if (!tn_is_count(result))
         refuse_result(s, result);
     else if (!accepted(s, flight, (size_t)result, master))

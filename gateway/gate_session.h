@@ -28,6 +28,7 @@ struct session {
     uint8_t client_random[TN_RANDOM_SIZE];
     uint8_t server_random[TN_RANDOM_SIZE];
     const struct suite *suite; /* NULL until the gateway has chosen */
+    uint64_t blocks;           /* that SHA-256 compressed to derive the master secret; 0: it was not */
     struct channel channel;
     bool complete; /* logged in */
     bool ended;    /* nothing more is read; what is in the channel's `out` is still to be sent */

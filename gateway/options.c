@@ -34,13 +34,16 @@ static const char help[] =
     "                           (default half the clients)\n"
     "  --per-gate N             connections of one gate, then its oldest goes (default 8)\n"
     "  --failed-lines N         lines a second on logins that failed; more are counted (default 20)\n"
+    "  --blocks                 a login's line says how many blocks of 64 bytes SHA-256 compressed to\n"
+    "                           derive the master secret, for a battery budget; the key's length shows\n"
+    "                           in it\n"
     "  --once N                 stop after N connections\n"
     "  --version                its version\n"
     "  -h, --help               this text\n"
     "\n"
     "SIGINT or SIGTERM stops it.\n";
 
-enum { ADDRESS = 1000, PORT, TABLE, HINT, RULE, RECORDS, HIDE_DELAY, ONCE, HANDSHAKE, IDLE, CLIENTS, PER_ADDRESS, PER_GATE, FAILED_LINES };
+enum { ADDRESS = 1000, PORT, TABLE, HINT, RULE, RECORDS, HIDE_DELAY, ONCE, HANDSHAKE, IDLE, CLIENTS, PER_ADDRESS, PER_GATE, FAILED_LINES, BLOCKS };
 
 static const struct option names[] = {
     {"address", required_argument, NULL, ADDRESS},
@@ -57,6 +60,7 @@ static const struct option names[] = {
     {"per-address", required_argument, NULL, PER_ADDRESS},
     {"per-gate", required_argument, NULL, PER_GATE},
     {"failed-lines", required_argument, NULL, FAILED_LINES},
+    {"blocks", no_argument, NULL, BLOCKS},
     {"version", no_argument, NULL, ARGUMENT_VERSION},
     {"help", no_argument, NULL, ARGUMENT_HELP},
     {NULL, 0, NULL, 0},
@@ -96,6 +100,7 @@ static bool take(void *options, int which, const char *text)
     case ADDRESS: o->address = text; return true;
     case TABLE: o->table = text; return true;
     case HINT: o->hint = text; return true;
+    case BLOCKS: o->blocks = true; return true;
     case PORT: return port(text, &o->port);
     case RULE: return rule(text, &o->rule);
     case RECORDS: return records(text, &o->proved_records);

@@ -22,6 +22,7 @@ struct options {
     unsigned long per_address;  /* unfinished handshakes of one address */
     unsigned long per_gate;     /* connections of one gate */
     unsigned long failed_lines; /* on logins that failed, in a second */
+    bool blocks;                /* a login's line says how many its master secret took */
 };
 
 /* Reads the command line. */

@@ -1,6 +1,7 @@
 /* The gateway's lines on connections: address, gate, suite, outcome. */
 #include "report.h"
 
+#include <inttypes.h>
 #include <stdarg.h>
 #include <stdio.h>
 
@@ -89,7 +90,7 @@ static bool hidden(const struct connection *c)
     return c->identity_known && c->unlisted;
 }
 
-static void add_outcome(struct line *line, const struct connection *c, enum outcome outcome)
+static void add_outcome(struct line *line, const struct connection *c, enum outcome outcome, bool blocks)
 {
     bool later = outcome != c->login_outcome;
     if (later)
@@ -106,6 +107,8 @@ static void add_outcome(struct line *line, const struct connection *c, enum outc
     case OUTCOME_RETIRED: add(line, later ? "retired by the new table" : "ended by the new table"); break;
     default: add(line, later ? "closed without close_notify" : "closed"); break;
     }
+    if (blocks && !later && c->blocks > 0)
+        add(line, ", %" PRIu64 " blocks", c->blocks);
     if (hidden(c))
         add(line, ", unknown gate");
 }
@@ -124,7 +127,7 @@ int64_t report_rest(bool at_once)
     return -1;
 }
 
-void report(const char *address, const struct connection *c, enum outcome outcome, unsigned most)
+void report(const char *address, const struct connection *c, enum outcome outcome, bool blocks, unsigned most)
 {
     struct line line = {.n = 0};
     report_rest(false);
@@ -133,6 +136,6 @@ void report(const char *address, const struct connection *c, enum outcome outcom
     add(&line, "%s gate ", address);
     add_identity(&line, c);
     add(&line, " suite %s: ", c->suite ? c->suite->name : "-");
-    add_outcome(&line, c, outcome);
+    add_outcome(&line, c, outcome, blocks);
     log_line("%s", line.text);
 }
