@@ -11,6 +11,7 @@
 
 #include "cases.h"
 #include "measure.h"
+#include "turretnail.h"
 #include "worker.h"
 
 struct action {
@@ -54,8 +55,19 @@ static void print_machine(void)
         fclose(f);
 }
 
+/* A linker compares names, not parameters: a library from before the count of blocks would be linked, and called with one argument too many. */
+static void test_library(void)
+{
+    static const uint8_t premaster[TN_PREMASTER_LIMIT], random[TN_RANDOM_SIZE];
+    uint8_t master[TN_MASTER_SIZE];
+    uint64_t blocks = 0;
+    int32_t n = tn_master(premaster, sizeof premaster, random, sizeof random, random, sizeof random, master, sizeof master, &blocks);
+    must(n == TN_MASTER_SIZE && blocks > 0, "the library is from before 0.3: its calls have other parameters than those of turretnail.h");
+}
+
 int main(int argc, char **argv)
 {
+    test_library();
     if (argc == 3 && strcmp(argv[1], WORKER) == 0) {
         run_named(tasks, TASKS, argv[2], "a worker has no such task");
         return 0;

@@ -16,11 +16,12 @@ static uint8_t with_hint[6 + TN_HINT_LIMIT]; /* a ServerKeyExchange */
 /* The client's */
 static const uint8_t client_random[TN_RANDOM_SIZE] = {3};
 static uint8_t client[TN_CLIENT_SIZE], out[TN_CLIENT_FLIGHT_SIZE], master[TN_MASTER_SIZE], keys[TN_KEY_BLOCK_LIMIT];
+static uint64_t blocks;                          /* of the master secret */
 static uint8_t awaiting[PHASES][TN_CLIENT_SIZE]; /* the connection in each phase */
 
 static int32_t hand_over(const uint8_t *message, size_t n)
 {
-    return tn_client_message(client, message, n, out, sizeof out, master);
+    return tn_client_message(client, message, n, out, sizeof out, master, &blocks);
 }
 
 /* ---- every call */
@@ -109,7 +110,7 @@ double sample_ours_client(void *state)
     (void)state;
     double taken = login_sample(&login, &course, TN_SIDE_CLIENT);
     must(tn_client_phase(client) == TN_CLIENT_PHASE_COMPLETE && memcmp(master, login.master, sizeof master) == 0
-             && memcmp(keys, login.keys, sizeof keys) == 0,
+             && memcmp(keys, login.keys, sizeof keys) == 0 && blocks == login.blocks,
          "our client has other secrets than our server");
     return taken;
 }

@@ -48,7 +48,7 @@ static int32_t hand_over(struct login *l, const uint8_t *message, size_t n, uint
 {
     static const struct gates none = {.text = stand_in}; /* for a hello, which needs no table */
     const struct gates *g = l->gates != NULL ? l->gates : &none;
-    return tn_message(l->connection, g->text, g->size, g->starts, TN_TABLE_LINES, g->count, message, n, out, TN_FLIGHT_SIZE, l->master);
+    return tn_message(l->connection, g->text, g->size, g->starts, TN_TABLE_LINES, g->count, message, n, out, TN_FLIGHT_SIZE, l->master, &l->blocks);
 }
 
 int login_open(struct login *l, uint8_t rule)
@@ -87,29 +87,31 @@ static void finished_of(const struct login *l, uint8_t side, size_t messages, co
          "no Finished");
 }
 
-void login_master(const struct login *l, const uint8_t *key, size_t key_len, uint8_t master[TN_MASTER_SIZE])
+uint64_t login_master(const struct login *l, const uint8_t *key, size_t key_len, uint8_t master[TN_MASTER_SIZE])
 {
     uint8_t premaster[TN_PREMASTER_LIMIT];
+    uint64_t blocks = 0;
     int32_t n = tn_premaster(key, key_len, premaster, sizeof premaster);
     must(n > 0
-             && tn_master(premaster, (size_t)n, l->hello + TN_HELLO_RANDOM_AT, TN_RANDOM_SIZE, l->random, sizeof l->random, master, TN_MASTER_SIZE)
+             && tn_master(premaster, (size_t)n, l->hello + TN_HELLO_RANDOM_AT, TN_RANDOM_SIZE, l->random, sizeof l->random, master, TN_MASTER_SIZE, &blocks)
                     == TN_MASTER_SIZE,
          "no master secret");
+    return blocks;
 }
 
 void login_finish(struct login *l, const uint8_t *key, size_t key_len)
 {
     uint8_t master[TN_MASTER_SIZE];
-    login_master(l, key, key_len, master);
+    (void)login_master(l, key, key_len, master);
     finished_of(l, TN_SIDE_CLIENT, CLIENT, master, l->finished);
 }
 
 int login_agrees(const struct login *l, const uint8_t *key, size_t key_len)
 {
     uint8_t master[TN_MASTER_SIZE], answer[TN_FINISHED_SIZE];
-    login_master(l, key, key_len, master);
+    uint64_t blocks = login_master(l, key, key_len, master);
     finished_of(l, TN_SIDE_SERVER, MESSAGES, master, answer);
-    return memcmp(master, l->master, sizeof master) == 0 && memcmp(answer, l->answer, sizeof answer) == 0;
+    return memcmp(master, l->master, sizeof master) == 0 && memcmp(answer, l->answer, sizeof answer) == 0 && blocks == l->blocks;
 }
 
 /* Another random for each connection. */

@@ -28,6 +28,7 @@ struct login {
     uint8_t connection[TN_CONNECTION_SIZE]; /* the server's */
     uint8_t random[TN_RANDOM_SIZE];         /* the server's */
     uint8_t master[TN_MASTER_SIZE];         /* the server's */
+    uint64_t blocks;                        /* that the server's master secret took, by its own count */
     uint8_t keys[TN_KEY_BLOCK_LIMIT];       /* the server's */
     uint8_t hello[TN_MESSAGE_LIMIT];
     size_t hello_len;
@@ -49,10 +50,10 @@ void login_name(struct login *l, const char *identity, const struct gates *gates
 int login_open(struct login *l, uint8_t rule);
 int login_close(struct login *l);
 
-/* The client's master secret, under the key. */
-void login_master(const struct login *l, const uint8_t *key, size_t key_len, uint8_t master[TN_MASTER_SIZE]);
+/* The client's master secret, under the key; how many blocks it took. */
+uint64_t login_master(const struct login *l, const uint8_t *key, size_t key_len, uint8_t master[TN_MASTER_SIZE]);
 
-/* The client's Finished, under the key; and whether the server's secrets and its answer are those of the client. */
+/* The client's Finished, under the key; and whether the server's secrets, their blocks and its answer are those of the client. */
 void login_finish(struct login *l, const uint8_t *key, size_t key_len);
 int login_agrees(const struct login *l, const uint8_t *key, size_t key_len);
 

@@ -63,10 +63,11 @@ static double sample_login(void *state)
     const struct attempt *a = state;
     const struct gates *g = a->login.gates;
     uint8_t connection[TN_CONNECTION_SIZE], out[TN_FLIGHT_SIZE], master[TN_MASTER_SIZE];
+    uint64_t blocks;
     memcpy(connection, a->login.connection, sizeof connection);
     double from = now();
     int32_t result = tn_message(connection, g->text, g->size, g->starts, TN_TABLE_LINES, g->count, a->login.key_exchange, a->login.key_exchange_len, out,
-                                sizeof out, master);
+                                sizeof out, master, &blocks);
     double taken = now() - from;
     must(result == a->wanted, "the login has another outcome");
     return taken;

@@ -17,8 +17,9 @@ static uint8_t scratch[TN_CONNECTION_SIZE];
 static int32_t hand_over(const uint8_t *message, size_t n)
 {
     uint8_t out[TN_FLIGHT_SIZE], master[TN_MASTER_SIZE];
+    uint64_t blocks;
     const struct gates *g = &peer_gates;
-    return tn_message(scratch, g->text, g->size, g->starts, TN_TABLE_LINES, g->count, message, n, out, sizeof out, master);
+    return tn_message(scratch, g->text, g->size, g->starts, TN_TABLE_LINES, g->count, message, n, out, sizeof out, master, &blocks);
 }
 
 static int32_t call_start(void)
@@ -92,10 +93,9 @@ double sample_part(void *state)
     return taken;
 }
 
-/* The measure of the calls: 256 blocks and one of padding. */
-static double sample_block(void *state)
+double sample_block(void *state)
 {
-    static const uint8_t message[256 * 64];
+    static const uint8_t message[256 * 64]; /* and one block of padding */
     uint8_t digest[TN_HASH_SIZE];
     (void)state;
     double from = now();
@@ -129,4 +129,5 @@ void bench_parts(void)
     parts_prepare();
     snprintf(title, sizeof title, "The calls of our handshake, for a hello of %zu bytes, microseconds", login.hello_len);
     time_calls(title, parts, PARTS);
+    time_budget();
 }

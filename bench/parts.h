@@ -21,8 +21,14 @@ void parts_prepare(void);
 /* The time of a part's call, which is the state. */
 double sample_part(void *state);
 
+/* The measure of the calls: the time of one block of our hash, in a message of 16 KiB. */
+double sample_block(void *state);
+
 /* Measures and prints the times of some calls, and each in blocks of our hash, under a heading. */
 enum { TIMED_LIMIT = 8 };
 void time_calls(const char *title, struct part *calls, size_t n);
+
+/* The same of tn_master, beside the time of as many blocks as the call tells (budget.c). */
+void time_budget(void);
 
 #endif

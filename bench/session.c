@@ -22,6 +22,7 @@ static uint8_t content[TN_RECORD_CONTENT_LIMIT];
 /* The server's */
 static uint8_t connection[TN_RECORD_CONNECTION_SIZE], memory[TN_RECORD_MEMORY], out[TN_RECORD_LIMIT], master[TN_MASTER_SIZE];
 static uint32_t told[4];
+static uint64_t blocks;
 static uint8_t saved[STATES][TN_RECORD_CONNECTION_SIZE]; /* the connection in each state */
 
 /* The client's */
@@ -39,7 +40,7 @@ static int32_t take(const struct record *r)
 {
     const struct gates *g = &peer_gates;
     return tn_take_record(connection, g->text, g->size, g->starts, TN_TABLE_LINES, g->count, r->bytes, r->size, memory, sizeof memory, out, TN_RECORD_ANSWER,
-                          master, told);
+                          master, told, &blocks);
 }
 
 /* ---- a login */
@@ -61,7 +62,7 @@ static int finish(struct login *l)
 {
     uint8_t secret[TN_MASTER_SIZE], keys[TN_KEY_BLOCK_LIMIT];
     login_finish(l, peer_key, PEER_KEY_SIZE);
-    login_master(l, peer_key, PEER_KEY_SIZE, secret);
+    (void)login_master(l, peer_key, PEER_KEY_SIZE, secret);
     int32_t n = tn_key_block(secret, sizeof secret, l->random, sizeof l->random, l->hello + TN_HELLO_RANDOM_AT, TN_RANDOM_SIZE, l->suite, keys, sizeof keys);
     must(n > 0 && protection_cut(suite_of(l->suite), keys, (size_t)n, &writing, &reading), "no keys");
     put(&finished, &writing, RECORD_HANDSHAKE, l->finished, sizeof l->finished);
@@ -95,6 +96,7 @@ static int records_agree(struct login *l)
         return 0;
     memcpy(l->answer, out + CHANGE_RECORD + at, n);
     memcpy(l->master, master, sizeof master);
+    l->blocks = blocks;
     return login_agrees(l, peer_key, PEER_KEY_SIZE);
 }
 
