@@ -213,14 +213,15 @@ def careful(*rule, suites=CBC):
 
 
 def careless(expected):
-    """The same test finds these secrets where the stack is not cleared. Under tell: the trial logins that hide makes at a new table overwrite them."""
+    """The same test finds these secrets where the stack is not cleared. Under tell: the trial logins that hide makes at a new table overwrite them. Of the
+    longest key, since a later call may go over all of a short one."""
     with tempfile.TemporaryDirectory() as folder:
         table = Table(folder)
         with watched(CARELESS, "--table", table.file, "--rule", "tell") as g:
-            key = table.keys["gate128"]
-            _, _, after = session(g, "gate128", key)
+            key = table.keys["gate512"]
+            _, _, after = session(g, "gate512", key)
             assert after, "a careless gateway leaves nothing behind after a session"
-            names = failed_login(g, "gate128", key, "wrong MAC")
+            names = failed_login(g, "gate512", key, "wrong MAC")
             assert expected <= names, names
             retire(g, table, ["gate256"])
             assert expected & {"raw key"} <= found(g, {"raw key": key}), "a retired gate's key is not found"
