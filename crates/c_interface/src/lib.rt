@@ -4,6 +4,8 @@
 //
 // Each function gives what the crate below it says as one number, by the definitions of specs/Codes.antt:
 // the count of bytes written, -n for Rn, -1000 - a for the alert a. A refusal writes nothing.
+#![tactic(auto)]
+
 pub mod client_connection;
 mod code;
 pub mod connection;

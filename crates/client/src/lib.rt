@@ -3,6 +3,8 @@
 // specs/Connection.antt has the connection and start, specs/Message.antt the order of a message's tests, and
 // the files named after the steps (Hello, Exchange, Change, Finished, Alert) what each comes to. A step
 // decides and writes nothing; crates/handshake/specs/Step.antt says what a call makes of its decision.
+#![tactic(auto)]
+
 mod calls;
 mod exchange;
 mod finished;
@@ -19,7 +21,7 @@ use sha256::Sha256;
 pub use starting::start;
 
 // What a connection awaits, or how it ended.
-#[derive(Drop)]
+#[derive(Clone, Copy)]
 pub enum Phase {
     Hello,
     // A ServerKeyExchange, or a ServerHelloDone in its place.
@@ -32,7 +34,7 @@ pub enum Phase {
 }
 
 // What start was given. No call changes it.
-#[derive(Drop)]
+#[derive(Clone, Copy)]
 pub struct Setup {
     // The identity is so many bytes of its field, and so is the key.
     pub identity_length: u8,
@@ -44,20 +46,20 @@ pub struct Setup {
 }
 
 // What the server said: its random, and the suite that it chose.
-#[derive(Drop)]
+#[derive(Clone, Copy)]
 pub struct Negotiated {
     pub random: [u8; 32],
     pub suite: u16,
 }
 
-#[derive(Drop)]
+#[derive(Clone, Copy)]
 pub struct Secrets {
     pub master: [u8; 48],
 }
 
 // A connection. `started` and `ended` of specs/Connection.antt are the values that it begins and ends with;
 // every other value gets an answer too.
-#[derive(Drop)]
+#[derive(Clone, Copy)]
 pub struct Connection {
     pub phase: Phase,
     pub setup: Setup,
@@ -131,6 +133,6 @@ fn bytes32(bytes: &[u8]) -> [u8; 32]
     ensures { result ≡ bytes.now }
 {
     let mut kept = [0u8; 32];
-    bytes::copy(bytes, &mut kept);
+    lists::copy(bytes, &mut kept);
     kept
 }

@@ -48,7 +48,7 @@ fn identity_field(identity: &[u8]) -> [u8; 128]
     ensures { result ≡ Conn.field Conn.identity_limit identity.now }
 {
     let mut field = [0u8; 128];
-    bytes::copy(identity, &mut field);
+    lists::copy(identity, &mut field);
     field
 }
 
@@ -58,7 +58,7 @@ fn key_field(key: &[u8]) -> [u8; 64]
     ensures { result ≡ Conn.field Conn.key_limit key.now }
 {
     let mut field = [0u8; 64];
-    bytes::copy(key, &mut field);
+    lists::copy(key, &mut field);
     field
 }
 

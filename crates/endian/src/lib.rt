@@ -1,6 +1,8 @@
 // Big-endian numbers and vectors with their length in front. The definitions are for every width of
 // a length field, and so are their laws (proofs/Numbers.antt, proofs/Vectors.antt). The functions
 // are at the widths that the layers above use.
+#![tactic(auto)]
+
 ghost use Rattle.std.specs.Prelude.{◌≡◌, [], ◌∷◌};
 ghost use Rattle.endian.specs.Number.{be, number};
 

@@ -1,5 +1,7 @@
 // The extension block of a hello (document 01, "Message layouts"; RFC 5246, section 7.4.1.4; RFC 5077,
 // section 3.2): going through it, its rules, and writing one extension.
+#![tactic(auto)]
+
 ghost use Rattle.std.specs.Prelude.{◌≡◌, ◌+◌, ◌/◌, ◌%◌, ◌^◌, ◌<◌};
 ghost use Rattle.refusal.specs.Lent.{Answers};
 ghost use Rattle.extensions.specs.Extensions.{extension_written, ticket_extension, step_at, extensions_in, block_rule};

@@ -3,6 +3,8 @@
 //
 // A side has its own connection and its own steps. specs/Step.antt says what a call makes of a step, on
 // either side: R1 last, and what a refusal does to the connection.
+#![tactic(auto)]
+
 ghost use Rattle.std.specs.Prelude.{◌≡◌};
 ghost use Rattle.refusal.specs.Lent.{Answers, gives};
 ghost use Rattle.keys.specs.Secrets.{finished_of};
@@ -34,7 +36,7 @@ pub enum Heard {
 
 // Messages for the peer, one behind the other: the longest are a ServerHello of 42 bytes, a
 // ServerKeyExchange of 134 and a ServerHelloDone of 4.
-#[derive(Drop)]
+#[derive(Clone, Copy)]
 pub struct Outgoing {
     pub bytes: [u8; 180],
     // How long each message is; 0 stands for none.

@@ -10,6 +10,8 @@
 // 7 another list of line starts from now on (the count in three bytes, then in two bytes a place of the
 // list's 257, and the number there in three). With a table that is well formed its own list comes, with
 // another one the list stays.
+#![tactic(auto)]
+
 use refusal::Written;
 use server::{Answer, Connection, Named, Reply};
 
@@ -21,7 +23,7 @@ struct Kept {
 }
 
 // How long the table is, and how many line starts the list has.
-#[derive(Drop)]
+#[derive(Clone, Copy)]
 struct Sizes {
     table: usize,
     count: usize,

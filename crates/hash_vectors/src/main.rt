@@ -1,6 +1,8 @@
 // Reads messages from standard input and prints their SHA-256 digests: each absorbed whole and in uneven
 // parts, or one part absorbed many times. tests/hash_vectors.py makes the input and prints the same
 // lines from another implementation.
+#![tactic(auto)]
+
 use sha256::Sha256;
 
 // A line: the message's length, how it was absorbed, and the digest.

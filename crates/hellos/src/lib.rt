@@ -3,13 +3,15 @@
 //
 // specs/Hello.antt has what the two share, specs/ClientHello.antt and specs/ServerHello.antt the rest.
 // A reader's refusal is decode_error. A writer takes any values: R5 for what the layout forbids, then R1.
+#![tactic(auto)]
+
 pub mod client_hello;
 mod hello;
 mod put;
 pub mod server_hello;
 
 // The extension block of a hello. One that is absent and one that is empty are different.
-#[derive(Drop)]
+#[derive(Clone, Copy)]
 pub enum Block {
     Absent,
     At { start: usize, len: usize },

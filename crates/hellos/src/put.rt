@@ -10,7 +10,7 @@ pub(crate) fn at(part: &[u8], out: &mut [u8], place: usize) -> usize
     ensures value { result ≡ place + length part.now }
     ensures out_after { out.new ≡ paste out.old place part.now (length part.now) }
 {
-    let n = bytes::copy(part, &mut out[place..]);
+    let n = lists::copy(part, &mut out[place..]);
     place + n
 }
 

@@ -4,6 +4,8 @@
 //
 // A call is a byte that names a function, a number (the PRF's length, or a suite), the output's room, and
 // three fields.
+#![tactic(auto)]
+
 use keys::{Label, Side};
 use refusal::Written;
 use sha256::Reported;

@@ -8,5 +8,5 @@ pub(crate) fn append(buffer: &mut [u8], at: usize, part: &[u8])
     ensures { take (at + length part.now) buffer.new ≡ take at buffer.old ++ part.now }
 {
     let end = at + part.len();
-    bytes::copy(part, &mut buffer[at..end]);
+    lists::copy(part, &mut buffer[at..end]);
 }

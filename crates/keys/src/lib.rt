@@ -1,6 +1,8 @@
 // The secrets of TLS 1.2 with pre-shared keys: HMAC-SHA-256 (RFC 2104), the PRF (RFC 5246, section
 // 5), the premaster secret (RFC 4279), the master secret, the key block and the Finished values
 // (RFC 5246, sections 8.1, 6.3 and 7.4.9). It sees of the hash only what the hash promises.
+#![tactic(auto)]
+
 mod buffer;
 mod mac;
 mod p_sha256;
@@ -19,7 +21,7 @@ use refusal::{Refusal, Written};
 use sha256::{Reported, Sha256, report};
 
 // The four labels of the PRF. No other can be handed in.
-#[derive(Drop)]
+#[derive(Clone, Copy)]
 pub enum Label {
     MasterSecret,
     KeyExpansion,

@@ -40,7 +40,7 @@ fn block_of(key: &[u8]) -> Block
 {
     let mut bytes = [0u8; 64];
     if key.len() <= 64 {
-        bytes::copy(key, &mut bytes);
+        lists::copy(key, &mut bytes);
         return Block { bytes, blocks: 0 };
     }
     let done = Sha256::new().update(key).finish_counted(&mut bytes);

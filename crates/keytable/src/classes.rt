@@ -6,7 +6,7 @@ ghost use Rattle.keytable.specs.Inner.{belongs, leading};
 
 use crate::hex::hex_digit;
 
-#[derive(Drop)]
+#[derive(Clone, Copy)]
 pub(crate) enum Class {
     // a byte that an identity may have
     Plain,

@@ -20,7 +20,11 @@ pub(crate) fn line_end(table: &[u8], at: usize) -> usize
     requires { at ≤ length table.now }
     ensures { result ≡ at + length (upto line_end (drop at table.now)) }
 {
-    bytes::scan::find(table, at, table.len(), 10)
+    let mut end = at;
+    while end < table.len() && table[end] != 10 {
+        end += 1;
+    }
+    end
 }
 
 // The search ends at the first line that matches. It looks for the end of no line but that one.

@@ -4,6 +4,8 @@
 // specs/Layout.antt says what a layout is and what makes a reader and a writer each other's inverse.
 // A reader judges layout only, touches no memory and answers where each field stands. Used alone it
 // refuses with decode_error and nothing else, so that its refusal need not say which.
+#![tactic(auto)]
+
 pub mod header;
 pub mod place;
 pub mod put;
@@ -12,7 +14,7 @@ pub mod types;
 use refusal::Refusal;
 
 // What a test on a header says.
-#[derive(Drop)]
+#[derive(Clone, Copy)]
 pub enum Verdict {
     Accepted,
     Refused(Refusal),

@@ -14,7 +14,7 @@ pub fn two(head: &[u8], tail: &[u8], out: &mut [u8]) -> Written
     if out.len() - head.len() < tail.len() {
         return Written::Refused(Refusal::ShortOutput);
     }
-    let next = bytes::copy(head, out);
-    let end = next + bytes::copy(tail, &mut out[next..]);
+    let next = lists::copy(head, out);
+    let end = next + lists::copy(tail, &mut out[next..]);
     Written::Wrote(end)
 }

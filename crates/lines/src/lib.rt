@@ -4,6 +4,8 @@
 // No contract can say which bytes are read or written, so each function promises what can be said: how
 // much there was to print, the bounds of what was read, and that lent memory keeps its length and
 // what stands behind the bytes that were read. What is printed is compared with each program's file stdout.
+#![tactic(auto)]
+
 mod print;
 mod read;
 

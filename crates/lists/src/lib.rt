@@ -1,6 +1,8 @@
 // What several crates ask of byte strings. specs/Lists.antt has the definitions, proofs/ the laws that the
 // proofs of the other crates cite.
-ghost use Rattle.std.specs.Prelude.{◌≡◌};
+#![tactic(auto)]
+
+ghost use Rattle.std.specs.Prelude.{◌≡◌, ◌≤◌, ◌++◌, length, take, drop};
 ghost use Rattle.lists.specs.Lists.{same};
 
 // Whether two byte strings are equal. Of two of one length all bytes are read, whatever they are, so that the
@@ -20,4 +22,14 @@ pub fn same(a: &[u8], b: &[u8]) -> bool
         i += 1;
     }
     different == 0
+}
+
+// Copies a byte string to the front of a part of memory, and says how many bytes that were.
+pub fn copy(src: &[u8], dst: &mut [u8]) -> usize
+    requires { length src.now ≤ length dst.old }
+    ensures { (result ≡ length src.now) × (dst.new ≡ take (length src.now) src.now ++ drop (length src.now) dst.old) }
+{
+    let n = src.len();
+    dst[..n].copy_from_slice(src);
+    n
 }

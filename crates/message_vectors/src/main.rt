@@ -5,6 +5,8 @@
 // parser and a writer of its own.
 //
 // A call is 1 and a message, or a byte that names a writer, the output's room, and what it takes.
+#![tactic(auto)]
+
 use extensions::Step;
 use hellos::Block;
 use hellos::client_hello::Client;

@@ -4,6 +4,8 @@
 // specs/Connection.antt has the connection, specs/Taking.antt the order of a record's tests and what it comes
 // to, specs/Joining.antt what handshake bytes come to, specs/Answering.antt a flight as records, and
 // specs/Sending.antt what is sent besides.
+#![tactic(auto)]
+
 mod closing;
 mod flight;
 mod progress;
@@ -20,21 +22,21 @@ pub use starting::start;
 pub use taking::{application_data, take};
 
 // The MAC keys of the pending states (RFC 5246, section 6.1), from the key exchange to each side's change of cipher.
-#[derive(Drop)]
+#[derive(Clone, Copy)]
 pub struct Pending {
     pub client: [u8; 32],
     pub server: [u8; 32],
 }
 
 // The record of the alert that closed a connection: so many bytes of its field.
-#[derive(Drop)]
+#[derive(Clone, Copy)]
 pub struct ClosingAlert {
     pub length: u8,
     pub bytes: [u8; 39],
 }
 
 // A record connection. Every value gets an answer.
-#[derive(Drop)]
+#[derive(Clone, Copy)]
 pub struct RecordConnection {
     pub handshake: Connection,
     // The client's direction.
@@ -55,7 +57,7 @@ pub struct Answer {
 }
 
 // Application data in a record: so many bytes behind its header, or none.
-#[derive(Drop)]
+#[derive(Clone, Copy)]
 pub enum Data {
     Nothing,
     Bytes(usize),
@@ -63,7 +65,7 @@ pub enum Data {
 
 // What a record is answered with: how many bytes were written or a refusal, whether it holds application data, the
 // master secret where one is handed over with how many blocks were hashed for it, and the connection.
-#[derive(Drop)]
+#[derive(Clone, Copy)]
 pub struct Taken {
     pub said: Written,
     pub holds: Data,

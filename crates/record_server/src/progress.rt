@@ -20,7 +20,7 @@ use refusal::Refusal;
 use server::{Connection, Decision, Phase};
 
 // Whether there is more to be judged, what is left waits for the rest of a message, or something was refused.
-#[derive(Drop)]
+#[derive(Clone, Copy)]
 pub enum Course {
     Going,
     Waits,
@@ -28,7 +28,7 @@ pub enum Course {
 }
 
 // How far the bytes have been judged: `at` is where the next message begins.
-#[derive(Drop)]
+#[derive(Clone, Copy)]
 pub struct Progress {
     pub course: Course,
     pub connection: Connection,
@@ -84,8 +84,8 @@ fn decide_at(
         return server::decide(c, table, starts, count, &content[at - kept..end - kept]);
     }
     let mut message = [0u8; 16384];
-    bytes::copy(held, &mut message);
-    bytes::copy(&content[..end - kept], &mut message[kept..]);
+    lists::copy(held, &mut message);
+    lists::copy(&content[..end - kept], &mut message[kept..]);
     server::decide(c, table, starts, count, &message[..end])
 }
 

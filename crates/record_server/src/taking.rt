@@ -25,7 +25,7 @@ use refusal::{Refusal, Written};
 use server::Connection;
 
 // What goes to the lent memory: nothing, or so many bytes of the record, from `from` on, at a place of it.
-#[derive(Drop)]
+#[derive(Clone, Copy)]
 pub enum Keep {
     Same,
     Put { at: usize, from: usize, len: usize },
@@ -166,8 +166,8 @@ fn keys_of(c: Connection) -> Pending
     keys::key_block(&master, &own, &random, 0x00b0, &mut block);
     let mut client = [0u8; 32];
     let mut server = [0u8; 32];
-    bytes::copy(&block[..32], &mut client);
-    bytes::copy(&block[32..], &mut server);
+    lists::copy(&block[..32], &mut client);
+    lists::copy(&block[32..], &mut server);
     Pending { client, server }
 }
 
@@ -487,7 +487,7 @@ fn put_held(keep: Keep, received: &[u8], memory: &mut [u8])
         Keep::Same => {}
         Keep::Put { at, from, len } => {
             let end = from + len;
-            bytes::copy(&received[from..end], &mut memory[at..]);
+            lists::copy(&received[from..end], &mut memory[at..]);
         }
     }
 }

@@ -9,6 +9,8 @@
 // bytes); 5 close_notify (room in one byte); 6 the alert that closed the connection (room in one byte); 7 another list of
 // line starts from now on (the count in three bytes, then in two bytes a place of the list's 257, and the number there in
 // three). With a table that is well formed its own list comes, with another one the list stays.
+#![tactic(auto)]
+
 ghost use Rattle.std.specs.Prelude.{◌≤◌};
 
 use record_server::{Answer, Data, RecordConnection, Taken};
@@ -16,7 +18,7 @@ use refusal::Written;
 use server::Named;
 
 // How long the table is, and how many line starts the list beside it has.
-#[derive(Drop)]
+#[derive(Clone, Copy)]
 struct Sizes {
     table: usize,
     count: usize,

@@ -3,6 +3,8 @@
 //
 // specs/Record.antt has a record's bytes and the tests on one that came, specs/Protection.antt a connection
 // state and the MAC, specs/Joining.antt where a message ends. Nothing here knows of a handshake.
+#![tactic(auto)]
+
 pub mod header;
 pub mod joining;
 pub mod protection;
@@ -10,7 +12,7 @@ pub mod protection;
 use refusal::Refusal;
 
 // What a record holds (RFC 5246, section 6.2.1).
-#[derive(Drop)]
+#[derive(Clone, Copy)]
 pub enum ContentType {
     ChangeCipherSpec,
     Alert,
@@ -26,7 +28,7 @@ pub enum Read {
 }
 
 // The state of one direction of a connection (RFC 5246, section 6.1).
-#[derive(Drop)]
+#[derive(Clone, Copy)]
 pub struct State {
     pub protected: bool,
     // How many records were sent or taken under it.

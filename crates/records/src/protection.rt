@@ -96,7 +96,7 @@ pub fn seal(s: State, kind: ContentType, content: &[u8], out: &mut [u8]) -> Writ
     let value = mac_of(key, s.sequence, [head[0], head[1], head[2]], content);
     let at = 5 + n;
     put::two(&head, content, out);
-    bytes::copy(&value, &mut out[at..]);
+    lists::copy(&value, &mut out[at..]);
     Written::Wrote(37 + n)
 }
 

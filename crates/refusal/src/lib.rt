@@ -3,11 +3,13 @@
 // was written.
 //
 // specs/Table.antt is document 01's table. specs/Lent.antt says what an answer leaves in lent memory.
+#![tactic(auto)]
+
 ghost use Rattle.std.specs.Prelude.{◌≡◌};
 ghost use Rattle.refusal.specs.Table.{number_of, to_peer};
 ghost use Rattle.refusal.specs.Lent.{Answers, gives};
 
-#[derive(Drop)]
+#[derive(Clone, Copy)]
 pub enum Refusal {
     // R1: lent output shorter than the answer
     ShortOutput,
@@ -42,7 +44,7 @@ pub enum Refusal {
     UnknownPskIdentity,
 }
 
-#[derive(Drop)]
+#[derive(Clone, Copy)]
 pub enum Written {
     // So many bytes stand at the front of the lent memory.
     Wrote(usize),
@@ -114,6 +116,6 @@ pub fn put(answer: &[u8], out: &mut [u8]) -> Written
     if out.len() < answer.len() {
         return Written::Refused(Refusal::ShortOutput);
     }
-    let n = bytes::copy(answer, out);
+    let n = lists::copy(answer, out);
     Written::Wrote(n)
 }

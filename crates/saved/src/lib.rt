@@ -6,6 +6,8 @@
 // one call wrote is what the next one reads. The second rests on the types of the fields (a suite is
 // below 2^16), which a caller in another crate does not see: promised here, it holds for every
 // caller.
+#![tactic(auto)]
+
 ghost use Rattle.std.specs.Prelude.{◌≡◌, ◌++◌, ◌+◌, ◌≤◌, length, take};
 ghost use Rattle.endian.specs.Number.{number};
 ghost use Rattle.sha256.specs.Saved as Hash;
@@ -91,7 +93,7 @@ fn append(bytes: [u8; 388], at: usize, part: &[u8]) -> [u8; 388]
 {
     let end = at + part.len();
     let mut next = bytes;
-    bytes::copy(part, &mut next[at..end]);
+    lists::copy(part, &mut next[at..end]);
     next
 }
 
@@ -175,7 +177,7 @@ fn hint(bytes: [u8; 388]) -> [u8; 128]
     ensures { result ≡ part 12 128 bytes }
 {
     let mut kept = [0u8; 128];
-    bytes::copy(&bytes[12..140], &mut kept);
+    lists::copy(&bytes[12..140], &mut kept);
     kept
 }
 
@@ -186,7 +188,7 @@ fn part32(bytes: [u8; 388], at: usize) -> [u8; 32]
 {
     let end = at + 32;
     let mut kept = [0u8; 32];
-    bytes::copy(&bytes[at..end], &mut kept);
+    lists::copy(&bytes[at..end], &mut kept);
     kept
 }
 
@@ -195,7 +197,7 @@ fn master(bytes: [u8; 388]) -> [u8; 48]
     ensures { result ≡ part 236 48 bytes }
 {
     let mut kept = [0u8; 48];
-    bytes::copy(&bytes[236..284], &mut kept);
+    lists::copy(&bytes[236..284], &mut kept);
     kept
 }
 
@@ -204,7 +206,7 @@ fn transcript(bytes: [u8; 388]) -> Sha256
     ensures { result ≡ Hash.restored (part 284 104 bytes) }
 {
     let mut kept = [0u8; 104];
-    bytes::copy(&bytes[284..388], &mut kept);
+    lists::copy(&bytes[284..388], &mut kept);
     sha256::saved::restore(kept)
 }
 

@@ -6,6 +6,8 @@
 // one call wrote is what the next one reads. The second rests on the types of the fields (a suite is
 // below 2^16), which a caller in another crate does not see: promised here, it holds for every
 // caller.
+#![tactic(auto)]
+
 ghost use Rattle.std.specs.Prelude.{◌≡◌, ◌≤◌};
 ghost use Rattle.endian.specs.Number.{number};
 ghost use Rattle.lists.specs.Lists.{part};
@@ -108,9 +110,9 @@ fn setup(bytes: [u8; 413]) -> Setup
     let mut identity = [0u8; 128];
     let mut key = [0u8; 64];
     let mut random = [0u8; 32];
-    bytes::copy(&bytes[5..133], &mut identity);
-    bytes::copy(&bytes[133..197], &mut key);
-    bytes::copy(&bytes[197..229], &mut random);
+    lists::copy(&bytes[5..133], &mut identity);
+    lists::copy(&bytes[133..197], &mut key);
+    lists::copy(&bytes[197..229], &mut random);
     Setup {
         identity_length: bytes[1],
         identity,
@@ -138,9 +140,9 @@ pub fn restore(bytes: [u8; 413]) -> Connection
     let mut random = [0u8; 32];
     let mut master = [0u8; 48];
     let mut hash = [0u8; 104];
-    bytes::copy(&bytes[229..261], &mut random);
-    bytes::copy(&bytes[261..309], &mut master);
-    bytes::copy(&bytes[309..413], &mut hash);
+    lists::copy(&bytes[229..261], &mut random);
+    lists::copy(&bytes[261..309], &mut master);
+    lists::copy(&bytes[309..413], &mut hash);
     let phase = to_phase(first);
     let setup = setup(bytes);
     let server = Negotiated {

@@ -6,6 +6,8 @@
 // one call wrote is what the next one reads. The second rests on the types of the fields (a sequence
 // number is below 2^64), which a caller in another crate does not see: promised here, it holds for
 // every caller.
+#![tactic(auto)]
+
 ghost use Rattle.std.specs.Prelude.{◌≡◌, ◌++◌, ◌+◌, ◌≤◌, length, take};
 ghost use Rattle.endian.specs.Number.{number};
 ghost use Rattle.lists.specs.Lists.{part};
@@ -25,7 +27,7 @@ fn append(bytes: [u8; 576], at: usize, part: &[u8]) -> [u8; 576]
 {
     let end = at + part.len();
     let mut next = bytes;
-    bytes::copy(part, &mut next[at..end]);
+    lists::copy(part, &mut next[at..end]);
     next
 }
 
@@ -92,7 +94,7 @@ fn inner(bytes: [u8; 576]) -> Connection
     ensures { result ≡ Server.restored (part 0 388 bytes) }
 {
     let mut kept = [0u8; 388];
-    bytes::copy(&bytes[0..388], &mut kept);
+    lists::copy(&bytes[0..388], &mut kept);
     saved::restore(kept)
 }
 
@@ -121,7 +123,7 @@ fn key(bytes: [u8; 576], at: usize) -> [u8; 32]
 {
     let end = at + 32;
     let mut kept = [0u8; 32];
-    bytes::copy(&bytes[at..end], &mut kept);
+    lists::copy(&bytes[at..end], &mut kept);
     kept
 }
 
@@ -150,7 +152,7 @@ fn alert_field(bytes: [u8; 576]) -> [u8; 39]
     ensures { result ≡ part 537 39 bytes }
 {
     let mut kept = [0u8; 39];
-    bytes::copy(&bytes[537..576], &mut kept);
+    lists::copy(&bytes[537..576], &mut kept);
     kept
 }
 

@@ -4,6 +4,8 @@
 // the files named after the steps (Hello, KeyExchange, Change, Finished, Alert) what each comes to. A step
 // decides and writes nothing; specs/Step.antt says what a call makes of its decision. What a client does alike is
 // in the crate `handshake`.
+#![tactic(auto)]
+
 mod calls;
 mod finished;
 mod hello;
@@ -21,7 +23,7 @@ pub use starting::{start, start_with};
 pub use step::Decision;
 
 // What a connection does where a client names an identity that isn't listed.
-#[derive(Drop)]
+#[derive(Clone, Copy)]
 pub enum Rule {
     Tell,
     Hide,
@@ -36,7 +38,7 @@ pub enum Named {
 }
 
 // What a connection awaits, or how it ended.
-#[derive(Drop)]
+#[derive(Clone, Copy)]
 pub enum Phase {
     Hello,
     KeyExchange,
@@ -47,7 +49,7 @@ pub enum Phase {
 }
 
 // What start was given. No call changes it.
-#[derive(Drop)]
+#[derive(Clone, Copy)]
 pub struct Setup {
     pub rule: Rule,
     // Our suites, in the order in which we choose.
@@ -62,21 +64,21 @@ pub struct Setup {
 
 // What the client said: its random, the suite that its hello led to, and whether the identity that it
 // named is listed.
-#[derive(Drop)]
+#[derive(Clone, Copy)]
 pub struct Negotiated {
     pub random: [u8; 32],
     pub suite: u16,
     pub listed: bool,
 }
 
-#[derive(Drop)]
+#[derive(Clone, Copy)]
 pub struct Secrets {
     pub master: [u8; 48],
 }
 
 // A connection. `started` and `ended` of specs/Connection.antt are the values that it begins and ends with;
 // every other value gets an answer too.
-#[derive(Drop)]
+#[derive(Clone, Copy)]
 pub struct Connection {
     pub phase: Phase,
     pub setup: Setup,
@@ -151,6 +153,6 @@ fn bytes32(bytes: &[u8]) -> [u8; 32]
     ensures { result ≡ bytes.now }
 {
     let mut kept = [0u8; 32];
-    bytes::copy(bytes, &mut kept);
+    lists::copy(bytes, &mut kept);
     kept
 }

@@ -28,7 +28,7 @@ fn hint_field(hint: &[u8]) -> [u8; 128]
     ensures { result ≡ Conn.hint_field hint.now }
 {
     let mut field = [0u8; 128];
-    bytes::copy(hint, &mut field);
+    lists::copy(hint, &mut field);
     field
 }
 

@@ -16,7 +16,7 @@ use refusal::{Refusal, Written};
 
 // What a step comes to: a refusal, or messages for the client and the connection as it is then. `blocks` is
 // how many were hashed for the master secret, where one was derived.
-#[derive(Drop)]
+#[derive(Clone, Copy)]
 pub struct Decision {
     pub verdict: Verdict,
     pub outgoing: Outgoing,

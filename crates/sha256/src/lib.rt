@@ -3,6 +3,8 @@
 //
 // specs/ has FIPS 180-4 section by section, and State.antt has what the state means.
 // proofs/Finish.antt has the theorem that joins the two.
+#![tactic(auto)]
+
 pub mod saved;
 
 ghost use Rattle.std.specs.Prelude.{◌≡◌, ◌∷◌, ◌++◌, ◌+◌, ◌-◌, ◌*◌, ◌%◌, ◌^◌, ◌≤◌, ◌<◌, length, take, drop, replicate};
@@ -18,7 +20,7 @@ use refusal::{Refusal, Written};
 use sha256_block::{Words, all_blocks};
 
 // A hash under way. specs/State.antt says what each field means.
-#[derive(Drop)]
+#[derive(Clone, Copy)]
 pub struct Sha256 {
     words: Words,
     block: [u8; 64],
@@ -96,7 +98,7 @@ impl Sha256 {
         let held = (self.count % 64) as usize;
         let end = held + data.len();
         let mut block = self.block;
-        bytes::copy(data, &mut block[held..end]);
+        lists::copy(data, &mut block[held..end]);
         block
     }
 
@@ -270,7 +272,7 @@ fn marked(block: [u8; 64], held: usize) -> [u8; 64]
     ensures { result ≡ take held block ++ (0x80 ∷ replicate (63 - held) 0) }
 {
     let mut last = [0u8; 64];
-    bytes::copy(&block[..held], &mut last);
+    lists::copy(&block[..held], &mut last);
     last[held] = 0x80;
     last
 }
@@ -282,7 +284,7 @@ fn with_length(block: [u8; 64], count: u64) -> [u8; 64]
 {
     let bits = endian::bytes64(8 * count);
     let mut last = block;
-    bytes::copy(&bits, &mut last[56..64]);
+    lists::copy(&bits, &mut last[56..64]);
     last
 }
 
@@ -293,7 +295,7 @@ fn with_word(digest: [u8; 32], at: usize, word: u32) -> [u8; 32]
 {
     let bytes = endian::bytes32(word);
     let mut next = digest;
-    bytes::copy(&bytes, &mut next[at..at + 4]);
+    lists::copy(&bytes, &mut next[at..at + 4]);
     next
 }
 

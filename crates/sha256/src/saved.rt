@@ -19,7 +19,7 @@ fn append(bytes: [u8; 104], at: usize, part: &[u8]) -> [u8; 104]
 {
     let end = at + part.len();
     let mut next = bytes;
-    bytes::copy(part, &mut next[at..end]);
+    lists::copy(part, &mut next[at..end]);
     next
 }
 
@@ -65,7 +65,7 @@ fn block(bytes: [u8; 104]) -> [u8; 64]
     ensures { result ≡ part 32 64 bytes }
 {
     let mut kept = [0u8; 64];
-    bytes::copy(&bytes[32..96], &mut kept);
+    lists::copy(&bytes[32..96], &mut kept);
     kept
 }
 

@@ -1,5 +1,7 @@
 // SHA-256's computation on whole blocks (FIPS 180-4, sections 4, 5.2.1 and 6.2.2). What a caller sees is
 // the hash value after the blocks; how the schedule is kept and the rounds are made stays in here.
+#![tactic(auto)]
+
 mod constants;
 mod functions;
 mod rounds;
@@ -14,7 +16,7 @@ use rounds::all_rounds;
 use schedule::load;
 
 // Eight 32-bit words: the hash value H0 to H7, and the working variables a to h.
-#[derive(Drop)]
+#[derive(Clone, Copy)]
 pub struct Words {
     pub a: u32,
     pub b: u32,

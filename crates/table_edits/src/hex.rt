@@ -44,7 +44,7 @@ pub(crate) fn put_line(identity: &[u8], key: &[u8], out: &mut [u8])
     ensures { out.new ≡ line_with identity.now key.now ++ (line_end ∷ []) }
 {
     let end = out.len() - 1;
-    let colon = bytes::copy(identity, out);
+    let colon = lists::copy(identity, out);
     let digits = colon + 1;
     out[colon] = 58;
     put_key(key, &mut out[digits..end]);

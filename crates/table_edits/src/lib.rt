@@ -5,6 +5,8 @@
 // rest of both as it was; or it refuses, and nothing was written.
 //
 // Table and list are tested, the line is looked for, and what stands behind it is moved once.
+#![tactic(auto)]
+
 mod hex;
 mod list;
 mod moves;

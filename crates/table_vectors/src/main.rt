@@ -7,6 +7,8 @@
 // many numbers its memory has, the numbers in four bytes each, and in three bytes the count that is told. An edit has
 // the whole memory as its second field, the table and what stands behind it, and two things more: the key as a
 // third field, and in three bytes the length that is told to be the table's.
+#![tactic(auto)]
+
 ghost use Rattle.std.specs.Prelude.{◌≤◌};
 
 use keytable::Judged;

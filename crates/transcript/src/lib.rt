@@ -4,6 +4,8 @@
 // A function over a lent transcript is proved by a walk of its code, by hand, and so is the one above
 // it that lends it a transcript of its own. That one takes and gives plain values, and whoever calls it
 // needs no such proof. proofs/Walk.antt has what the walks share.
+#![tactic(auto)]
+
 ghost use Rattle.std.specs.Prelude.{◌≡◌};
 ghost use Rattle.refusal.specs.Lent.{Answers};
 ghost use Rattle.sha256.specs.State.{absorb, finished};

@@ -1,4 +1,6 @@
 // UTF-8 by RFC 3629.
+#![tactic(auto)]
+
 ghost use Rattle.std.specs.Prelude.{◌≡◌, ◌<◌, length, take, get_or};
 ghost use Rattle.utf8.specs.Utf8.{size, row, tail, allowed, character, valid_utf8};
 
