@@ -8,5 +8,5 @@ use Rattle.endian.proofs.bytes16.Tie as tie
 returns : tie.Need-returns
 returns c = simp (div-one c.args.n)
 
-pub bytes16-spec : {M : Type 1} → statement M
-bytes16-spec = tie.close (tie.spec (λ c. search rules) (λ c. search rules) returns)
+pub bytes16_spec : {M : Type 1} → statement M
+bytes16_spec = tie.close (tie.spec (λ c. search rules) (λ c. search rules) returns)

@@ -8,5 +8,5 @@ use Rattle.endian.proofs.bytes24.Tie as tie
 returns : tie.Need-returns
 returns c = simp (div-one c.args.n)
 
-pub bytes24-spec : {M : Type 1} → statement M
-bytes24-spec = tie.close (tie.spec (λ c. search rules) (λ c. search rules) (λ c. search rules) returns)
+pub bytes24_spec : {M : Type 1} → statement M
+bytes24_spec = tie.close (tie.spec (λ c. search rules) (λ c. search rules) (λ c. search rules) returns)

@@ -8,5 +8,5 @@ use Rattle.endian.proofs.bytes32.Tie as tie
 returns : tie.Need-returns
 returns c = simp (div-one c.args.n)
 
-pub bytes32-spec : {M : Type 1} → statement M
-bytes32-spec = tie.close (tie.spec (λ c. search rules) (λ c. search rules) (λ c. search rules) (λ c. search rules) returns)
+pub bytes32_spec : {M : Type 1} → statement M
+bytes32_spec = tie.close (tie.spec (λ c. search rules) (λ c. search rules) (λ c. search rules) (λ c. search rules) returns)

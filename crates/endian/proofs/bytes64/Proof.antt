@@ -8,8 +8,8 @@ use Rattle.endian.proofs.bytes64.Tie as tie
 returns : tie.Need-returns
 returns c = simp (div-one c.args.n)
 
-pub bytes64-spec : {M : Type 1} → statement M
-bytes64-spec =
+pub bytes64_spec : {M : Type 1} → statement M
+bytes64_spec =
     tie.close
     (tie.spec
     (λ c. search rules)
