@@ -7,10 +7,10 @@ use borrow.Author.Rules.{rules}
 use Rattle.handshakes.proofs.main.Statement.{statement}
 use Rattle.handshakes.proofs.main.Tie as tie
 
-abbrev invariant-loop : tie.invariant-loop
+abbrev invariant-loop : tie.invariant-loop-calls
 invariant-loop table₀ starts₀ sizes₀ kept₀ calls₀ table starts sizes kept calls = (calls ≤ 65536) × (length table ≡ 70000) × (length starts ≡ 257)
 
-abbrev decreases-loop : tie.decreases-loop
+abbrev decreases-loop : tie.decreases-loop-calls
 decreases-loop table₀ starts₀ sizes₀ kept₀ calls₀ table starts sizes kept calls = 65536 - calls
 
 pub main_spec : {M : Type 1} → statement M

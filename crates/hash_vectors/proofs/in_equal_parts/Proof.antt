@@ -4,14 +4,14 @@ use Rattle.std.proofs.Common.{◌-◌, ◌≤◌, rules}
 use Rattle.hash_vectors.proofs.in_equal_parts.Statement.{statement}
 use Rattle.hash_vectors.proofs.in_equal_parts.Tie as tie
 
-abbrev invariant-loop : tie.invariant-loop
+abbrev invariant-loop : tie.invariant-loop-i
 invariant-loop part times hash₀ length₀ i₀ t6 hash length i = i ≤ times
 
-abbrev decreases-loop : tie.decreases-loop
+abbrev decreases-loop : tie.decreases-loop-i
 decreases-loop part times hash₀ length₀ i₀ t6 hash length i = times - i
 
-pub in-equal-parts-spec : {M : Type 1} → statement M
-in-equal-parts-spec =
+pub in_equal_parts_spec : {M : Type 1} → statement M
+in_equal_parts_spec =
     tie.close
     (tie.spec
     invariant-loop

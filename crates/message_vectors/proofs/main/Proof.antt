@@ -4,10 +4,10 @@ use Rattle.std.proofs.Common.{rules}
 use Rattle.message_vectors.proofs.main.Statement.{statement}
 use Rattle.message_vectors.proofs.main.Tie as tie
 
-abbrev invariant-loop : tie.invariant-loop
+abbrev invariant-loop : tie.invariant-loop-left
 invariant-loop left₀ left = Unit
 
-abbrev decreases-loop : tie.decreases-loop
+abbrev decreases-loop : tie.decreases-loop-left
 decreases-loop left₀ left = left
 
 pub main_spec : {M : Type 1} → statement M

@@ -4,14 +4,14 @@ use Rattle.std.proofs.Common.{rules}
 use Rattle.message_vectors.proofs.print_extensions.Statement.{statement}
 use Rattle.message_vectors.proofs.print_extensions.Tie as tie
 
-abbrev invariant-loop : tie.invariant-loop
+abbrev invariant-loop : tie.invariant-loop-left
 invariant-loop block at₀ left₀ at left = Unit
 
-abbrev decreases-loop : tie.decreases-loop
+abbrev decreases-loop : tie.decreases-loop-left
 decreases-loop block at₀ left₀ at left = left
 
-pub print-extensions-spec : {M : Type 1} → statement M
-print-extensions-spec =
+pub print_extensions_spec : {M : Type 1} → statement M
+print_extensions_spec =
     tie.close
     (tie.spec
     invariant-loop

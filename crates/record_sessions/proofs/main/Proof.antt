@@ -7,22 +7,22 @@ use borrow.Author.Rules.{rules}
 use Rattle.record_sessions.proofs.main.Statement.{statement}
 use Rattle.record_sessions.proofs.main.Tie as tie
 
-abbrev invariant-loop : tie.invariant-loop
+abbrev invariant-loop : tie.invariant-loop-calls
 invariant-loop table₀ starts₀ memory₀ sizes₀ c₀ calls₀ table starts memory sizes c calls =
     (calls ≤ 65536) × (length table ≡ 70000) × (length starts ≡ 257) × (length memory ≡ 16384)
 
-abbrev decreases-loop : tie.decreases-loop
+abbrev decreases-loop : tie.decreases-loop-calls
 decreases-loop table₀ starts₀ memory₀ sizes₀ c₀ calls₀ table starts memory sizes c calls = 65536 - calls
 
 -- What the loop's test says is named: a connection has so many fields that a search alone does not come as far back.
-add-calls : tie.Need-overflow-add-calls invariant-loop decreases-loop
-add-calls c = search (rules, c.before.before.before.before.before.before.before.before.before.before.before.before.loop-test.true)
+add-calls : tie.Need-overflow_add-calls invariant-loop decreases-loop
+add-calls c = search (rules, c.loop-calls-test.true)
 
-loop-less : tie.Need-loop-smaller invariant-loop decreases-loop
-loop-less c = search (rules, c.before.before.before.before.before.before.before.before.before.before.before.before.loop-test.true)
+loop-less : tie.Need-loop-calls-smaller invariant-loop decreases-loop
+loop-less c = search (rules, c.loop-calls-test.true)
 
-loop-again : tie.Need-loop-preserved invariant-loop decreases-loop
-loop-again c = search (rules, c.before.before.before.before.before.before.before.before.before.before.before.before.loop-test.true)
+loop-again : tie.Need-loop-calls-preserved invariant-loop decreases-loop
+loop-again c = search (rules, c.loop-calls-test.true)
 
 pub main_spec : {M : Type 1} → statement M
 main_spec =

@@ -7,11 +7,11 @@ use borrow.Author.Rules.{rules}
 use Rattle.table_vectors.proofs.call.Statement.{statement}
 use Rattle.table_vectors.proofs.call.Tie as tie
 
-slice-aggregate-second : tie.Need-slice-aggregate-second
+slice-aggregate-second : tie.Need-slice_bounds-second-end
 slice-aggregate-second c = sym (length-take-le _ _ (omega arith))
 
-pub call-spec : {M : Type 1} → statement M
-call-spec =
+pub call_spec : {M : Type 1} → statement M
+call_spec =
     tie.close
     (tie.spec
     (λ c κs. search rules)

@@ -6,14 +6,14 @@ use borrow.Author.Rules.{rules}
 use Rattle.table_vectors.proofs.print_starts.Statement.{statement}
 use Rattle.table_vectors.proofs.print_starts.Tie as tie
 
-abbrev invariant-loop : tie.invariant-loop
+abbrev invariant-loop : tie.invariant-loop-i
 invariant-loop starts i₀ i = i ≤ length starts
 
-abbrev decreases-loop : tie.decreases-loop
+abbrev decreases-loop : tie.decreases-loop-i
 decreases-loop starts i₀ i = length starts - i
 
-pub print-starts-spec : {M : Type 1} → statement M
-print-starts-spec =
+pub print_starts_spec : {M : Type 1} → statement M
+print_starts_spec =
     tie.close
     (tie.spec
     invariant-loop

@@ -8,20 +8,20 @@ use borrow.Author.Rules.{rules}
 use Rattle.table_vectors.proofs.read_list.Statement.{statement}
 use Rattle.table_vectors.proofs.read_list.Tie as tie
 
-abbrev invariant-loop : tie.invariant-loop
+abbrev invariant-loop : tie.invariant-loop-i
 invariant-loop starts₀ i₀ starts i = (i ≤ length starts) × (length starts ≡ length starts₀)
 
-abbrev decreases-loop : tie.decreases-loop
+abbrev decreases-loop : tie.decreases-loop-i
 decreases-loop starts₀ i₀ starts i = length starts - i
 
-loop-less : tie.Need-loop-smaller invariant-loop decreases-loop
+loop-less : tie.Need-loop-i-smaller invariant-loop decreases-loop
 loop-less c = simp length-set (omega arith)
 
-loop-again : tie.Need-loop-preserved invariant-loop decreases-loop
+loop-again : tie.Need-loop-i-preserved invariant-loop decreases-loop
 loop-again c = (simp length-set (omega arith), simp length-set (omega arith))
 
-pub read-list-spec : {M : Type 1} → statement M
-read-list-spec =
+pub read_list_spec : {M : Type 1} → statement M
+read_list_spec =
     tie.close
     (tie.spec
     invariant-loop
