@@ -96,7 +96,8 @@ module _ (s : Settings) (ok : acceptable s ≡ true) where
 
   run-stands : {c : Connection} (calls xs : List Call) → Stands s ok calls c → Stands s ok (calls ++ xs) (run c xs)
   run-stands calls [] stands = rw append-nil stands
-  run-stands calls (x ∷ xs) stands = rw (append_assoc calls (x ∷ []) xs) at (run-stands (calls ++ (x ∷ [])) xs (stands_on s ok calls x stands))
+  run-stands {c = c} calls (x ∷ xs) stands =
+      rw (append_assoc calls (x ∷ []) xs) at (run-stands {c = (call c x).next} (calls ++ (x ∷ [])) xs (stands_on s ok calls x stands))
 
   complete-came-right : {calls : List Call} {c : Connection} → Stands s ok calls c → IsComplete c.phase → CameRight s calls
   unfolding started

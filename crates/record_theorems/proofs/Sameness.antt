@@ -76,7 +76,7 @@ module _ (s : Settings) (hide : rule_of s.named ≡ Rule.Hide) (Set : List ℕ �
   beyond-on : (calls : List Call) (x : Call) (k : Kept) → Beyond k.connection.handshake.phase → Goes s Set v v' calls x k k
   beyond-on calls x k past =
       let both = beyond-same v v' k x past in
-      goes s Set v v' calls x (ap seen both.0) (same-beyond past refl) (λ comes. same-beyond both.1 (ap (λ (d : Done). d.kept) both.0))
+      goes s Set v v' calls x {k = k} {k' = k} (ap seen both.0) (same-beyond past refl) (λ comes. same-beyond both.1 (ap (λ (d : Done). d.kept) both.0))
 
   module _ (calls : List Call) (bytes : List ℕ) (k : Kept) (stands : StandsPlain s v calls bytes k) (stands' : StandsPlain s v' calls bytes k) where
     plain-same : (x : Call) → call v k x ≡ call v' k x → Goes s Set v v' calls x k k

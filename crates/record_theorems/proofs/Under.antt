@@ -217,8 +217,8 @@ module _ (s : Settings) (v : View) {first : List Call} (began : ChangeCame s fir
         abbrev Then : Type 0
         Then = AfterUnder s v began (calls ++ (x ∷ [])) (call v k x).kept
 
-        one_more : n + 1 ≡ length (calls ++ (x ∷ []))
-        one_more = omega (arith, length-append calls (x ∷ []))
+        one-more : n + 1 ≡ length (calls ++ (x ∷ []))
+        one-more = omega (arith, length-append calls (x ∷ []))
 
         module _ (key : List ℕ) (listed : v.lookup (named s began) ≡ some key) where
           not-unlisted : v.lookup (named s began) ≡ none → calls ++ (x ∷ []) ≡ []
@@ -237,7 +237,7 @@ module _ (s : Settings) (v : View) {first : List Call} (began : ChangeCame s fir
               go : Finishing s v began.legal_hello began.exchange (v.lookup (named s began)) (bytes ++ (d ∷ ds)) → Then
               go (waits short e) =
                   let now : At s v began (n + 1) (bytes ++ (d ∷ ds)) (call v k x).kept = waits-on key listed comes sealed short e in
-                  still (record { bytes = bytes ++ (d ∷ ds); protected = joined; at = rw one_more at now; unlisted = not-unlisted })
+                  still (record { bytes = bytes ++ (d ∷ ds); protected = joined; at = rw one-more at now; unlisted = not-unlisted })
               go (completes right p over e) = finishes (bytes ++ (d ∷ ds)) joined right
               go (refused r told e) = closes (refused-on key listed comes sealed (of-told told) e)
                 where
@@ -250,7 +250,7 @@ module _ (s : Settings) (v : View) {first : List Call} (began : ChangeCame s fir
               let now : At s v began (n + 1) bytes (call v k x).kept = warned key listed comes sealed ignored in
               let joined : Sealed (mac_key s v began) 0 (calls ++ (x ∷ [])) (bytes ++ []) =
               sealed-append protected (rw numbered (warning ignored sealed nothing-sealed)) in
-              still (record { bytes = bytes; protected = rw append-nil at joined; at = rw one_more at now; unlisted = not-unlisted })
+              still (record { bytes = bytes; protected = rw append-nil at joined; at = rw one-more at now; unlisted = not-unlisted })
 
           of-alert : (content : List ℕ) → SealedRecord (mac_key s v began) n ContentType.Alert content x → Then
           of-alert content sealed = of_length (eqb (length content) 2) refl (heard (get_or content 0 0) (get_or content 1 0)) refl

@@ -101,7 +101,8 @@ module _ (s : Settings) (v : View) (ok : acceptable s ≡ true) where
 
   run-stands : {c : Connection} (calls xs : List Call) → Stands s v calls c → Stands s v (calls ++ xs) (run v c xs)
   run-stands calls [] stands = rw append-nil stands
-  run-stands calls (x ∷ xs) stands = rw (append_assoc calls (x ∷ []) xs) at (run-stands (calls ++ (x ∷ [])) xs (stands_on s v ok calls x stands))
+  run-stands {c = c} calls (x ∷ xs) stands =
+      rw (append_assoc calls (x ∷ []) xs) at (run-stands {c = (call v c x).next} (calls ++ (x ∷ [])) xs (stands_on s v ok calls x stands))
 
   complete-came-right : {calls : List Call} {c : Connection} → Stands s v calls c → IsComplete c.phase → CameRight s v calls
   unfolding started
