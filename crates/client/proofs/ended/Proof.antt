@@ -5,7 +5,7 @@ use Rattle.client.proofs.ended.Statement.{statement}
 use Rattle.client.proofs.ended.Tie as tie
 
 returns : tie.Need-returns
-returns c = rw (c.new.ensures, c.before.nothing_said.ensures, c.before.before.no-setup.ensures)
+returns c = rw (c.new-transcript.ensures, c.nothing_said-server.ensures, c.no_setup-setup.ensures)
 
-pub ended-spec : {M : Type 1} → statement M
-ended-spec = tie.close (tie.spec (λ c κs. search rules) (λ c κs. search rules) (λ c κs. search rules) returns)
+pub ended_spec : {M : Type 1} → statement M
+ended_spec = tie.close (tie.spec (λ c κs. search rules) (λ c κs. search rules) (λ c κs. search rules) returns)

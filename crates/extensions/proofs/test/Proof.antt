@@ -13,34 +13,34 @@ use Rattle.extensions.proofs.Flags.{part_ruled, Passed, pass-holds, pass-fails, 
 use Rattle.extensions.proofs.test.Statement.{statement}
 use Rattle.extensions.proofs.test.Tie as tie
 
-abbrev invariant-loop : tie.invariant-loop
+abbrev invariant-loop : tie.invariant-loop-part
 invariant-loop block part₀ part = (part ≤ 8) × ((p : ℕ) → p < part → part_ruled p (extensions_in block) ≡ true)
 
-abbrev decreases-loop : tie.decreases-loop
+abbrev decreases-loop : tie.decreases-loop-part
 decreases-loop block part₀ part = 8 - part
 
-loop-holds : tie.Need-loop-init invariant-loop decreases-loop
+loop-holds : tie.Need-loop-part-init invariant-loop decreases-loop
 loop-holds c = (zero-le, λ p h. absurd (omega arith))
 
 -- a turn's start, its block, and what the pass of its part says
 abbrev Turn : Type 0
-Turn = tie.At-loop invariant-loop decreases-loop
+Turn = tie.At-loop-part invariant-loop decreases-loop
 
 abbrev block : Turn → List ℕ
 block l = l.before.before.args.block.now
 
-abbrev turn : tie.After-known-told invariant-loop decreases-loop → Turn
+abbrev turn : tie.In-Holds invariant-loop decreases-loop → Turn
 turn c = c.before.before.before.before.before
 
-passed : (c : tie.After-known-told invariant-loop decreases-loop)
-    → Passed (turn c).loop.part c.before.nearest.given.0.0 (extensions_in (block (turn c)))
+passed : (c : tie.In-Holds invariant-loop decreases-loop)
+    → Passed (turn c).loop.part c.in-Holds.nearest (extensions_in (block (turn c)))
 passed c =
-    pass-holds _ _ _ (omega arith) (sym c.before.before.before.test-part.ensures ∙ c.before.nearest.given.1)
+    pass-holds _ _ _ (omega arith) (sym c.test_part.ensures ∙ c.in-Holds.is)
 
-loop-less : tie.Need-loop-smaller invariant-loop decreases-loop
+loop-less : tie.Need-loop-part-smaller invariant-loop decreases-loop
 loop-less c = omega (arith, passed c)
 
-loop-again : tie.Need-loop-preserved invariant-loop decreases-loop
+loop-again : tie.Need-loop-part-preserved invariant-loop decreases-loop
 loop-again c = (
   (passed c).inside,
   λ p h. elim (dec_lt p (turn c).loop.part) [
@@ -49,19 +49,17 @@ loop-again c = (
   ],
 )
 
-returns : tie.Need-returns invariant-loop decreases-loop
+returns : tie.Need-returns-in-Fails invariant-loop decreases-loop
 returns c =
-    let l = c.before.before.before.before in
-    sym (pass-fails l.loop.part (extensions_in (block l)) (sym c.before.before.test-part.ensures ∙ c.enum_told.given.1))
+    sym (pass-fails c.loop-part.part (extensions_in (block c)) (sym c.test_part.ensures ∙ c.in-Fails.is))
 
-returns-2 : tie.Need-returns-2 invariant-loop decreases-loop
+returns-2 : tie.Need-returns invariant-loop decreases-loop
 returns-2 c =
-    let l = c.before in
-    let bytes : Bytes (block l) = λ i. omega (arith, l.before.shared-slice-known.given i) in
-    sym (parts-ruled (block l) (extensions_in (block l)) bytes refl (λ p h. l.loop.invariant.1 p (omega arith)))
+    let bytes : Bytes (block c) = λ i. omega (arith, c.shared_slice_known-1.given i) in
+    sym (parts-ruled (block c) (extensions_in (block c)) bytes refl (λ p h. c.loop-part.invariant.1 p (omega arith)))
 
-pub test-spec : {M : Type 1} → statement M
-test-spec =
+pub test_spec : {M : Type 1} → statement M
+test_spec =
     tie.close
     (tie.spec
     invariant-loop

@@ -10,5 +10,5 @@ use Rattle.extensions.proofs.with_bit.Tie as tie
 returns : tie.Need-returns
 returns c = ap (bit_or c.args.word) (shifted_one c.args.bit 64 c.requires.0) ∙ joined-clear c.args.word c.args.bit c.requires.1
 
-pub with-bit-spec : {M : Type 1} → statement M
-with-bit-spec = tie.close (tie.spec (λ c. search rules) returns)
+pub with_bit_spec : {M : Type 1} → statement M
+with_bit_spec = tie.close (tie.spec (λ c. search rules) returns)

@@ -11,25 +11,22 @@ use borrow.Author.Rules.{rules}
 use Rattle.extensions.proofs.write.Statement.{statement}
 use Rattle.extensions.proofs.write.Tie as tie
 
-returns : tie.Need-returns
+returns : tie.Need-returns-then-kind-gt65535
 returns c =
-    let a = c.before.before.before.args in
+    let a = c.args in
     rw (le-ltb a.kind 65536 (omega arith)) (refuses-answers BadValue a.out.now)
 
-returns-2 : tie.Need-returns-2
+returns-2 : tie.Need-returns-then-contents-gt65535
 returns-2 c =
-    let a = c.before.before.before.before.args in
+    let a = c.args in
     rw (le-ltb (length a.contents.now) (256 ^ 2) (omega arith), and-false) (refuses-answers BadValue a.out.now)
 
-returns-3 : tie.Need-returns-3
+returns-3 : tie.Need-returns
 returns-3 c =
-    let at_size = c.before.before.before.before.before in
-    let at-number = at_size.before in
-    let tests = at-number.before in
-    let a = tests.before.before.before.before.args in
+    let a = c.args in
     let xs = a.contents.now in
     rw (lt-ltb a.kind 65536 (omega arith), lt-ltb (length xs) (256 ^ 2) (omega arith))
-    (rw (at-number.bytes16.ensures, at_size.bytes162.ensures) at c.before.before.two.ensures)
+    (rw (c.bytes16-number.ensures, c.bytes16-size.ensures) at c.two.ensures)
 
 pub write_spec : {M : Type 1} → statement M
 write_spec =

@@ -7,22 +7,19 @@ use borrow.Author.Rules.{rules}
 use Rattle.handshake.proofs.is_value.Statement.{statement}
 use Rattle.handshake.proofs.is_value.Tie as tie
 
-returns : tie.Need-returns
+returns : tie.Need-returns-in-Wrote
 returns c =
-    let told = c.before.before in
-    let at_value = told.before.before.before in
-    let args = at_value.before.before.before.before.args in
-    let expected = sized-gives _ (finished-of-sized args.side args.master.now args.transcript) refl at_value.finished-of.ensures told.enum_told.given.1 in
+    let args = c.args in
+    let expected = sized-gives _ (finished-of-sized args.side args.master.now args.transcript) refl c.finished_of.ensures c.in-Wrote.is in
     rw expected c.same.ensures
 
-returns-2 : tie.Need-returns-2
+returns-2 : tie.Need-returns-in-Refused
 returns-2 c =
-    let at_value = c.before.before.before in
-    let args = at_value.before.before.before.before.args in
-    rw (sized-refuses _ (finished-of-sized args.side args.master.now args.transcript) refl at_value.finished-of.ensures c.enum-told2.given.1)
+    let args = c.args in
+    rw (sized-refuses _ (finished-of-sized args.side args.master.now args.transcript) refl c.finished_of.ensures c.in-Refused.is)
 
-pub is-value-spec : {M : Type 1} → statement M
-is-value-spec =
+pub is_value_spec : {M : Type 1} → statement M
+is_value_spec =
     tie.close
     (tie.spec
     (λ c. search rules)

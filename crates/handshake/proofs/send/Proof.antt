@@ -13,25 +13,20 @@ use Rattle.handshake.proofs.send.Tie as tie
 array : (c : tie.Start) → length c.args.outgoing.bytes ≡ longest
 array c = search rules
 
-within : tie.Need-array-share-prefix-bytes
+within : tie.Need-slice_bounds-bytes-end
 within c =
-    let start = c.before.before.before in
-    omega (arith, c.size.ensures, size-most start.args.outgoing, array start)
+    omega (arith, c.size-n.ensures, size-most c.args.outgoing, array c.before.before.before)
 
-slice-aggregate-put : tie.Need-slice-aggregate-put
+slice-aggregate-put : tie.Need-slice_bounds-put-end
 slice-aggregate-put c =
-    let at_size = c.before in
-    sym (length-take-le at_size.size.result at_size.before.before.before.args.outgoing.bytes (within at_size))
+    sym (length-take-le c.size-n.result c.args.outgoing.bytes (within c.before))
 
 returns : tie.Need-returns
 returns c =
-    let at-put = c.before.before in
-    let at_size = at-put.before.before.before in
-    let start = at_size.before.before.before in
-    rw (flight-bytes start.args.outgoing, ← size-taken start.args.outgoing (array start), ← at_size.size.ensures) at-put.put.ensures
+    rw (flight-bytes c.args.outgoing, ← size-taken c.args.outgoing (array c.before.before.before.before.before.before.before.before), ← c.size-n.ensures) c.put.ensures
 
-pub send-spec : {M : Type 1} → statement M
-send-spec =
+pub send_spec : {M : Type 1} → statement M
+send_spec =
     tie.close
     (tie.spec
     (λ c κs. search rules)

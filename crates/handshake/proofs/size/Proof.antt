@@ -13,38 +13,34 @@ use Rattle.handshake.proofs.size.Statement.{statement}
 use Rattle.handshake.proofs.size.Tie as tie
 
 three : (c : tie.Start) → length c.args.outgoing.lengths ≡ 3
-three c = search (rules, c.well-formed)
+three c = search (rules, c.well_formed)
 
-returns : tie.Need-returns
+returns : tie.Need-returns-then-first-gt180
 returns c =
-    let start = c.before.before in
-    let ns = start.args.outgoing.lengths in
-    let many : longest < total ns = omega (arith, total-three ns (three start), c.if1.true) in
+    let ns = c.args.outgoing.lengths in
+    let many : longest < total ns = omega (arith, total-three ns (three c.before.before), c.if-first-gt180.true) in
     rw (lt-leb (total ns) longest many)
 
-returns-2 : tie.Need-returns-2
+returns-2 : tie.Need-returns-then-first-second
 returns-2 c =
-    let start = c.before.before.before in
-    let ns = start.args.outgoing.lengths in
-    let many : longest < total ns = omega (arith, total-three ns (three start), c.if2.true, c.before.if1.false) in
+    let ns = c.args.outgoing.lengths in
+    let many : longest < total ns = omega (arith, total-three ns (three c.before.before.before), c.if-first-second.true, c.if-first-gt180.false) in
     rw (lt-leb (total ns) longest many)
 
-returns-3 : tie.Need-returns-3
+returns-3 : tie.Need-returns-then-first-second-2
 returns-3 c =
-    let start = c.before.before.before.before in
-    let ns = start.args.outgoing.lengths in
-    let many : longest < total ns = omega (arith, total-three ns (three start), c.if3.true, c.before.if2.false, c.before.before.if1.false) in
+    let ns = c.args.outgoing.lengths in
+    let many : longest < total ns = omega (arith, total-three ns (three c.before.before.before.before), c.if-first-second-2.true, c.if-first-second.false, c.if-first-gt180.false) in
     rw (lt-leb (total ns) longest many)
 
-returns-4 : tie.Need-returns-4
+returns-4 : tie.Need-returns
 returns-4 c =
-    let start = c.before.before.before.before in
-    let ns = start.args.outgoing.lengths in
-    let few : total ns ≤ longest = omega (arith, total-three ns (three start), c.if3.false, c.before.if2.false, c.before.before.if1.false) in
-    rw (le-leb (total ns) longest few, total-three ns (three start))
+    let ns = c.args.outgoing.lengths in
+    let few : total ns ≤ longest = omega (arith, total-three ns (three c.before.before.before.before), c.if-first-second-2.false, c.if-first-second.false, c.if-first-gt180.false) in
+    rw (le-leb (total ns) longest few, total-three ns (three c.before.before.before.before))
 
-pub size-spec : {M : Type 1} → statement M
-size-spec =
+pub size_spec : {M : Type 1} → statement M
+size_spec =
     tie.close
     (tie.spec
     (λ c. search rules)

@@ -6,18 +6,16 @@ use borrow.Author.Rules.{rules}
 use Rattle.handshake.proofs.test_header.Statement.{statement}
 use Rattle.handshake.proofs.test_header.Tie as tie
 
-returns : tie.Need-returns
+returns : tie.Need-returns-then-m-lt4
 returns c =
-    let told = c.before in
-    rw (told.enum_told.given.1, lt-ltb (length told.before.before.before.args.m.now) 4 c.if1.true)
+    rw (c.in-Nothing.is, lt-ltb (length c.args.m.now) 4 c.if-m-lt4.true)
 
-returns-2 : tie.Need-returns-2
-returns-2 c = rw c.before.before.awaited.given.1 c.test.ensures
+returns-2 : tie.Need-returns-in-Message
+returns-2 c = rw c.in-Message.is c.test.ensures
 
-returns-3 : tie.Need-returns-3
+returns-3 : tie.Need-returns-else-m-lt4
 returns-3 c =
-    let told = c.before in
-    rw (told.enum_told.given.1, le-ltb (length told.before.before.before.args.m.now) 4 c.if1.false)
+    rw (c.in-Nothing.is, le-ltb (length c.args.m.now) 4 c.if-m-lt4.false)
 
-pub test-header-spec : {M : Type 1} → statement M
-test-header-spec = tie.close (tie.spec (λ c. search rules) (λ c κs. search rules) (λ c. search rules) returns returns-2 returns-3)
+pub test_header_spec : {M : Type 1} → statement M
+test_header_spec = tie.close (tie.spec (λ c. search rules) (λ c κs. search rules) (λ c. search rules) returns returns-2 returns-3)

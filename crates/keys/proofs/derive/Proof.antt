@@ -12,34 +12,31 @@ use borrow.Author.Rules.{rules}
 use Rattle.keys.proofs.derive.Statement.{statement}
 use Rattle.keys.proofs.derive.Tie as tie
 
-returns : tie.Need-returns
+returns : tie.Need-returns-then-secret-gt65536
 unfolding prf
-returns c = (simp (lt-leb _ _ c.before.if1.true) (refused-answers c.report.ensures), refused-counts c.report.ensures _)
+returns c = (simp (lt-leb _ _ c.if-secret-gt65536.true) (refused-answers c.report.ensures), refused-counts c.report.ensures _)
 
-returns-2 : tie.Need-returns-2
+returns-2 : tie.Need-returns-then-seed-gt65536
 unfolding prf
-returns-2 c = (simp (lt-leb _ _ c.before.if2.true, and-false) (refused-answers c.report2.ensures), refused-counts c.report2.ensures _)
+returns-2 c = (simp (lt-leb _ _ c.if-seed-gt65536.true, and-false) (refused-answers c.report-then-seed-gt65536.ensures), refused-counts c.report-then-seed-gt65536.ensures _)
 
-slice-aggregate-put : tie.Need-slice-aggregate-put
+slice-aggregate-put : tie.Need-slice_bounds-put-end
 slice-aggregate-put c =
-    let buffer = c.before.before.expand-afresh.new.1.1.1.1.0 in
+    let buffer = c.expand_afresh-blocks.new.buffer in
     let size : length buffer ≡ 64 = search rules in
     sym (length-take-le 48 buffer (omega arith))
 
-returns-3 : tie.Need-returns-3
+returns-3 : tie.Need-returns
 unfolding prf
 returns-3 c =
-    let at-put = c.before.before.before in
-    let at-expand = at-put.before.before.before.before in
-    let tests = at-expand.before.before in
-    let told = c.report3.ensures in (
-      simp (le-leb _ _ tests.before.if1.false, le-leb _ _ tests.if2.false)
-          (rw (at-expand.expand-afresh.ensures.0, ← told.0) at at-put.put.ensures),
-      told.1 ∙ rw (told.0, at-expand.expand-afresh.ensures.1),
+    let told = c.report-2.ensures in (
+      simp (le-leb _ _ c.if-secret-gt65536.false, le-leb _ _ c.if-seed-gt65536.false)
+          (rw (c.expand_afresh-blocks.ensures.0, ← told.0) at c.put.ensures),
+      told.1 ∙ rw (told.0, c.expand_afresh-blocks.ensures.1),
     )
 
-pub derive-spec : {M : Type 1} → statement M
-derive-spec =
+pub derive_spec : {M : Type 1} → statement M
+derive_spec =
     tie.close
     (tie.spec
     (λ c κs. search rules)

@@ -7,19 +7,17 @@ use borrow.Author.Rules.{rules}
 use Rattle.keys.proofs.finished_of.Statement.{statement}
 use Rattle.keys.proofs.finished_of.Tie as tie
 
-returns : tie.Need-returns
+returns : tie.Need-returns-in-Wrote
 returns c =
-    let told = c.before.before.before.before.before in
-    rw (sized-gives _ (hash-sized _) refl told.before.before.before.hash-of.ensures told.enum_told.given.1)
-    c.before.before.finished.ensures
+    rw (sized-gives _ (hash-sized _) refl c.hash_of.ensures c.in-Wrote.is)
+    c.finished.ensures
 
-returns-2 : tie.Need-returns-2
+returns-2 : tie.Need-returns-in-Refused
 returns-2 c =
-    let at-r = c.before in
-    rw (sized-refuses _ (hash-sized _) refl at-r.before.before.before.hash-of.ensures at-r.r.given.1) (refuses-answers _ _)
+    rw (sized-refuses _ (hash-sized _) refl c.hash_of.ensures c.in-Refused.is) (refuses-answers _ _)
 
-pub finished-of-spec : {M : Type 1} → statement M
-finished-of-spec =
+pub finished_of_spec : {M : Type 1} → statement M
+finished_of_spec =
     tie.close
     (tie.spec
     (λ c. search rules)

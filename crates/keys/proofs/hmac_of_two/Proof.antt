@@ -16,7 +16,7 @@ use borrow.Author.Rules.{rules}
 use Rattle.keys.proofs.hmac_of_two.Statement.{statement}
 use Rattle.keys.proofs.hmac_of_two.Tie as tie
 
-abbrev entry : tie.After-slice-known → tie.Start
+abbrev entry : tie.After-slice_known-1 → tie.Start
 entry c = c.before.before.before.before
 
 abbrev message : tie.Start → List ℕ
@@ -25,40 +25,36 @@ message c = c.args.first.now ++ c.args.second.now
 size : (c : tie.Start) → length (message c) ≡ length c.args.first.now + length c.args.second.now
 size c = length-append c.args.first.now c.args.second.now
 
-returns : tie.Need-returns
+returns : tie.Need-returns-then-first-gt-MESSAGE_LIMIT
 unfolding hmac
 returns c =
     let long : 0x1fffffffffffffbf < length (message (entry c.before)) = omega (arith, size (entry c.before)) in
     simp (lt-leb _ _ long) (refuses-answers _ _)
 
-returns-2 : tie.Need-returns-2
+returns-2 : tie.Need-returns-then-first-second
 unfolding hmac
 returns-2 c =
     let start = entry c.before.before in
     let long : 0x1fffffffffffffbf < length (message start) = omega (arith, size start) in
     simp (lt-leb _ _ long) (refuses-answers _ _)
 
-returns-3 : tie.Need-returns-3
+returns-3 : tie.Need-returns-then-key-gt-KEY_LIMIT
 unfolding hmac
-returns-3 c = simp (lt-leb _ _ c.if3.true, and-false) (refuses-answers _ _)
+returns-3 c = simp (lt-leb _ _ c.if-key-gt-KEY_LIMIT.true, and-false) (refuses-answers _ _)
 
-returns-4 : tie.Need-returns-4
+returns-4 : tie.Need-returns
 unfolding hmac
 returns-4 c =
-    let at_value = c.before.before.before.before.before.before in
-    let at_first = at_value.before.before in
-    let at_under = at_first.before.before in
-    let tests = at_under.before in
-    let start = entry tests.before.before.before in
+    let start = entry c.before.before.before.before.before.before.before.before.before.before.before.before.before.before.before in
     let fits : length (message start) ≤ 0x1fffffffffffffbf = omega (arith, size start) in
-    let begun = at_under.under.result.inner in
-    let whole : at_value.before.update2.result ≡ absorb begun (message start) =
-    at_value.before.update2.ensures ∙ rw at_first.update.ensures (sym (absorb-append begun start.args.first.now start.args.second.now)) in
-    let made = ends at_under.under.ensures.0 whole fits at_value.end.ensures.0 in
-    simp (le-leb _ _ fits, le-leb _ _ tests.if3.false) (rw made.value at c.before.before.put.ensures)
+    let begun = c.under-k.result.inner in
+    let whole : c.update-2.result ≡ absorb begun (message start) =
+    c.update-2.ensures ∙ rw c.update.ensures (sym (absorb-append begun start.args.first.now start.args.second.now)) in
+    let made = ends c.under-k.ensures.0 whole fits c.end-done.ensures.0 in
+    simp (le-leb _ _ fits, le-leb _ _ c.if-key-gt-KEY_LIMIT.false) (rw made.value at c.put.ensures)
 
-pub hmac-of-two-spec : {M : Type 1} → statement M
-hmac-of-two-spec =
+pub hmac_of_two_spec : {M : Type 1} → statement M
+hmac_of_two_spec =
     tie.close
     (tie.spec
     returns

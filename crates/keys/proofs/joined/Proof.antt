@@ -9,15 +9,13 @@ use Rattle.keys.proofs.joined.Tie as tie
 
 returns : tie.Need-returns
 returns c =
-    let at_first = c.before.before.before.before in
-    let start = at_first.before.before.before.before in
-    let one : length start.args.first.now ≡ 32 = start.requires.0 in
-    let two : length start.args.second.now ≡ 32 = start.requires.1 in
-    let all : take 64 c.before.append2.new.0 ≡ c.before.append2.new.0 = take_all 64 _ (search rules) in
-    sym all ∙ (rw two at c.before.append2.ensures) ∙ rw (rw one at at_first.append.ensures)
+    let one : length c.args.first.now ≡ 32 = c.requires.0 in
+    let two : length c.args.second.now ≡ 32 = c.requires.1 in
+    let all : take 64 c.append-2.new.buffer ≡ c.append-2.new.buffer = take_all 64 _ (search rules) in
+    sym all ∙ (rw two at c.append-2.ensures) ∙ rw (rw one at c.append.ensures)
 
-pub joined-spec : {M : Type 1} → statement M
-joined-spec =
+pub joined_spec : {M : Type 1} → statement M
+joined_spec =
     tie.close
     (tie.spec
     (λ c. search rules)

@@ -8,40 +8,37 @@ use borrow.Author.Rules.{rules}
 use Rattle.keys.proofs.key_block.Statement.{statement}
 use Rattle.keys.proofs.key_block.Tie as tie
 
-returns : tie.Need-returns
+returns : tie.Need-returns-then-master-ne48
 unfolding keys
-returns c = simp (ne_eqb _ _ c.if1.true) (refuses-answers _ _)
+returns c = simp (ne_eqb _ _ c.if-master-ne48.true) (refuses-answers _ _)
 
-returns-2 : tie.Need-returns-2
+returns-2 : tie.Need-returns-then-n-lt1
 unfolding keys
-returns-2 c = simp (lt-leb _ _ (rw c.before.key-block-length.ensures at c.if2.true), and-false) (refuses-answers _ _)
+returns-2 c = simp (lt-leb _ _ (rw c.key_block_length-n.ensures at c.if-n-lt1.true), and-false) (refuses-answers _ _)
 
-returns-3 : tie.Need-returns-3
+returns-3 : tie.Need-returns-then-server-ne32
 unfolding keys
-returns-3 c = simp (ne_eqb _ _ c.if3.true, and-false) (refuses-answers _ _)
+returns-3 c = simp (ne_eqb _ _ c.if-server-ne32.true, and-false) (refuses-answers _ _)
 
-returns-4 : tie.Need-returns-4
+returns-4 : tie.Need-returns-then-client-ne32
 unfolding keys
-returns-4 c = simp (ne_eqb _ _ c.if4.true, and-false) (refuses-answers _ _)
+returns-4 c = simp (ne_eqb _ _ c.if-client-ne32.true, and-false) (refuses-answers _ _)
 
-returns-5 : tie.Need-returns-5
+returns-5 : tie.Need-returns
 unfolding keys
 returns-5 c =
-    let at_joined = c.before.before.before.before.before in
-    let tests = at_joined.before in
-    let at_length = tests.before.before.before in
-    let size = at_length.key-block-length.ensures in
+    let size = c.key_block_length-n.ensures in
     simp (
-      eq-eqb _ _ at_length.before.if1.false,
-      eq-eqb _ _ tests.before.if3.false,
-      eq-eqb _ _ tests.if4.false,
-      le-leb _ _ (rw size at tests.before.before.if2.false),
+      eq-eqb _ _ c.if-master-ne48.false,
+      eq-eqb _ _ c.if-server-ne32.false,
+      eq-eqb _ _ c.if-client-ne32.false,
+      le-leb _ _ (rw size at c.if-n-lt1.false),
       and-true,
     )
-    (rw (size, at_joined.joined.ensures) at c.before.before.prf.ensures)
+    (rw (size, c.joined-seed.ensures) at c.prf.ensures)
 
-pub key-block-spec : {M : Type 1} → statement M
-key-block-spec =
+pub key_block_spec : {M : Type 1} → statement M
+key_block_spec =
     tie.close
     (tie.spec
     returns

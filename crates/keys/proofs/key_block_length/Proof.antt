@@ -4,17 +4,17 @@ use borrow.Author.Tests.{eq-eqb, ne_eqb}
 use Rattle.keys.proofs.key_block_length.Statement.{statement}
 use Rattle.keys.proofs.key_block_length.Tie as tie
 
-returns : tie.Need-returns
-returns c = rw (eq-eqb _ _ c.if1.true)
+returns : tie.Need-returns-then-suite-eq174
+returns c = rw (eq-eqb _ _ c.if-suite-eq174.true)
 
-returns-2 : tie.Need-returns-2
-returns-2 c = rw (ne_eqb _ _ c.before.if1.false, eq-eqb _ _ c.if2.true)
+returns-2 : tie.Need-returns-then-suite-eq140
+returns-2 c = rw (ne_eqb _ _ c.if-suite-eq174.false, eq-eqb _ _ c.if-suite-eq140.true)
 
-returns-3 : tie.Need-returns-3
-returns-3 c = rw (ne_eqb _ _ c.before.before.if1.false, ne_eqb _ _ c.before.if2.false, eq-eqb _ _ c.if3.true)
+returns-3 : tie.Need-returns-then-suite-eq176
+returns-3 c = rw (ne_eqb _ _ c.if-suite-eq174.false, ne_eqb _ _ c.if-suite-eq140.false, eq-eqb _ _ c.if-suite-eq176.true)
 
-returns-4 : tie.Need-returns-4
-returns-4 c = rw (ne_eqb _ _ c.before.before.if1.false, ne_eqb _ _ c.before.if2.false, ne_eqb _ _ c.if3.false)
+returns-4 : tie.Need-returns
+returns-4 c = rw (ne_eqb _ _ c.if-suite-eq174.false, ne_eqb _ _ c.if-suite-eq140.false, ne_eqb _ _ c.if-suite-eq176.false)
 
-pub key-block-length-spec : {M : Type 1} → statement M
-key-block-length-spec = tie.close (tie.spec returns returns-2 returns-3 returns-4)
+pub key_block_length_spec : {M : Type 1} → statement M
+key_block_length_spec = tie.close (tie.spec returns returns-2 returns-3 returns-4)

@@ -8,23 +8,22 @@ use borrow.Author.Rules.{rules}
 use Rattle.keys.proofs.master.Statement.{statement}
 use Rattle.keys.proofs.master.Tie as tie
 
-returns : tie.Need-returns
-returns c = (simp (ne_eqb _ _ c.before.if1.true) (refused-answers c.report.ensures), refused-counts c.report.ensures _)
+returns : tie.Need-returns-then-client-ne32
+returns c = (simp (ne_eqb _ _ c.if-client-ne32.true) (refused-answers c.report.ensures), refused-counts c.report.ensures _)
 
-returns-2 : tie.Need-returns-2
-returns-2 c = (simp (ne_eqb _ _ c.before.if2.true, and-false) (refused-answers c.report2.ensures), refused-counts c.report2.ensures _)
+returns-2 : tie.Need-returns-then-server-ne32
+returns-2 c = (simp (ne_eqb _ _ c.if-server-ne32.true, and-false) (refused-answers c.report-then-server-ne32.ensures), refused-counts c.report-then-server-ne32.ensures _)
 
-returns-3 : tie.Need-returns-3
+returns-3 : tie.Need-returns
 returns-3 c =
-    let made = c.before.before.derive.ensures in
-    let at_joined = c.before.before.before.before.before in
-    let tests = at_joined.before in (
-      simp (eq-eqb _ _ tests.before.if1.false, eq-eqb _ _ tests.if2.false) (rw at_joined.joined.ensures at made.0),
-      made.1 ∙ rw at_joined.joined.ensures,
+    let made = c.derive.ensures in
+    (
+      simp (eq-eqb _ _ c.if-client-ne32.false, eq-eqb _ _ c.if-server-ne32.false) (rw c.joined-seed.ensures at made.0),
+      made.1 ∙ rw c.joined-seed.ensures,
     )
 
-pub master-spec : {M : Type 1} → statement M
-master-spec =
+pub master_spec : {M : Type 1} → statement M
+master_spec =
     tie.close
     (tie.spec
     (λ c κs. search rules)

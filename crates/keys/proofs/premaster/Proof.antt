@@ -13,28 +13,26 @@ use borrow.Author.Rules.{rules}
 use Rattle.keys.proofs.premaster.Statement.{statement}
 use Rattle.keys.proofs.premaster.Tie as tie
 
-returns : tie.Need-returns
+returns : tie.Need-returns-then-n-lt1
 unfolding premaster
-returns c = simp (lt-leb _ _ c.if1.true) (refuses-answers _ _)
+returns c = simp (lt-leb _ _ c.if-n-lt1.true) (refuses-answers _ _)
 
-returns-2 : tie.Need-returns-2
+returns-2 : tie.Need-returns-then-n-gt64
 unfolding premaster
-returns-2 c = simp (lt-leb _ _ c.if2.true, and-false) (refuses-answers _ _)
+returns-2 c = simp (lt-leb _ _ c.if-n-gt64.true, and-false) (refuses-answers _ _)
 
-slice-aggregate-put : tie.Need-slice-aggregate-put
+slice-aggregate-put : tie.Need-slice_bounds-put-end
 slice-aggregate-put c =
-    let size : length c.before.premaster-bytes.result ≡ 132 = search (rules, c.before.premaster-bytes.type-inv) in
+    let size : length c.premaster_bytes-bytes.result ≡ 132 = search (rules, c.premaster_bytes-bytes.type_inv) in
     sym (length-take-le _ _ (omega arith))
 
-returns-3 : tie.Need-returns-3
+returns-3 : tie.Need-returns
 returns-3 c =
-    let at-bytes = c.before.before.before.before.before in
-    let tests = at-bytes.before in
-    rw (premaster-given _ tests.before.if1.false tests.if2.false)
-    (rw at-bytes.premaster-bytes.ensures at c.before.before.put.ensures)
+    rw (premaster-given _ c.if-n-lt1.false c.if-n-gt64.false)
+    (rw c.premaster_bytes-bytes.ensures at c.put.ensures)
 
-pub premaster-spec : {M : Type 1} → statement M
-premaster-spec =
+pub premaster_spec : {M : Type 1} → statement M
+premaster_spec =
     tie.close
     (tie.spec
     returns

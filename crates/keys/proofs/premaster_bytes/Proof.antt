@@ -11,38 +11,31 @@ use borrow.Author.Rules.{rules}
 use Rattle.keys.proofs.premaster_bytes.Statement.{statement}
 use Rattle.keys.proofs.premaster_bytes.Tie as tie
 
-slice-aggregate-append-4 : tie.Need-slice-aggregate-append-4
+slice-aggregate-append-4 : tie.Need-slice_bounds-append-end-4
 slice-aggregate-append-4 c =
-    let start = c.before.before.before.before.before.before.before.before in
-    sym (length-take-le (length start.args.psk.now) (replicate 64 0) start.requires)
+    sym (length-take-le (length c.args.psk.now) (replicate 64 0) c.requires)
 
 append-requires-2 : tie.Need-append-requires-2
 append-requires-2 c κs =
-    let start = c.before.before.before.before.before.before.before.before in
-    rw (length-take-le {a_of = ℕ} (length start.args.psk.now) (replicate 64 0) start.requires) (omega arith)
+    rw (length-take-le {a_of = ℕ} (length c.args.psk.now) (replicate 64 0) c.requires) (omega arith)
 
 returns : tie.Need-returns
 returns c =
-    let at-third = c.before.before.before.before in
-    let at_second = at-third.before.before.before.before in
-    let at_first = at_second.before.before.before.before in
-    let at_size = at_first.before.before.before in
-    let start = at_size.before.before in
-    let psk = start.args.psk.now in
-    premaster-parts psk at_size.bytes16.result (take (length psk) (replicate 64 0))
-    at_first.append.new.0
-    at_second.append2.new.0
-    at-third.append3.new.0
-    c.before.append4.new.0
-    at_size.bytes16.ensures
-    (take-replicate 64 (length psk) 0 start.requires)
-    at_first.append.ensures
-    at_second.append2.ensures
-    at-third.append3.ensures
-    c.before.append4.ensures
+    let psk = c.args.psk.now in
+    premaster-parts psk c.bytes16-size.result (take (length psk) (replicate 64 0))
+    c.append.new.buffer
+    c.append-2.new.buffer
+    c.append-3.new.buffer
+    c.append-4.new.buffer
+    c.bytes16-size.ensures
+    (take-replicate 64 (length psk) 0 c.requires)
+    c.append.ensures
+    c.append-2.ensures
+    c.append-3.ensures
+    c.append-4.ensures
 
-pub premaster-bytes-spec : {M : Type 1} → statement M
-premaster-bytes-spec =
+pub premaster_bytes_spec : {M : Type 1} → statement M
+premaster_bytes_spec =
     tie.close
     (tie.spec
     (λ c κs. search rules)

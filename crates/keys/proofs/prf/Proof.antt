@@ -12,31 +12,29 @@ use borrow.Author.Rules.{rules}
 use Rattle.keys.proofs.prf.Statement.{statement}
 use Rattle.keys.proofs.prf.Tie as tie
 
-returns : tie.Need-returns
+returns : tie.Need-returns-then-secret-gt65536
 unfolding prf
-returns c = simp (lt-leb _ _ c.if1.true) (refuses-answers _ _)
+returns c = simp (lt-leb _ _ c.if-secret-gt65536.true) (refuses-answers _ _)
 
-returns-2 : tie.Need-returns-2
+returns-2 : tie.Need-returns-then-seed-gt65536
 unfolding prf
-returns-2 c = simp (lt-leb _ _ c.if2.true, and-false) (refuses-answers _ _)
+returns-2 c = simp (lt-leb _ _ c.if-seed-gt65536.true, and-false) (refuses-answers _ _)
 
-returns-3 : tie.Need-returns-3
+returns-3 : tie.Need-returns-then-n-gt256
 unfolding prf
-returns-3 c = simp (lt-leb _ _ c.if3.true, and-false) (refuses-answers _ _)
+returns-3 c = simp (lt-leb _ _ c.if-n-gt256.true, and-false) (refuses-answers _ _)
 
-slice-aggregate-put : tie.Need-slice-aggregate-put
+slice-aggregate-put : tie.Need-slice_bounds-put-end
 slice-aggregate-put c = sym (length-take-le _ _ (search rules))
 
-returns-4 : tie.Need-returns-4
+returns-4 : tie.Need-returns
 unfolding prf
 returns-4 c =
-    let at-expand = c.before.before.before.before.before.before in
-    let tests = at-expand.before.before in
-    simp (le-leb _ _ tests.before.before.if1.false, le-leb _ _ tests.before.if2.false, le-leb _ _ tests.if3.false)
-    (rw at-expand.expand.ensures at c.before.before.put.ensures)
+    simp (le-leb _ _ c.if-secret-gt65536.false, le-leb _ _ c.if-seed-gt65536.false, le-leb _ _ c.if-n-gt256.false)
+    (rw c.expand.ensures at c.put.ensures)
 
-pub prf-spec : {M : Type 1} → statement M
-prf-spec =
+pub prf_spec : {M : Type 1} → statement M
+prf_spec =
     tie.close
     (tie.spec
     returns

@@ -4,8 +4,8 @@ use borrow.Author.Rules.{rules}
 use Rattle.refusal.proofs.number.Statement.{statement}
 use Rattle.refusal.proofs.number.Tie as tie
 
-pub number-spec : {M : Type 1} → statement M
-number-spec =
+pub number_spec : {M : Type 1} → statement M
+number_spec =
     tie.close
     (tie.spec
     (λ c. search rules)
@@ -28,23 +28,23 @@ number-spec =
     (λ c. search rules)
     (λ c. search rules)
     (λ c. search rules)
-    (λ c. rw c.enum_told.given.1)
-    (λ c. rw c.enum-told2.given.1)
-    (λ c. rw c.enum-told3.given.1)
-    (λ c. rw c.enum-told4.given.1)
-    (λ c. rw c.enum-told5.given.1)
-    (λ c. rw c.enum-told6.given.1)
-    (λ c. rw c.enum-told7.given.1)
-    (λ c. rw c.enum-told8.given.1)
-    (λ c. rw c.enum-told9.given.1)
-    (λ c. rw c.enum-told10.given.1)
-    (λ c. rw c.enum-told11.given.1)
-    (λ c. rw c.enum-told12.given.1)
-    (λ c. rw c.enum-told13.given.1)
-    (λ c. rw c.enum-told14.given.1)
-    (λ c. rw c.enum-told15.given.1)
-    (λ c. rw c.enum-told16.given.1)
-    (λ c. rw c.enum-told17.given.1)
-    (λ c. rw c.enum-told18.given.1)
-    (λ c. rw c.enum-told19.given.1)
-    (λ c. rw c.enum-told20.given.1))
+    (λ c. rw c.in-ShortOutput.is)
+    (λ c. rw c.in-BadTable.is)
+    (λ c. rw c.in-BadSetting.is)
+    (λ c. rw c.in-ConnectionOver.is)
+    (λ c. rw c.in-BadValue.is)
+    (λ c. rw c.in-AlreadyListed.is)
+    (λ c. rw c.in-NotListed.is)
+    (λ c. rw c.in-TableFull.is)
+    (λ c. rw c.in-SequenceSpent.is)
+    (λ c. rw c.in-BadList.is)
+    (λ c. rw c.in-UnexpectedMessage.is)
+    (λ c. rw c.in-BadRecordMac.is)
+    (λ c. rw c.in-RecordOverflow.is)
+    (λ c. rw c.in-HandshakeFailure.is)
+    (λ c. rw c.in-IllegalParameter.is)
+    (λ c. rw c.in-DecodeError.is)
+    (λ c. rw c.in-DecryptError.is)
+    (λ c. rw c.in-ProtocolVersion.is)
+    (λ c. rw c.in-UnsupportedExtension.is)
+    (λ c. rw c.in-UnknownPskIdentity.is))

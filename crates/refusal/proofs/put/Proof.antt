@@ -11,13 +11,13 @@ use Rattle.refusal.proofs.Laws.{gives-answers, short-answers}
 use Rattle.refusal.proofs.put.Statement.{statement}
 use Rattle.refusal.proofs.put.Tie as tie
 
-returns : tie.Need-returns
-returns c = short-answers _ _ c.if1.true
+returns : tie.Need-returns-then-out-answer
+returns c = short-answers _ _ c.if-out-answer.true
 
-returns-2 : tie.Need-returns-2
+returns-2 : tie.Need-returns
 returns-2 c =
-    let copied = c.before.before.copy.ensures in
-    let args = c.before.before.before.before.before.before.before.args in
+    let copied = c.copy-n.ensures in
+    let args = c.args in
     let given = gives-answers args.answer.now args.out.now (search rules) in
     record {
       told = ap Wrote copied.0 ∙ given.told;

@@ -6,9 +6,7 @@ use Rattle.saved.proofs.head.Tie as tie
 
 returns : tie.Need-returns
 returns c =
-    let at-rule = c.before in
-    let at-phase = at-rule.before in
-    rw (c.listed-byte.ensures, at-rule.rule-byte.ensures, at-phase.phase-byte.ensures, at-phase.before.bytes16.ensures)
+    rw (c.listed_byte.ensures, c.rule_byte.ensures, c.phase_byte.ensures, c.bytes16-suite.ensures)
 
 pub head_spec : {M : Type 1} → statement M
 head_spec =

@@ -10,12 +10,11 @@ use Rattle.saved.proofs.hint.Tie as tie
 
 returns : tie.Need-returns
 returns c =
-    let start = c.before.before.before.before.before in
-    let bytes = start.args.t1 in
-    let size : length bytes ≡ 388 = search (rules, start.well-formed) in
-    copied-part bytes c.before.copy.new.1.0 12 128 128 refl (omega arith) c.before.copy.ensures.1
+    let bytes = c.args.bytes in
+    let size : length bytes ≡ 388 = search (rules, c.well_formed) in
+    copied-part bytes c.copy.new.dst 12 128 128 refl (omega arith) c.copy.ensures.1
 
-pub hint-spec : {M : Type 1} → statement M
-hint-spec =
+pub hint_spec : {M : Type 1} → statement M
+hint_spec =
     tie.close
     (tie.spec (λ c. search rules) (λ c. search rules) (λ c. search rules) (λ c. search rules) (λ c κs. search rules) returns)

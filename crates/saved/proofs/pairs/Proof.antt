@@ -10,14 +10,12 @@ use Rattle.saved.proofs.pairs.Tie as tie
 
 returns : tie.Need-returns
 returns c =
-    let at_second = c.before in
-    let start = at_second.before.before in
-    let suites = start.args.t1 in
-    let size : length suites ≡ 3 = search (rules, start.well-formed) in
-    rw (c.bytes163.ensures, at_second.bytes162.ensures, at_second.before.bytes16.ensures) (ap pairs (three-of suites size))
+    let suites = c.args.suites in
+    let size : length suites ≡ 3 = search (rules, c.well_formed) in
+    rw (c.bytes16-third.ensures, c.bytes16-second.ensures, c.bytes16-first.ensures) (ap pairs (three-of suites size))
 
-pub pairs-spec : {M : Type 1} → statement M
-pairs-spec =
+pub pairs_spec : {M : Type 1} → statement M
+pairs_spec =
     tie.close
     (tie.spec
     (λ c. search rules)

@@ -11,14 +11,13 @@ use Rattle.saved.proofs.part32.Tie as tie
 
 returns : tie.Need-returns
 returns c =
-    let start = c.before.before.before.before.before in
-    let bytes = start.args.t1 in
-    let at = start.args.at in
-    let size : length bytes ≡ 388 = search (rules, start.well-formed) in
-    copied-part bytes c.before.copy.new.1.0 at (at + 32 - at) 32 (omega arith) (omega arith) c.before.copy.ensures.1
+    let bytes = c.args.bytes in
+    let at = c.args.at in
+    let size : length bytes ≡ 388 = search (rules, c.well_formed) in
+    copied-part bytes c.copy.new.dst at (at + 32 - at) 32 (omega arith) (omega arith) c.copy.ensures.1
 
-pub part32-spec : {M : Type 1} → statement M
-part32-spec =
+pub part32_spec : {M : Type 1} → statement M
+part32_spec =
     tie.close
     (tie.spec
     (λ c. search rules)

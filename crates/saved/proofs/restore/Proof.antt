@@ -1,39 +1,34 @@
 -- `saved::restore` meets its contract, field by field.
 -- Assumes nothing.
+use Rattle.std.specs.Prelude.{not}
+use Rattle.std.proofs.Common.{ap}
 use borrow.Author.Rules.{rules}
 use Rattle.saved.proofs.restore.Statement.{statement}
 use Rattle.saved.proofs.restore.Tie as tie
 use borrow.Author.Tests.{not-true, not-false}
 use Rattle.saved.specs.Saved.{restored}
 
-returns : tie.Need-returns
+returns : tie.Need-returns-then-not-known
 unfolding restored
 returns c =
-    let at-known = c.before.before in
-    rw (← at-known.known.ensures, not-true at-known.known.result c.before.if1.true) c.ended.ensures
+    rw (← c.known.ensures, not-true c.known.result (ap not c.if-not-known.true)) c.ended.ensures
 
-returns-2 : tie.Need-returns-2
+returns-2 : tie.Need-returns
 unfolding restored
 returns-2 c =
-    let at-master = c.before in
-    let at-suite = at-master.before in
-    let at-random = at-suite.before in
-    let at-setup = at-random.before in
-    let at-phase = at-setup.before in
-    let at-known = at-phase.before.before in
     rw (
-      ← at-known.known.ensures,
-      not-false at-known.known.result at-phase.before.if1.false,
-      at-phase.to-phase.ensures,
-      at-setup.setup.ensures,
-      at-random.part32.ensures,
-      at-suite.suite.ensures,
-      at-master.master.ensures,
-      c.transcript.ensures,
+      ← c.known.ensures,
+      not-false c.known.result (ap not c.if-not-known.false),
+      c.to_phase-phase.ensures,
+      c.setup-setup.ensures,
+      c.part32-random.ensures,
+      c.suite.ensures,
+      c.master-master.ensures,
+      c.transcript-transcript.ensures,
     )
 
-pub restore-spec : {M : Type 1} → statement M
-restore-spec =
+pub restore_spec : {M : Type 1} → statement M
+restore_spec =
     tie.close
     (tie.spec
     (λ c. search rules)

@@ -6,23 +6,18 @@ use Rattle.saved.proofs.setup.Tie as tie
 
 returns : tie.Need-returns
 returns c =
-    let at_second = c.before in
-    let at_first = at_second.before in
-    let at-random = at_first.before in
-    let at-stand-in = at-random.before in
-    let at-hint = at-stand-in.before in
     rw (
-      at-hint.before.to-rule.ensures,
-      at_first.suite.ensures,
-      at_second.suite2.ensures,
-      c.suite3.ensures,
-      at-hint.hint.ensures,
-      at-stand-in.part32.ensures,
-      at-random.part322.ensures,
+      c.to_rule-rule.ensures,
+      c.suite.ensures,
+      c.suite-2.ensures,
+      c.suite-3.ensures,
+      c.hint-hint.ensures,
+      c.part32-stand_in.ensures,
+      c.part32-random.ensures,
     )
 
-pub setup-spec : {M : Type 1} → statement M
-setup-spec =
+pub setup_spec : {M : Type 1} → statement M
+setup_spec =
     tie.close
     (tie.spec
     (λ c. search rules)

@@ -15,26 +15,24 @@ use borrow.Author.Rules.{rules}
 use Rattle.saved.proofs.suite.Statement.{statement}
 use Rattle.saved.proofs.suite.Tie as tie
 
-cast-result : tie.Need-overflow-cast-result
+cast-result : tie.Need-overflow_cast-result
 cast-result c =
-    let start = c.before in
-    let bytes = start.args.t1 in
-    let at = start.args.at in
-    let high : Fits w8 (get_or bytes at 0) = search (rules, start.well-formed) in
-    let low : Fits w8 (get_or bytes (at + 1) 0) = search (rules, start.well-formed) in
+    let bytes = c.args.bytes in
+    let at = c.args.at in
+    let high : Fits w8 (get_or bytes at 0) = search (rules, c.well_formed) in
+    let low : Fits w8 (get_or bytes (at + 1) 0) = search (rules, c.well_formed) in
     record { fits = omega (arith, c.number16.ensures) }
 
 returns : tie.Need-returns
 returns c =
-    let start = c.before in
-    let bytes = start.args.t1 in
-    let at = start.args.at in
-    let size : length bytes ≡ 388 = search (rules, start.well-formed) in
+    let bytes = c.args.bytes in
+    let at = c.args.at in
+    let size : length bytes ≡ 388 = search (rules, c.well_formed) in
     let two : part at 2 bytes ≡ get_or bytes at 0 ∷ get_or bytes (at + 1) 0 ∷ [] = rw add-one (take-window 2 at bytes (omega arith)) in
     c.number16.ensures ∙ ap number (sym two)
 
-pub suite-spec : {M : Type 1} → statement M
-suite-spec =
+pub suite_spec : {M : Type 1} → statement M
+suite_spec =
     tie.close
     (tie.spec
     (λ c. search rules)

@@ -17,10 +17,10 @@ other b h1 h2 h3 h4 h5 = elim (dec_le 6 b) [
   | no within ↦ let none : b ≡ 0 = omega arith in rw none
 ]
 
-returns-6 : tie.Need-returns-6
+returns-6 : tie.Need-returns-in_default
 returns-6 c =
-    let r = c.match.rest in
-    sym (other c.before.args.byte r.0.0.0.0.1 r.0.0.0.1 r.0.0.1 r.0.1 r.1)
+    let r = c.in_default.in_default-own.rest in
+    sym (other c.args.byte r.0.0.0.0.1 r.0.0.0.1 r.0.0.1 r.0.1 r.1)
 
-pub to-phase-spec : {M : Type 1} → statement M
-to-phase-spec = tie.close (tie.spec (λ c. search rules) (λ c. search rules) (λ c. search rules) (λ c. search rules) (λ c. search rules) returns-6)
+pub to_phase_spec : {M : Type 1} → statement M
+to_phase_spec = tie.close (tie.spec (λ c. search rules) (λ c. search rules) (λ c. search rules) (λ c. search rules) (λ c. search rules) returns-6)

@@ -10,35 +10,28 @@ use borrow.Author.Rules.{rules}
 use Rattle.saved_client.proofs.restore.Statement.{statement}
 use Rattle.saved_client.proofs.restore.Tie as tie
 
-returns : tie.Need-returns
+returns : tie.Need-returns-then-first-gt6
 unfolding restored
-returns c = rw (lt-leb (get_or c.before.before.args.t1 0 0) 6 c.before.if1.true) c.ended.ensures
+returns c = rw (lt-leb (get_or c.args.bytes 0 0) 6 c.if-first-gt6.true) c.ended.ensures
 
-returns-2 : tie.Need-returns-2
+returns-2 : tie.Need-returns
 unfolding restored
 returns-2 c =
-    let at-setup = c.before.before in
-    let at-phase = at-setup.before in
-    let third = at-phase.before.before in
-    let second = third.before.before.before.before.before in
-    let first = second.before.before.before.before.before in
-    let at-else = first.before.before.before.before in
-    let start = at-else.before in
-    let bytes = start.args.t1 in
-    let size : length bytes ≡ 413 = search (rules, start.well-formed) in
+    let bytes = c.args.bytes in
+    let size : length bytes ≡ 413 = search (rules, c.well_formed) in
     rw (
-      le-leb (get_or bytes 0 0) 6 at-else.if1.false,
-      at-phase.to-phase.ensures,
-      at-setup.setup.ensures,
-      copied-part bytes first.copy.new.1.0 229 32 32 refl (omega arith) first.copy.ensures.1,
-      c.before.suite.ensures,
-      copied-part bytes second.copy2.new.1.0 261 48 48 refl (omega arith) second.copy2.ensures.1,
-      c.restore.ensures,
-      copied-part bytes third.copy3.new.1.0 309 104 104 refl (omega arith) third.copy3.ensures.1,
+      le-leb (get_or bytes 0 0) 6 c.if-first-gt6.false,
+      c.to_phase-phase.ensures,
+      c.setup-setup.ensures,
+      copied-part bytes c.copy.new.dst 229 32 32 refl (omega arith) c.copy.ensures.1,
+      c.suite.ensures,
+      copied-part bytes c.copy-2.new.dst 261 48 48 refl (omega arith) c.copy-2.ensures.1,
+      c.restore-transcript.ensures,
+      copied-part bytes c.copy-3.new.dst 309 104 104 refl (omega arith) c.copy-3.ensures.1,
     )
 
-pub restore-spec : {M : Type 1} → statement M
-restore-spec =
+pub restore_spec : {M : Type 1} → statement M
+restore_spec =
     tie.close
     (tie.spec
     (λ c. search rules)

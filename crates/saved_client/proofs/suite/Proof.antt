@@ -11,20 +11,20 @@ use borrow.Author.Rules.{rules}
 use Rattle.saved_client.proofs.suite.Statement.{statement}
 use Rattle.saved_client.proofs.suite.Tie as tie
 
-cast-result : tie.Need-overflow-cast-result
+cast-result : tie.Need-overflow_cast-result
 cast-result c =
-    let bytes = c.before.args.t1 in
-    let high : Fits w8 (get_or bytes 3 0) = search (rules, c.before.well-formed) in
-    let low : Fits w8 (get_or bytes 4 0) = search (rules, c.before.well-formed) in
+    let bytes = c.args.bytes in
+    let high : Fits w8 (get_or bytes 3 0) = search (rules, c.well_formed) in
+    let low : Fits w8 (get_or bytes 4 0) = search (rules, c.well_formed) in
     record { fits = omega (arith, c.number16.ensures) }
 
 returns : tie.Need-returns
 returns c =
-    let bytes = c.before.args.t1 in
-    let size : length bytes ≡ 413 = search (rules, c.before.well-formed) in
+    let bytes = c.args.bytes in
+    let size : length bytes ≡ 413 = search (rules, c.well_formed) in
     c.number16.ensures ∙ ap number (sym (take-window 2 3 bytes (omega arith)))
 
-pub suite-spec : {M : Type 1} → statement M
-suite-spec =
+pub suite_spec : {M : Type 1} → statement M
+suite_spec =
     tie.close
     (tie.spec (λ c. search rules) (λ c. search rules) (λ c κs. search rules) cast-result returns)

@@ -10,11 +10,10 @@ use Rattle.saved_records.proofs.append.Tie as tie
 
 returns : tie.Need-returns
 returns c =
-    let start = c.before.before.before.before in
-    let size : length start.args.bytes ≡ 576 = search (rules, start.well-formed) in
-    copied_behind start.args.bytes start.args.part.now c.before.copy.new.1.0 start.args.at (omega arith)
-    c.before.copy.ensures.1
+    let size : length c.args.bytes ≡ 576 = search (rules, c.well_formed) in
+    copied_behind c.args.bytes c.args.part.now c.copy.new.dst c.args.at (omega arith)
+    c.copy.ensures.1
 
-pub append-spec : {M : Type 1} → statement M
-append-spec =
+pub append_spec : {M : Type 1} → statement M
+append_spec =
     tie.close (tie.spec (λ c. search rules) (λ c. search rules) (λ c. search rules) (λ c. search rules) (λ c κs. search rules) returns)

@@ -13,35 +13,28 @@ use Rattle.saved_records.proofs.append_state.Tie as tie
 
 -- the key's length, by its type
 key-size : (c : tie.Start) → length c.args.s.key ≡ 32
-key-size c = search (rules, c.well-formed)
+key-size c = search (rules, c.well_formed)
 
-append-requires-3 : tie.Need-append-requires-3
+append-requires-3 : tie.Need-append-requires
 append-requires-3 c κs =
-    let start = c.before.before.before.before.before.before.before.before in
-    rw (key-size start) (omega (arith, start.requires))
+    rw (key-size c.before.before.before.before.before.before.before.before) (omega (arith, c.requires))
 
 returns : tie.Need-returns
 returns c =
-    let two = c.before.before in
-    let one = two.before.before in
-    let made = one.before.before in
-    let start = made.before.before.before in
-    let s = start.args.s in
-    let at = start.args.at in
-    let byte = made.before.protected-byte in
-    let number = made.bytes64 in
-    let first : take (at + 1) one.append.result ≡ take at start.args.bytes ++ (protected_byte s.protected ∷ []) =
-    copy-behind start.args.bytes (byte.result ∷ []) one.append.result at 1 one.append.ensures refl (rw byte.ensures) refl in
+    let s = c.args.s in
+    let at = c.args.at in
+    let first : take (at + 1) c.append-with_first.result ≡ take at c.args.bytes ++ (protected_byte s.protected ∷ []) =
+    copy-behind c.args.bytes (c.protected_byte.result ∷ []) c.append-with_first.result at 1 c.append-with_first.ensures refl (rw c.protected_byte.ensures) refl in
     let second =
-    copy-behind one.append.result number.result two.append2.result (at + 1) 8 two.append2.ensures first number.ensures refl in
+    copy-behind c.append-with_first.result c.bytes64-sequence.result c.append-with_sequence.result (at + 1) 8 c.append-with_sequence.ensures first c.bytes64-sequence.ensures refl in
     let nine : at + 1 + 8 ≡ at + 9 = omega arith in
     let all : at + 9 + 32 ≡ at + 41 = omega arith in
     let third =
-    copy-behind two.append2.result s.key c.append3.result (at + 9) 32 c.append3.ensures (rw nine at second) refl (key-size start) in
+    copy-behind c.append-with_sequence.result s.key c.append.result (at + 9) 32 c.append.ensures (rw nine at second) refl (key-size c.before.before.before.before.before.before.before.before.before) in
     rw (append_assoc, append_assoc) at (rw all at third)
 
-pub append-state-spec : {M : Type 1} → statement M
-append-state-spec =
+pub append_state_spec : {M : Type 1} → statement M
+append_state_spec =
     tie.close
     (tie.spec
     (λ c κs. search rules)

@@ -5,7 +5,7 @@ use Rattle.saved_records.proofs.closed.Statement.{statement}
 use Rattle.saved_records.proofs.closed.Tie as tie
 
 returns : tie.Need-returns
-returns c = rw (c.initial2.ensures, c.before.initial.ensures, c.before.before.ended.ensures)
+returns c = rw (c.initial-writing.ensures, c.initial-reading.ensures, c.ended-handshake.ensures)
 
-pub closed-spec : {M : Type 1} → statement M
-closed-spec = tie.close (tie.spec (λ c κs. search rules) (λ c κs. search rules) (λ c κs. search rules) returns)
+pub closed_spec : {M : Type 1} → statement M
+closed_spec = tie.close (tie.spec (λ c κs. search rules) (λ c κs. search rules) (λ c κs. search rules) returns)

@@ -11,18 +11,17 @@ use borrow.Author.Rules.{rules}
 use Rattle.saved_records.proofs.held.Statement.{statement}
 use Rattle.saved_records.proofs.held.Tie as tie
 
-cast-result : tie.Need-overflow-cast-result
+cast-result : tie.Need-overflow_cast-result
 cast-result c =
-    let start = c.before in
-    let bytes = start.args.t1 in
-    let high : Fits w8 (get_or bytes 534 0) = search (rules, start.well-formed) in
-    let low : Fits w8 (get_or bytes 535 0) = search (rules, start.well-formed) in
+    let bytes = c.args.bytes in
+    let high : Fits w8 (get_or bytes 534 0) = search (rules, c.well_formed) in
+    let low : Fits w8 (get_or bytes 535 0) = search (rules, c.well_formed) in
     record { fits = omega (arith, c.number16.ensures) }
 
 returns : tie.Need-returns
 returns c =
-    let bytes = c.before.args.t1 in
-    let size : length bytes ≡ 576 = search (rules, c.before.well-formed) in
+    let bytes = c.args.bytes in
+    let size : length bytes ≡ 576 = search (rules, c.well_formed) in
     c.number16.ensures ∙ ap number (sym (take-window 2 534 bytes (omega arith)))
 
 pub held_spec : {M : Type 1} → statement M

@@ -11,15 +11,13 @@ use Rattle.saved_records.proofs.inner.Tie as tie
 
 returns : tie.Need-returns
 returns c =
-    let at_copy = c.before.before in
-    let start = at_copy.before.before.before.before in
-    let bytes = start.args.t1 in
-    let size : length bytes ≡ 576 = search (rules, start.well-formed) in
+    let bytes = c.args.bytes in
+    let size : length bytes ≡ 576 = search (rules, c.well_formed) in
     c.restore.ensures
-    ∙ ap restored (copied-part bytes at_copy.copy.new.1.0 0 388 388 refl (omega arith) at_copy.copy.ensures.1)
+    ∙ ap restored (copied-part bytes c.copy.new.dst 0 388 388 refl (omega arith) c.copy.ensures.1)
 
-pub inner-spec : {M : Type 1} → statement M
-inner-spec =
+pub inner_spec : {M : Type 1} → statement M
+inner_spec =
     tie.close
     (tie.spec
     (λ c. search rules)

@@ -4,11 +4,11 @@ use borrow.Author.Tests.{le-leb, lt-leb}
 use Rattle.saved_records.proofs.known.Statement.{statement}
 use Rattle.saved_records.proofs.known.Tie as tie
 
-returns : tie.Need-returns
-returns c = rw (lt-leb c.before.args.reading 1 c.if1.true)
+returns : tie.Need-returns-then-reading-gt1
+returns c = rw (lt-leb c.args.reading 1 c.if-reading-gt1.true)
 
-returns-2 : tie.Need-returns-2
-returns-2 c = rw (le-leb c.before.args.reading 1 c.if1.false)
+returns-2 : tie.Need-returns
+returns-2 c = rw (le-leb c.args.reading 1 c.if-reading-gt1.false)
 
-pub known-spec : {M : Type 1} → statement M
-known-spec = tie.close (tie.spec returns returns-2)
+pub known_spec : {M : Type 1} → statement M
+known_spec = tie.close (tie.spec returns returns-2)

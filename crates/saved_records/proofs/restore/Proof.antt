@@ -1,41 +1,35 @@
 -- `saved_records::restore` meets its contract, field by field.
 -- Assumes nothing.
+use Rattle.std.specs.Prelude.{not}
+use Rattle.std.proofs.Common.{ap}
 use borrow.Author.Tests.{not-true, not-false}
 use Rattle.saved_records.specs.Saved.{restored}
 use borrow.Author.Rules.{rules}
 use Rattle.saved_records.proofs.restore.Statement.{statement}
 use Rattle.saved_records.proofs.restore.Tie as tie
 
-returns : tie.Need-returns
+returns : tie.Need-returns-then-not-known
 unfolding restored
 returns c =
-    let at-known = c.before.before in
-    rw (← at-known.known.ensures, not-true at-known.known.result c.before.if1.true) c.closed.ensures
+    rw (← c.known.ensures, not-true c.known.result (ap not c.if-not-known.true)) c.closed.ensures
 
-returns-2 : tie.Need-returns-2
+returns-2 : tie.Need-returns
 unfolding restored
 returns-2 c =
-    let at-alert = c.before in
-    let at-server = at-alert.before in
-    let at-client = at-server.before in
-    let at-writing = at-client.before in
-    let at-reading = at-writing.before in
-    let at_inner = at-reading.before in
-    let at-known = at_inner.before.before in
     rw (
-      ← at-known.known.ensures,
-      not-false at-known.known.result at_inner.before.if1.false,
-      at_inner.inner.ensures,
-      at-reading.state-at.ensures,
-      at-writing.state-at2.ensures,
-      at-client.key.ensures,
-      at-server.key2.ensures,
-      at-alert.alert-field.ensures,
+      ← c.known.ensures,
+      not-false c.known.result (ap not c.if-not-known.false),
+      c.inner-handshake.ensures,
+      c.state_at-reading.ensures,
+      c.state_at-writing.ensures,
+      c.key-client.ensures,
+      c.key-server.ensures,
+      c.alert_field-alert.ensures,
       c.held.ensures,
     )
 
-pub restore-spec : {M : Type 1} → statement M
-restore-spec =
+pub restore_spec : {M : Type 1} → statement M
+restore_spec =
     tie.close
     (tie.spec
     (λ c. search rules)

@@ -15,20 +15,20 @@ use Rattle.saved_records.proofs.save.Statement.{statement}
 use Rattle.saved_records.proofs.save.Tie as tie
 
 -- the entry, seen from where the server's connection is saved
-abbrev entry : tie.After-save → tie.Start
+abbrev entry : tie.After-save-inner → tie.Start
 entry c = c.before.before.before.before.before.before.before.before.before
 
 -- the fields fit, since each has its type, and the bytes of the server's connection have theirs
-fits : (c : tie.After-save) → Fits (entry c).args.c
+fits : (c : tie.After-save-inner) → Fits (entry c).args.c
 fits c =
-    let fields = (entry c).well-formed.0.1.1 in
+    let fields = (entry c).well_formed.0.1.1 in
     let reading = fields.1.0.1.1 in
     let writing = fields.1.1.0.1.1 in
     let pending = fields.1.1.1.0.1.1 in
-    let size : length c.save.result ≡ 388 = search (rules, c.save.type-inv) in
+    let size : length c.save-inner.result ≡ 388 = search (rules, c.save-inner.type_inv) in
     record {
-      inner = rw c.save.ensures.0 at size;
-      kept = rw c.save.ensures.0 at c.save.ensures.1;
+      inner = rw c.save-inner.ensures.0 at size;
+      kept = rw c.save-inner.ensures.0 at c.save-inner.ensures.1;
       reading = record { sequence = search (rules, reading.1.0); key = search (rules, reading.1.1) };
       writing = record { sequence = search (rules, writing.1.0); key = search (rules, writing.1.1) };
       client = search (rules, pending.0);
@@ -38,52 +38,44 @@ fits c =
     }
 
 -- the bytes of the server's connection, seen from behind the directions
-abbrev inner : tie.After-append-state2 → tie.After-save
+abbrev inner : tie.After-append_state-with_writing → tie.After-save-inner
 inner c = c.before.before.before.before.before.before
 
 -- and from where each part behind them is
-abbrev inner2 : tie.After-append2 → tie.After-save
+abbrev inner2 : tie.After-append-with_client → tie.After-save-inner
 inner2 c = inner c.before.before
 
-abbrev inner5 : tie.After-append5 → tie.After-save
+abbrev inner5 : tie.After-append-with_length → tie.After-save-inner
 inner5 c = inner2 c.before.before.before.before.before.before
 
 returns : tie.Need-returns
 unfolding saved
 returns c =
-    let seven = c.before.before in
-    let six = seven.before.before in
-    let five = six.before.before in
-    let four = five.before.before in
-    let three = four.before.before in
-    let two = three.before in
-    let one = two.before in
-    let number = one.before.before.bytes16 in
-    let own = (inner three).save in
-    let ok = fits (inner three) in
-    let conn = (entry (inner three)).args.c in
-    let r = c.append6.result in
-    let size : length r ≡ 576 = search (rules, c.append6.type-inv) in
+    let own = (inner c.before.before.before.before.before.before.before.before.before.before).save-inner in
+    let ok = fits (inner c.before.before.before.before.before.before.before.before.before.before) in
+    let conn = (entry (inner c.before.before.before.before.before.before.before.before.before.before)).args.c in
+    let r = c.append.result in
+    let size : length r ≡ 576 = search (rules, c.append.type_inv) in
     let front =
-    copy-behind (replicate 576 0) own.result one.append.result 0 388 one.append.ensures refl own.ensures.0 ok.inner in
-    let reading : take 429 two.append-state.result ≡ Server.saved conn.handshake ++ state_bytes conn.reading =
-    rw front at two.append-state.ensures in
-    let writing = rw reading at three.append-state2.ensures in
+    copy-behind (replicate 576 0) own.result c.append-with_inner.result 0 388 c.append-with_inner.ensures refl own.ensures.0 ok.inner in
+    let reading : take 429 c.append_state-with_reading.result ≡ Server.saved conn.handshake ++ state_bytes conn.reading =
+    rw front at c.append_state-with_reading.ensures in
+    let writing = rw reading at c.append_state-with_writing.ensures in
     let client =
-    copy-behind three.append-state2.result conn.pending.client four.append2.result 470 32 four.append2.ensures writing refl
+    copy-behind c.append_state-with_writing.result conn.pending.client c.append-with_client.result 470 32 c.append-with_client.ensures writing refl
     ok.client in
     let server =
-    copy-behind four.append2.result conn.pending.server five.append3.result 502 32 five.append3.ensures client refl ok.server in
+    copy-behind c.append-with_client.result conn.pending.server c.append-with_server.result 502 32 c.append-with_server.ensures client refl ok.server in
     let held =
-    copy-behind five.append3.result number.result six.append4.result 534 2 six.append4.ensures server number.ensures refl in
+    copy-behind c.append-with_server.result c.bytes16-held.result c.append-with_held.result 534 2 c.append-with_held.ensures server c.bytes16-held.ensures refl in
     let alert-length =
-    copy-behind six.append4.result (conn.alert.length ∷ []) seven.append5.result 536 1 seven.append5.ensures held refl refl in
-    let all = copy-behind seven.append5.result conn.alert.bytes r 537 39 c.append6.ensures alert-length refl ok.alert in
+    copy-behind c.append-with_held.result (conn.alert.length ∷ []) c.append-with_length.result 536 1 c.append-with_length.ensures held refl refl in
+    let all = copy-behind c.append-with_length.result conn.alert.bytes r 537 39 c.append.ensures alert-length refl ok.alert in
     let whole : r ≡ saved conn = sym (take_all 576 r (omega arith)) ∙ all ∙ put-joined [] (parts conn) in
     (whole, ap restored whole ∙ restored-saved conn ok)
 
-pub save-spec : {M : Type 1} → statement M
-save-spec =
+pub save_spec : {M : Type 1} → statement M
+save_spec =
     tie.close
     (tie.spec
     (λ c κs. search rules)

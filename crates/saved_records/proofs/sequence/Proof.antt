@@ -10,12 +10,11 @@ use Rattle.saved_records.proofs.sequence.Tie as tie
 
 returns : tie.Need-returns
 returns c =
-    let start = c.before.before in
-    let size : length start.args.bytes ≡ 576 = search (rules, start.well-formed) in
-    omega (arith, eight-there start.args.bytes start.args.at (omega arith))
+    let size : length c.args.bytes ≡ 576 = search (rules, c.well_formed) in
+    omega (arith, eight-there c.args.bytes c.args.at (omega arith))
 
-pub sequence-spec : {M : Type 1} → statement M
-sequence-spec =
+pub sequence_spec : {M : Type 1} → statement M
+sequence_spec =
     tie.close
     (tie.spec
     (λ c κs. search rules)

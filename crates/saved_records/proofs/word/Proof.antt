@@ -11,12 +11,11 @@ use Rattle.saved_records.proofs.word.Tie as tie
 
 returns : tie.Need-returns
 returns c =
-    let start = c.before in
-    let size : length start.args.t1 ≡ 576 = search (rules, start.well-formed) in
-    c.number32.ensures ∙ ap number (sym (word-at-four start.args.t1 start.args.at (omega arith)))
+    let size : length c.args.bytes ≡ 576 = search (rules, c.well_formed) in
+    c.number32.ensures ∙ ap number (sym (word-at-four c.args.bytes c.args.at (omega arith)))
 
-pub word-spec : {M : Type 1} → statement M
-word-spec =
+pub word_spec : {M : Type 1} → statement M
+word_spec =
     tie.close
     (tie.spec
     (λ c. search rules)

@@ -9,9 +9,8 @@ use Rattle.server.proofs.bytes32.Tie as tie
 
 returns : tie.Need-returns
 returns c =
-    let start = c.before.before.before.before in
-    let xs = start.args.bytes.now in
-    c.before.copy.ensures.1 ∙ rw (take-length xs, start.requires, append-nil xs)
+    let xs = c.args.bytes.now in
+    c.copy.ensures.1 ∙ rw (take-length xs, c.requires, append-nil xs)
 
-pub bytes32-spec : {M : Type 1} → statement M
-bytes32-spec = tie.close (tie.spec (λ c. search rules) (λ c κs. search rules) returns)
+pub bytes32_spec : {M : Type 1} → statement M
+bytes32_spec = tie.close (tie.spec (λ c. search rules) (λ c κs. search rules) returns)

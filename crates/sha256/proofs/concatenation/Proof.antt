@@ -8,20 +8,19 @@ use Rattle.sha256.proofs.concatenation.Tie as tie
 returns : tie.Need-returns
 unfolding concatenated
 returns c =
-    let c4 = c.before.before.before.before in
     rw (
-      c.with-word8.ensures,
-      c.before.with-word7.ensures,
-      c.before.before.with-word6.ensures,
-      c.before.before.before.with-word5.ensures,
-      c4.with-word4.ensures,
-      c4.before.with-word3.ensures,
-      c4.before.before.with-word2.ensures,
-      c4.before.before.before.with-word.ensures,
+      c.with_word.ensures,
+      c.with_word-g.ensures,
+      c.with_word-f.ensures,
+      c.with_word-e.ensures,
+      c.with_word-d.ensures,
+      c.with_word-c.ensures,
+      c.with_word-b.ensures,
+      c.with_word-a.ensures,
     )
 
-pub concatenation-spec : {M : Type 1} → statement M
-concatenation-spec =
+pub concatenation_spec : {M : Type 1} → statement M
+concatenation_spec =
     tie.close
     (tie.spec
     (λ c κs. search rules)

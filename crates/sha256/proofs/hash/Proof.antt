@@ -7,9 +7,8 @@ use Rattle.sha256.proofs.hash.Tie as tie
 
 returns : tie.Need-returns
 returns c =
-    let at-update = c.before.before.before.before in
-    let message = at-update.before.before.before.before.args.message.now in
-    rw (at-update.update.ensures, at-update.before.new.ensures, finish-absorbed message) at c.before.before.finish.ensures
+    let message = c.args.message.now in
+    rw (c.update.ensures, c.new.ensures, finish-absorbed message) at c.finish.ensures
 
-pub hash-spec : {M : Type 1} → statement M
-hash-spec = tie.close (tie.spec (λ c κs. search rules) (λ c κs. search rules) (λ c κs. search rules) (λ c. search rules) returns)
+pub hash_spec : {M : Type 1} → statement M
+hash_spec = tie.close (tie.spec (λ c κs. search rules) (λ c κs. search rules) (λ c κs. search rules) (λ c. search rules) returns)

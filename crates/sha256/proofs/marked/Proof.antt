@@ -9,23 +9,23 @@ use borrow.Author.Rules.{rules}
 use Rattle.sha256.proofs.marked.Statement.{statement}
 use Rattle.sha256.proofs.marked.Tie as tie
 
-slice-aggregate-copy : tie.Need-slice-aggregate-copy
+slice-aggregate-copy : tie.Need-slice_bounds-copy-end
 slice-aggregate-copy c = sym (length-take-le _ _ (omega arith))
 
 copy-requires : tie.Need-copy-requires
 copy-requires c κs =
-    let args = c.before.before.args in
-    rw (length-take-le args.held args.t1 (omega arith)) (omega arith)
+    let args = c.args in
+    rw (length-take-le args.held args.block (omega arith)) (omega arith)
 
 returns : tie.Need-returns
 returns c =
-    let args = c.before.before.before.before.args in
-    let front = take args.held args.t1 in
-    let size : length front ≡ args.held = length-take-le args.held args.t1 (omega arith) in
-    rw size at (marked-is front c.before.copy.new.1.0 (omega arith) c.before.copy.ensures.1)
+    let args = c.args in
+    let front = take args.held args.block in
+    let size : length front ≡ args.held = length-take-le args.held args.block (omega arith) in
+    rw size at (marked-is front c.copy.new.dst (omega arith) c.copy.ensures.1)
 
-pub marked-spec : {M : Type 1} → statement M
-marked-spec =
+pub marked_spec : {M : Type 1} → statement M
+marked_spec =
     tie.close
     (tie.spec
     (λ c. search rules)

@@ -12,17 +12,16 @@ use Rattle.sha256.proofs.with_length.Tie as tie
 
 returns : tie.Need-returns
 returns c =
-    let made = c.before.before.before.before in
-    let args = made.before.args in
-    let src = made.bytes64.result in
-    let eight : length src ≡ 8 = ap length made.bytes64.ensures in
-    let size : length args.block ≡ 64 = search (rules, made.before.well-formed) in
-    copied-in args.block src c.before.copy.new.1.0 56 64 (omega arith) (omega arith) c.before.copy.ensures.1
+    let args = c.args in
+    let src = c.bytes64-bits.result in
+    let eight : length src ≡ 8 = ap length c.bytes64-bits.ensures in
+    let size : length args.block ≡ 64 = search (rules, c.well_formed) in
+    copied-in args.block src c.copy.new.dst 56 64 (omega arith) (omega arith) c.copy.ensures.1
     ∙ rw (drop_of_length-le args.block {i = 64} (omega arith), append-nil src)
-    (ap (λ (bits : List ℕ). take 56 args.block ++ bits) made.bytes64.ensures)
+    (ap (λ (bits : List ℕ). take 56 args.block ++ bits) c.bytes64-bits.ensures)
 
-pub with-length-spec : {M : Type 1} → statement M
-with-length-spec =
+pub with_length_spec : {M : Type 1} → statement M
+with_length_spec =
     tie.close
     (tie.spec
     (λ c. search rules)

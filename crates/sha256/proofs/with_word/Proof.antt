@@ -12,16 +12,15 @@ use Rattle.sha256.proofs.with_word.Tie as tie
 
 returns : tie.Need-returns
 returns c =
-    let made = c.before.before.before.before in
-    let args = made.before.args in
-    let src = made.bytes32.result in
-    let four : length src ≡ 4 = ap length made.bytes32.ensures in
-    let size : length args.digest ≡ 32 = search (rules, made.before.well-formed) in
-    copied-in args.digest src c.before.copy.new.1.0 args.at (args.at + 4) (omega arith) (omega arith) c.before.copy.ensures.1
-    ∙ ap (λ (bytes : List ℕ). take args.at args.digest ++ (bytes ++ drop (args.at + 4) args.digest)) made.bytes32.ensures
+    let args = c.args in
+    let src = c.bytes32-bytes.result in
+    let four : length src ≡ 4 = ap length c.bytes32-bytes.ensures in
+    let size : length args.digest ≡ 32 = search (rules, c.well_formed) in
+    copied-in args.digest src c.copy.new.dst args.at (args.at + 4) (omega arith) (omega arith) c.copy.ensures.1
+    ∙ ap (λ (bytes : List ℕ). take args.at args.digest ++ (bytes ++ drop (args.at + 4) args.digest)) c.bytes32-bytes.ensures
 
-pub with-word-spec : {M : Type 1} → statement M
-with-word-spec =
+pub with_word_spec : {M : Type 1} → statement M
+with_word_spec =
     tie.close
     (tie.spec
     (λ c κs. search rules)

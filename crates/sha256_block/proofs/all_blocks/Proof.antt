@@ -6,33 +6,31 @@ use Rattle.sha256_block.proofs.Parse.{hash-block, parse-none}
 use Rattle.sha256_block.proofs.all_blocks.Statement.{statement}
 use Rattle.sha256_block.proofs.all_blocks.Tie as tie
 
-abbrev invariant-loop : tie.invariant-loop
+abbrev invariant-loop : tie.invariant-loop-at
 invariant-loop «data» h₀ at₀ h at = (at ≤ length «data») × (hash_blocks h (parse (drop at «data»)) ≡ hash_blocks h₀ (parse «data»))
 
-abbrev decreases-loop : tie.decreases-loop
+abbrev decreases-loop : tie.decreases-loop-at
 decreases-loop «data» h₀ at₀ h at = length «data» - at
 
-loop-holds : tie.Need-loop-init invariant-loop decreases-loop
+loop-holds : tie.Need-loop-at-init invariant-loop decreases-loop
 loop-holds c = (search rules, refl)
 
-loop-again : tie.Need-loop-preserved invariant-loop decreases-loop
+loop-again : tie.Need-loop-at-preserved invariant-loop decreases-loop
 loop-again c =
-    let at-loop = c.before.before.before in
-    let m = at-loop.before.before.args.«data».now in
-    let at = at-loop.loop.at in
+    let m = c.args.«data».now in
+    let at = c.loop-at.at in
     let size : at + 64 - at ≡ 64 = omega arith in
-    (search rules, rw (c.next-value.ensures, size, hash-block at-loop.loop.h m at (omega arith)) at-loop.loop.invariant.1)
+    (search rules, rw (c.next_value-h.ensures, size, hash-block c.loop-at.h m at (omega arith)) c.loop-at.invariant.1)
 
 returns : tie.Need-returns invariant-loop decreases-loop
 unfolding hash_blocks
 returns c =
-    let at-loop = c.before in
-    let m = at-loop.before.before.args.«data».now in
-    let few : length (drop at-loop.loop.at m) < 64 = rw (length-drop at-loop.loop.at m) (omega arith) in
-    rw (parse-none (drop at-loop.loop.at m) few) at at-loop.loop.invariant.1
+    let m = c.args.«data».now in
+    let few : length (drop c.loop-at.at m) < 64 = rw (length-drop c.loop-at.at m) (omega arith) in
+    rw (parse-none (drop c.loop-at.at m) few) at c.loop-at.invariant.1
 
-pub all-blocks-spec : {M : Type 1} → statement M
-all-blocks-spec =
+pub all_blocks_spec : {M : Type 1} → statement M
+all_blocks_spec =
     tie.close
     (tie.spec
     invariant-loop

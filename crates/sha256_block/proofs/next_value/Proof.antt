@@ -7,9 +7,9 @@ use Rattle.sha256_block.proofs.next_value.Tie as tie
 
 returns : tie.Need-returns
 unfolding compress
-returns c = rw (c.sum.ensures, c.before.all-rounds.ensures, c.before.before.before.before.load.ensures)
+returns c = rw (c.sum.ensures, c.all_rounds.ensures, c.load.ensures)
 
-pub next-value-spec : {M : Type 1} → statement M
-next-value-spec =
+pub next_value_spec : {M : Type 1} → statement M
+next_value_spec =
     tie.close
     (tie.spec (λ c. search rules) (λ c κs. search rules) (λ c κs. search rules) (λ c κs. search rules) returns)

@@ -9,8 +9,8 @@ returns : tie.Need-returns
 unfolding added
 returns c = cc
 
-pub sum-spec : {M : Type 1} → statement M
-sum-spec =
+pub sum_spec : {M : Type 1} → statement M
+sum_spec =
     tie.close
     (tie.spec
     (λ c κs. search rules)

@@ -14,9 +14,9 @@ use Rattle.table_edits.proofs.add.Statement.{statement}
 use Rattle.table_edits.proofs.add.Tie as tie
 
 -- where the place was looked for
-module _ (c : tie.After-locate) where
+module _ (c : tie.After-locate-found) where
   abbrev start : tie.Start
-  start = c.before.before.before.before.before.before.before.before.before
+  start = c.before.before.before.before.before.before.before
 
   abbrev memory : List ℕ
   memory = start.args.memory.now
@@ -36,36 +36,29 @@ module _ (c : tie.After-locate) where
   abbrev key : List ℕ
   key = start.args.key.now
 
-  place : place_in memory n starts count identity (valid_secret key) ≡ c.locate.result
-  place = ap (place_in memory n starts count identity) (sym c.before.valid-secret.ensures) ∙ sym c.locate.ensures
+  place : place_in memory n starts count identity (valid_secret key) ≡ c.locate-found.result
+  place = ap (place_in memory n starts count identity) (sym c.valid_secret.ensures) ∙ sym c.locate-found.ensures
 
 append-requires : tie.Need-append-requires
 append-requires c κs =
-    let t = c.before.before.before in
-    let l = t.before.before in
-    let there = place l ∙ t.enum-told2.given.1 in
-    let sizes = absent-sizes (memory l) (n l) (starts l) (count l) (identity l) (key l) there in
-    let texts = absent-texts (memory l) (n l) (starts l) (count l) (identity l) (key l) there in
+    let there = place c.before.before.before.before ∙ c.in-Absent.is in
+    let sizes = absent-sizes (memory c.before.before.before.before) (n c.before.before.before.before) (starts c.before.before.before.before) (count c.before.before.before.before) (identity c.before.before.before.before) (key c.before.before.before.before) there in
+    let texts = absent-texts (memory c.before.before.before.before) (n c.before.before.before.before) (starts c.before.before.before.before) (count c.before.before.before.before) (identity c.before.before.before.before) (key c.before.before.before.before) there in
     (sizes.0, (sizes.1, (texts.0, (texts.1, (sizes.2, (sizes.3, texts.2))))))
 
-returns : tie.Need-returns
+returns : tie.Need-returns-in-At
 returns c =
-    let l = c.before.before in
-    rw (add-listed (memory l) (n l) (starts l) (count l) (identity l) (key l) _ _ _ (place l ∙ c.enum_told.given.1))
-    (both-kept (memory l) (starts l) (count l) _)
+    rw (add-listed (memory c.before) (n c.before) (starts c.before) (count c.before) (identity c.before) (key c.before) _ _ _ (place c.before ∙ c.in-At.is))
+    (both-kept (memory c.before) (starts c.before) (count c.before) _)
 
-returns-2 : tie.Need-returns-2
+returns-2 : tie.Need-returns-in-Absent
 returns-2 c =
-    let a = c.before.before.before.before in
-    let t = a.before.before.before.before in
-    let l = t.before.before in
-    rw (add-absent (memory l) (n l) (starts l) (count l) (identity l) (key l) (place l ∙ t.enum-told2.given.1)) a.append.ensures
+    rw (add-absent (memory c.before.before.before.before.before.before.before.before.before) (n c.before.before.before.before.before.before.before.before.before) (starts c.before.before.before.before.before.before.before.before.before) (count c.before.before.before.before.before.before.before.before.before) (identity c.before.before.before.before.before.before.before.before.before) (key c.before.before.before.before.before.before.before.before.before) (place c.before.before.before.before.before.before.before.before.before ∙ c.in-Absent.is)) c.append.ensures
 
-returns-3 : tie.Need-returns-3
+returns-3 : tie.Need-returns-in-Refused
 returns-3 c =
-    let l = c.before.before.before in
-    rw (edit-refused (memory l) (n l) (starts l) (count l) (add (identity l) (key l)) _ (place l ∙ c.before.found.given.1))
-    (both-kept (memory l) (starts l) (count l) _)
+    rw (edit-refused (memory c.before) (n c.before) (starts c.before) (count c.before) (add (identity c.before) (key c.before)) _ (place c.before ∙ c.in-Refused.is))
+    (both-kept (memory c.before) (starts c.before) (count c.before) _)
 
 pub add_spec : {M : Type 1} → statement M
 add_spec =

@@ -54,13 +54,13 @@ module _ (s : tie.Start) where
   text = joined new-lines
 
   whole : Unbroken new-lines
-  whole = s.pre.1.1.1.1.1.1
+  whole = s.requires.1.1.1.1.1.1
 
   room : count ≤ length starts
-  room = s.pre.1.1.1.0.0
+  room = s.requires.1.1.1.0.0
 
   own : take count starts ≡ starts_of table
-  own = s.pre.1.1.1.0.1
+  own = s.requires.1.1.1.0.1
 
   one_more : length new-lines ≡ count + 1
   one_more =
@@ -71,37 +71,36 @@ module _ (s : tie.Start) where
   end = n + length identity + 2 * length key + 2
 
   new-length : length text ≡ end
-  new-length = added-length table identity key s.pre.1.1.0 ∙ rw (length-take-le n memory s.pre.0)
+  new-length = added-length table identity key s.requires.1.1.0 ∙ rw (length-take-le n memory s.requires.0)
 
   new-list : starts_of text ≡ starts_of table ++ (n ∷ [])
   new-list =
-      added-list table identity key s.pre.1.1.0 whole
-      ∙ ap (λ (m : ℕ). starts_of table ++ (m ∷ [])) (length-take-le n memory s.pre.0)
+      added-list table identity key s.requires.1.1.0 whole
+      ∙ ap (λ (m : ℕ). starts_of table ++ (m ∷ [])) (length-take-le n memory s.requires.0)
 
-returns : tie.Need-returns
+returns : tie.Need-returns-then-lines-ge256
 returns c =
-    let s = c.before.before.before.before.before.before in
-    rw (sized-lines (new-lines s) (omega (arith, c.if1.true, one_more s))) (both-kept (memory s) (starts s) (count s) _)
+    rw (sized-lines (new-lines c.before.before.before.before.before.before) (omega (arith, c.if-lines-ge256.true, one_more c.before.before.before.before.before.before))) (both-kept (memory c.before.before.before.before.before.before) (starts c.before.before.before.before.before.before) (count c.before.before.before.before.before.before) _)
 
 -- where the lines are few enough, the size decides
-module _ (c : tie.After-judge-size) where
+module _ (c : tie.After-judge_size-size) where
   abbrev start : tie.Start
   start = c.before.before.before.before.before.before.before
 
   size-decides : sized (new-lines start) ≡ bounded (text start)
-  size-decides = sized-bounded (text start) (new-lines start) refl (omega (arith, c.before.if1.false, one_more start))
+  size-decides = sized-bounded (text start) (new-lines start) refl (omega (arith, c.if-lines-ge256.false, one_more start))
 
 -- and was found small enough
-module _ (c : tie.After-enum-told) where
-  abbrev judged : tie.After-judge-size
-  judged = c.before.before
+module _ (c : tie.In-Good) where
+  abbrev judged : tie.After-judge_size-size
+  judged = c.before
 
   abbrev begun : tie.Start
   begun = start judged
 
   fits : (bounded (text begun) ≡ gives (text begun)) × (end begun ≤ length (memory begun))
   fits =
-      size-good (text begun) (memory begun) (end begun) (new-length begun) (sym judged.judge-size.ensures ∙ c.enum_told.given.1)
+      size-good (text begun) (memory begun) (end begun) (new-length begun) (sym judged.judge_size-size.ensures ∙ c.in-Good.is)
 
   given : roomed (length (starts begun)) (sized (new-lines begun)) ≡ roomed (length (starts begun)) (gives (text begun))
   given = ap (roomed (length (starts begun))) (size-decides judged ∙ fits.0)
@@ -109,50 +108,46 @@ module _ (c : tie.After-enum-told) where
   lines_then : length (lines (text begun)) ≡ count begun + 1
   lines_then = ap length (whole begun) ∙ one_more begun
 
-returns-2 : tie.Need-returns-2
+returns-2 : tie.Need-returns-then-starts-lines
 returns-2 c =
-    let t = c.before in
-    let s = begun t in
+    let s = begun c.before in
     let short : roomed (length (starts s)) (gives (text s)) ≡ refuses ShortOutput =
-    rw (lt-leb (length (lines (text s))) (length (starts s)) (omega (arith, c.if2.true, lines_then t))) in
-    rw (given t ∙ short) (both-kept (memory s) (starts s) (count s) _)
+    rw (lt-leb (length (lines (text s))) (length (starts s)) (omega (arith, c.if-starts-lines.true, lines_then c.before))) in
+    rw (given c.before ∙ short) (both-kept (memory s) (starts s) (count s) _)
 
-part-put-line-end : tie.Need-slice-bounds-put-line-end
+part-put-line-end : tie.Need-slice_bounds-put_line-end
 part-put-line-end c = (fits c.before).1
 
-put-line-requires : tie.Need-put-line-requires
+put-line-requires : tie.Need-put_line-requires
 put-line-requires c κs = let room = (fits c.before.before).1 in search rules
 
-cast-starts : tie.Need-overflow-cast-starts
-cast-starts c = let few = (begun c.before.before.before.before.before).pre in search rules
+cast-starts : tie.Need-overflow_cast-starts
+cast-starts c = let few = (begun c.before.before.before.before.before).requires in search rules
 
-returns-3 : tie.Need-returns-3
+returns-3 : tie.Need-returns-else-starts-lines
 returns-3 c =
-    let p = c.before.before in
-    let t = p.before.before.before in
-    let s = begun t in
-    let line : List ℕ = p.put-line.new.1.1.0 in
-    let left = p.before.before.if2.false in
+    let s = begun c.before.before.before.before.before in
+    let line : List ℕ = c.put_line.new.out in
+    let left = c.if-starts-lines.false in
     let written : table s ++ line ≡ text s =
-    ap (λ (l : List ℕ). table s ++ l) p.put-line.ensures ∙ sym (added-text (table s) (identity s) (key s) s.pre.1.1.0) in
-    rw (given t ∙ roomed-fits (length (starts s)) (text s) (omega (arith, lines_then t)))
+    ap (λ (l : List ℕ). table s ++ l) c.put_line.ensures ∙ sym (added-text (table s) (identity s) (key s) s.requires.1.1.0) in
+    rw (given c.before.before.before.before.before ∙ roomed-fits (length (starts s)) (text s) (omega (arith, lines_then c.before.before.before.before.before)))
     (both-wrote (memory s) (starts s) (count s) (text s) _ _ _ (end s)
     (start-appended (starts s) (starts_of (table s)) (count s) (own s) (n s) (starts_of (text s)) (omega arith) (new-list s))
-    (sym (lines_then t))
-    (answered (text s) (memory s) _ (end s) (new-length s) (fits t).1
+    (sym (lines_then c.before.before.before.before.before))
+    (answered (text s) (memory s) _ (end s) (new-length s) (fits c.before.before.before.before.before).1
     (line-appended (memory s) line (n s) (end s) (omega arith) ∙ ap (λ (r : List ℕ). r ++ drop (end s) (memory s)) written)))
 
-returns-4 : tie.Need-returns-4
+returns-4 : tie.Need-returns-in-Refused
 returns-4 c =
-    let j = c.before.before.before in
-    let s = start j in
-    rw (size-decides j)
+    let s = start c.before in
+    rw (size-decides c.before)
     (both-refused (memory s) (starts s) (count s) _ _ _ (memory s) refl
     (roomed-refused (bounded (text s)) (length (starts s)) _ (memory s)
-    (size-refused (text s) (memory s) (end s) (new-length s) _ (sym j.judge-size.ensures ∙ c.before.size.given.1))))
+    (size-refused (text s) (memory s) (end s) (new-length s) _ (sym c.judge_size-size.ensures ∙ c.in-Refused.is))))
 
-pub append-spec : {M : Type 1} → statement M
-append-spec =
+pub append_spec : {M : Type 1} → statement M
+append_spec =
     tie.close
     (tie.spec
     returns

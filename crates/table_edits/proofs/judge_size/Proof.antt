@@ -4,14 +4,14 @@ use borrow.Author.Tests.{le-leb, lt-leb}
 use Rattle.table_edits.proofs.judge_size.Statement.{statement}
 use Rattle.table_edits.proofs.judge_size.Tie as tie
 
-returns : tie.Need-returns
-returns c = simp (lt-leb _ _ c.if1.true)
+returns : tie.Need-returns-then-size-gt65536
+returns c = simp (lt-leb _ _ c.if-size-gt65536.true)
 
-returns-2 : tie.Need-returns-2
-returns-2 c = simp (le-leb _ _ c.before.if1.false, lt-leb _ _ c.if2.true)
+returns-2 : tie.Need-returns-then-room-size
+returns-2 c = simp (le-leb _ _ c.if-size-gt65536.false, lt-leb _ _ c.if-room-size.true)
 
-returns-3 : tie.Need-returns-3
-returns-3 c = simp (le-leb _ _ c.before.if1.false, le-leb _ _ c.if2.false)
+returns-3 : tie.Need-returns
+returns-3 c = simp (le-leb _ _ c.if-size-gt65536.false, le-leb _ _ c.if-room-size.false)
 
-pub judge-size-spec : {M : Type 1} → statement M
-judge-size-spec = tie.close (tie.spec returns returns-2 returns-3)
+pub judge_size_spec : {M : Type 1} → statement M
+judge_size_spec = tie.close (tie.spec returns returns-2 returns-3)

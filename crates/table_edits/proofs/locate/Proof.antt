@@ -15,16 +15,16 @@ use borrow.Author.Rules.{rules}
 use Rattle.table_edits.proofs.locate.Statement.{statement}
 use Rattle.table_edits.proofs.locate.Tie as tie
 
-returns : tie.Need-returns
-returns c = rw (lt-leb _ _ c.if1.true)
+returns : tie.Need-returns-then-memory-length
+returns c = rw (lt-leb _ _ c.if-memory-length.true)
 
-slice-aggregate-table : tie.Need-slice-aggregate-table
-slice-aggregate-table c = sym (length-take-le _ _ c.before.if1.false)
+slice-aggregate-table : tie.Need-slice_bounds-table-end
+slice-aggregate-table c = sym (length-take-le _ _ c.if-memory-length.false)
 
 -- where table and list were judged
-module _ (c : tie.After-judge) where
-  abbrev long : tie.Else1
-  long = c.before.before
+module _ (c : tie.After-judge-both) where
+  abbrev long : tie.Else-memory-length
+  long = c.before
 
   abbrev start : tie.Start
   start = long.before.before.before.before
@@ -47,30 +47,26 @@ module _ (c : tie.After-judge) where
   abbrev secret : Bool
   secret = start.args.secret
 
-good : (c : tie.After-enum-told) → let j : tie.After-judge = c.before.before in list_refusal (take (n j) (memory j)) (starts j) (count j) ≡ none
-good c = judged-good _ (sym c.before.before.judge.ensures ∙ c.enum_told.given.1)
+good : (c : tie.In-Good) → list_refusal (take (n c.before) (memory c.before)) (starts c.before) (count c.before) ≡ none
+good c = judged-good _ (sym c.judge-both.ensures ∙ c.in-Good.is)
 
-slice-aggregate-seek : tie.Need-slice-aggregate-seek
+slice-aggregate-seek : tie.Need-slice_bounds-seek-end
 slice-aggregate-seek c =
-    let j = c.before.before.before in
-    let t : List ℕ = take (n j) (memory j) in
-    let own = (passed-both t (starts j) (count j) (good c.before)).1 in
-    sym (length-take-le _ _ (leb-true _ _ (own-within t (starts j) (count j) own)))
+    let t : List ℕ = take (n c.before) (memory c.before) in
+    let own = (passed-both t (starts c.before) (count c.before) (good c)).1 in
+    sym (length-take-le _ _ (leb-true _ _ (own-within t (starts c.before) (count c.before) own)))
 
-returns-2 : tie.Need-returns-2
+returns-2 : tie.Need-returns-in-Good
 returns-2 c =
-    let told = c.before.before in
-    let j = told.before.before in
-    c.seek.ensures ∙ sym (place-good (memory j) (n j) (starts j) (count j) (identity j) (secret j) (long j).if1.false (good told))
+    c.seek.ensures ∙ sym (place-good (memory c.before.before) (n c.before.before) (starts c.before.before) (count c.before.before) (identity c.before.before) (secret c.before.before) (long c.before.before).if-memory-length.false (good c.before))
 
-returns-3 : tie.Need-returns-3
+returns-3 : tie.Need-returns-in-Refused
 returns-3 c =
-    let j = c.before.before.before in
-    sym (place-refused (memory j) (n j) (starts j) (count j) (identity j) (secret j) (long j).if1.false _
-    (judged-refused _ _ (sym j.judge.ensures ∙ c.before.both.given.1)))
+    sym (place-refused (memory c.before) (n c.before) (starts c.before) (count c.before) (identity c.before) (secret c.before) (long c.before).if-memory-length.false _
+    (judged-refused _ _ (sym c.judge-both.ensures ∙ c.in-Refused.is)))
 
-pub locate-spec : {M : Type 1} → statement M
-locate-spec =
+pub locate_spec : {M : Type 1} → statement M
+locate_spec =
     tie.close
     (tie.spec
     returns

@@ -30,13 +30,13 @@ module _ (s : tie.Start) where
 
   new-length : length new-table ≡ s.args.from + 2 * length s.args.key.now + (s.args.length - s.args.to)
   new-length =
-      let size = length-take-le s.args.length memory s.pre.0 in
+      let size = length-take-le s.args.length memory s.requires.0 in
       let digits = length-hex s.args.key.now in
-      let ordered = s.pre in
+      let ordered = s.requires in
       omega (arith, length-spliced s.args.from s.args.to hex (take s.args.length memory) (omega arith))
 
 -- where the size was judged
-module _ (c : tie.After-judge-size) where
+module _ (c : tie.After-judge_size-size) where
   abbrev start : tie.Start
   start = c.before.before.before
 
@@ -47,47 +47,43 @@ module _ (c : tie.After-judge-size) where
   end = digits-end + (start.args.length - start.args.to)
 
 -- and found small enough
-module _ (c : tie.After-enum-told) where
-  abbrev judged : tie.After-judge-size
-  judged = c.before.before
+module _ (c : tie.In-Good) where
+  abbrev judged : tie.After-judge_size-size
+  judged = c.before
 
   fits : (bounded (new-table (start judged)) ≡ gives (new-table (start judged))) × (end judged ≤ length (memory (start judged)))
   fits =
       size-good (new-table (start judged)) (memory (start judged)) (end judged) (new-length (start judged))
-      (sym judged.judge-size.ensures ∙ c.enum_told.given.1)
+      (sym judged.judge_size-size.ensures ∙ c.in-Good.is)
 
 shift-requires : tie.Need-shift-requires
 shift-requires c κs =
     let room = (fits c.before).1 in
-    let ordered = (start (judged c.before)).pre in
+    let ordered = (start (judged c.before)).requires in
     (omega arith, (omega arith, omega arith))
 
-part-put-key-end : tie.Need-slice-bounds-put-key-end
+part-put-key-end : tie.Need-slice_bounds-put_key-end
 part-put-key-end c = let room = (fits c.before.before.before.before).1 in search rules
 
-returns : tie.Need-returns
+returns : tie.Need-returns-in-Good
 returns c =
-    let p = c.before.before in
-    let m = p.before.before.before.before in
-    let f = m.before.before in
-    let j = judged f in
+    let j = judged c.before.before.before.before.before.before.before.before in
     let s = start j in
     let a = s.args in
-    let ordered = s.pre in
+    let ordered = s.requires in
     let digits = length-hex a.key.now in
-    rw (fits f).0
-    (answered (new-table s) (memory s) _ (end j) (new-length s) (fits f).1
-    (ap₂ (put_mid a.from (digits-end j - a.from)) m.shift.ensures p.put-key.ensures
+    rw (fits c.before.before.before.before.before.before.before.before).0
+    (answered (new-table s) (memory s) _ (end j) (new-length s) (fits c.before.before.before.before.before.before.before.before).1
+    (ap₂ (put_mid a.from (digits-end j - a.from)) c.shift.ensures c.put_key.ensures
     ∙ digits-written (memory s) a.from a.to a.length (omega arith) (omega arith) (omega arith) (hex s) (digits-end j) (omega arith)
-    (fits f).1))
+    (fits c.before.before.before.before.before.before.before.before).1))
 
-returns-2 : tie.Need-returns-2
+returns-2 : tie.Need-returns-in-Refused
 returns-2 c =
-    let j = c.before.before.before in
-    size-refused (new-table (start j)) (memory (start j)) (end j) (new-length (start j)) _ (sym j.judge-size.ensures ∙ c.before.size.given.1)
+    size-refused (new-table (start c.before)) (memory (start c.before)) (end c.before) (new-length (start c.before)) _ (sym c.judge_size-size.ensures ∙ c.in-Refused.is)
 
-pub put-digits-spec : {M : Type 1} → statement M
-put-digits-spec =
+pub put_digits_spec : {M : Type 1} → statement M
+put_digits_spec =
     tie.close
     (tie.spec
     (λ c. search rules)

@@ -18,9 +18,9 @@ use Rattle.table_edits.proofs.replace.Statement.{statement}
 use Rattle.table_edits.proofs.replace.Tie as tie
 
 -- where the place was looked for
-module _ (c : tie.After-locate) where
+module _ (c : tie.After-locate-found) where
   abbrev start : tie.Start
-  start = c.before.before.before.before.before.before.before.before.before
+  start = c.before.before.before.before.before.before.before
 
   abbrev memory : List ℕ
   memory = start.args.memory.now
@@ -40,25 +40,25 @@ module _ (c : tie.After-locate) where
   abbrev key : List ℕ
   key = start.args.key.now
 
-  place : place_in memory n starts count identity (valid_secret key) ≡ c.locate.result
-  place = ap (place_in memory n starts count identity) (sym c.before.valid-secret.ensures) ∙ sym c.locate.ensures
+  place : place_in memory n starts count identity (valid_secret key) ≡ c.locate-found.result
+  place = ap (place_in memory n starts count identity) (sym c.valid_secret.ensures) ∙ sym c.locate-found.ensures
 
 -- where it was found
-module _ (c : tie.After-known-told) where
-  abbrev looked : tie.After-locate
-  looked = c.before.before.before
+module _ (c : tie.In-At) where
+  abbrev looked : tie.After-locate-found
+  looked = c.before
 
   abbrev k : ℕ
-  k = c.before.found.given.0.0
+  k = c.in-At.k
 
   abbrev from : ℕ
-  from = c.before.found.given.0.1.0
+  from = c.in-At.from
 
   abbrev to : ℕ
-  to = c.before.found.given.0.1.1.0
+  to = c.in-At.to
 
   there : place_in (memory looked) (n looked) (starts looked) (count looked) (identity looked) (valid_secret (key looked)) ≡ At k from to
-  there = place looked ∙ c.before.found.given.1
+  there = place looked ∙ c.in-At.is
 
   sizes : (n looked ≤ length (memory looked)) × (n looked ≤ 65536) × (length (identity looked) + 1 ≤ from) × (from ≤ to) × (to < n looked)
   sizes = found-sizes (memory looked) (n looked) (starts looked) (count looked) (identity looked) (valid_secret (key looked)) k from to there
@@ -69,32 +69,32 @@ module _ (c : tie.After-known-told) where
   few : length (key looked) ≤ 64
   few = found-key (memory looked) (n looked) (starts looked) (count looked) (identity looked) (key looked) k from to there
 
-put-digits-requires : tie.Need-put-digits-requires
+put-digits-requires : tie.Need-put_digits-written-requires
 put-digits-requires c κs =
     let s = sizes c.before in
     (s.0, (s.1, (s.3, (omega (arith, s.4), few c.before))))
 
 -- where the digits were put
-module _ (c : tie.After-follow-arg) where
-  abbrev wrote : tie.After-written
-  wrote = c.before.before
+module _ (c : tie.After-follow-arg-1) where
+  abbrev wrote : tie.In-Wrote
+  wrote = c.before
 
-  abbrev put : tie.After-put-digits
-  put = wrote.before.before.before.before
+  abbrev put : tie.After-put_digits-written
+  put = wrote.before.before.before
 
-  abbrev found : tie.After-known-told
+  abbrev found : tie.In-At
   found = put.before.before
 
-add-follow : tie.Need-overflow-add-follow
+add-follow : tie.Need-overflow_add-k
 add-follow c = let s = counts (found c) in search rules
 
-add-follow-2 : tie.Need-overflow-add-follow-2
+add-follow-2 : tie.Need-overflow_add-k-in-Wrote
 add-follow-2 c = let s = counts (found c) in search rules
 
-mul-follow : tie.Need-overflow-mul-follow
+mul-follow : tie.Need-overflow_mul-key
 mul-follow c = let s = few (found c) in search rules
 
-add-follow-3 : tie.Need-overflow-add-follow-3
+add-follow-3 : tie.Need-overflow_add-from
 add-follow-3 c = let s = sizes (found c) in let small = few (found c) in search rules
 
 follow-requires : tie.Need-follow-requires
@@ -106,38 +106,32 @@ follow-requires c κs =
     let behind = found-starts (memory l) (n l) (starts l) (count l) (identity l) (valid_secret (key l)) (k f) (from f) (to f) (there f) in
     (omega arith, ((counts f).0, ((counts f).1, (omega (arith, s.1, s.4), (omega (arith, s.1, s.3, s.4), behind _ (omega arith))))))
 
-returns : tie.Need-returns
+returns : tie.Need-returns-in-Wrote
 returns c =
-    let g = c.before.before in
-    let f = found g.before in
+    let f = found c.before.before.before in
     let l = looked f in
     let t : List ℕ = spliced (from f) (to f) (lower_hex (key l)) (take (n l) (memory l)) in
     rw (replace-listed (memory l) (n l) (starts l) (count l) (identity l) (key l) (k f) (from f) (to f) (there f))
     (both-bounded (memory l) (starts l) (count l) t _ _ _ _
-    (g.follow.ensures ∙ replaced-list (memory l) (n l) (starts l) (count l) (identity l) (key l) (k f) (from f) (to f) (there f))
+    (c.follow.ensures ∙ replaced-list (memory l) (n l) (starts l) (count l) (identity l) (key l) (k f) (from f) (to f) (there f))
     (replaced-count (memory l) (n l) (starts l) (count l) (identity l) (key l) (k f) (from f) (to f) (there f))
-    _ (wrote g.before).written.given.1 (put g.before).put-digits.ensures)
+    _ (wrote c.before.before.before).in-Wrote.is (put c.before.before.before).put_digits-written.ensures)
 
-returns-2 : tie.Need-returns-2
+returns-2 : tie.Need-returns-in-Refused-written
 returns-2 c =
-    let w = c.before in
-    let d = w.before.before.before.before in
-    let f = d.before.before in
-    let l = looked f in
-    rw (replace-listed (memory l) (n l) (starts l) (count l) (identity l) (key l) (k f) (from f) (to f) (there f))
-    (both-refused (memory l) (starts l) (count l) _ _ _ _ w.written2.given.1 d.put-digits.ensures)
+    let l = looked c.before.before.before.before.before in
+    rw (replace-listed (memory l) (n l) (starts l) (count l) (identity l) (key l) (k c.before.before.before.before.before) (from c.before.before.before.before.before) (to c.before.before.before.before.before) (there c.before.before.before.before.before))
+    (both-refused (memory l) (starts l) (count l) _ _ _ _ c.in-Refused-written.is c.put_digits-written.ensures)
 
-returns-3 : tie.Need-returns-3
+returns-3 : tie.Need-returns-in-Absent
 returns-3 c =
-    let l = c.before.before in
-    rw (replace_absent (memory l) (n l) (starts l) (count l) (identity l) (key l) (place l ∙ c.enum_told.given.1))
-    (both-kept (memory l) (starts l) (count l) _)
+    rw (replace_absent (memory c.before) (n c.before) (starts c.before) (count c.before) (identity c.before) (key c.before) (place c.before ∙ c.in-Absent.is))
+    (both-kept (memory c.before) (starts c.before) (count c.before) _)
 
-returns-4 : tie.Need-returns-4
+returns-4 : tie.Need-returns-in-Refused
 returns-4 c =
-    let l = c.before.before.before in
-    rw (edit-refused (memory l) (n l) (starts l) (count l) (replace (identity l) (key l)) _ (place l ∙ c.before.found2.given.1))
-    (both-kept (memory l) (starts l) (count l) _)
+    rw (edit-refused (memory c.before) (n c.before) (starts c.before) (count c.before) (replace (identity c.before) (key c.before)) _ (place c.before ∙ c.in-Refused.is))
+    (both-kept (memory c.before) (starts c.before) (count c.before) _)
 
 pub replace_spec : {M : Type 1} → statement M
 replace_spec =

@@ -19,9 +19,9 @@ use Rattle.table_edits.proofs.retire.Statement.{statement}
 use Rattle.table_edits.proofs.retire.Tie as tie
 
 -- where the place was looked for
-module _ (c : tie.After-locate) where
+module _ (c : tie.After-locate-found) where
   abbrev begun : tie.Start
-  begun = c.before.before.before.before.before.before.before
+  begun = c.before.before.before.before.before
 
   abbrev memory : List ℕ
   memory = begun.args.memory.now
@@ -38,28 +38,28 @@ module _ (c : tie.After-locate) where
   abbrev identity : List ℕ
   identity = begun.args.identity.now
 
-  place : place_in memory n starts count identity true ≡ c.locate.result
-  place = sym c.locate.ensures
+  place : place_in memory n starts count identity true ≡ c.locate-found.result
+  place = sym c.locate-found.ensures
 
 -- where it was found
-module _ (c : tie.After-known-told) where
-  abbrev looked : tie.After-locate
-  looked = c.before.before.before
+module _ (c : tie.In-At) where
+  abbrev looked : tie.After-locate-found
+  looked = c.before
 
   abbrev k : ℕ
-  k = c.before.found.given.0.0
+  k = c.in-At.k
 
   abbrev from : ℕ
-  from = c.before.found.given.0.1.0
+  from = c.in-At.from
 
   abbrev to : ℕ
-  to = c.before.found.given.0.1.1.0
+  to = c.in-At.to
 
   abbrev start : ℕ
   start = from - 1 - length (identity looked)
 
   there : place_in (memory looked) (n looked) (starts looked) (count looked) (identity looked) true ≡ At k from to
-  there = place looked ∙ c.before.found.given.1
+  there = place looked ∙ c.in-At.is
 
   sizes : (n looked ≤ length (memory looked)) × (n looked ≤ 65536) × (length (identity looked) + 1 ≤ from) × (from ≤ to) × (to < n looked)
   sizes = found-sizes (memory looked) (n looked) (starts looked) (count looked) (identity looked) true k from to there
@@ -67,13 +67,13 @@ module _ (c : tie.After-known-told) where
   counts : (k + 1 ≤ count looked) × (count looked ≤ length (starts looked))
   counts = found-counts (memory looked) (n looked) (starts looked) (count looked) (identity looked) true k from to there
 
-sub-start : tie.Need-overflow-sub-start
+sub-start : tie.Need-overflow_sub-start
 sub-start c = omega (arith, (sizes c).2)
 
-sub-start-2 : tie.Need-overflow-sub-start-2
+sub-start-2 : tie.Need-overflow_sub-start-in-At
 sub-start-2 c = omega (arith, (sizes c).2)
 
-add-next : tie.Need-overflow-add-next
+add-next : tie.Need-overflow_add-next
 add-next c = let s = sizes c in search rules
 
 shift-requires : tie.Need-shift-requires
@@ -81,38 +81,37 @@ shift-requires c κs =
     let s = sizes c.before in
     (omega (arith, s.4), (s.0, omega (arith, s.0, s.2, s.3, s.4)))
 
-add-follow : tie.Need-overflow-add-follow
+add-follow : tie.Need-overflow_add-k
 add-follow c = let s = counts c.before.before.before.before.before in search rules
 
 follow-requires : tie.Need-follow-requires
 follow-requires c κs =
-    let f = c.before.before.before.before.before in
-    let l = looked f in
-    let s = sizes f in
-    let behind = found-starts (memory l) (n l) (starts l) (count l) (identity l) true (k f) (from f) (to f) (there f) in
-    (omega arith, ((counts f).0, ((counts f).1, (omega (arith, s.1, s.4), (omega (arith, s.1, s.3, s.4), behind _ (omega arith))))))
+    let l = looked c.before.before.before.before.before in
+    let s = sizes c.before.before.before.before.before in
+    let behind = found-starts (memory l) (n l) (starts l) (count l) (identity l) true (k c.before.before.before.before.before) (from c.before.before.before.before.before) (to c.before.before.before.before.before) (there c.before.before.before.before.before) in
+    (omega arith, ((counts c.before.before.before.before.before).0, ((counts c.before.before.before.before.before).1, (omega (arith, s.1, s.4), (omega (arith, s.1, s.3, s.4), behind _ (omega arith))))))
 
 -- where the starts were, too
-module _ (c : tie.After-slice-known4) where
+module _ (c : tie.After-slice_known-in-At-2-1) where
   abbrev followed : tie.After-follow
   followed = c.before.before
 
   abbrev shifted : tie.After-shift
   shifted = followed.before.before.before.before
 
-  abbrev found : tie.After-known-told
+  abbrev found : tie.In-At
   found = shifted.before.before
 
-sub-count : tie.Need-overflow-sub-count
+sub-count : tie.Need-overflow_sub-count
 sub-count c = let s = counts (found c) in search rules
 
-sub-t19 : tie.Need-overflow-sub-t19
+sub-t19 : tie.Need-overflow_sub-result
 sub-t19 c = omega (arith, (sizes (found c)).4)
 
-add-t20 : tie.Need-overflow-add-t20
+add-t20 : tie.Need-overflow_add-result
 add-t20 c = let s = sizes (found c) in search rules
 
-returns : tie.Need-returns
+returns : tie.Need-returns-in-At
 returns c =
     let f = found c in
     let l = looked f in
@@ -127,20 +126,18 @@ returns c =
     (length-shorter (memory l) (n l) (starts l) (count l) (identity l) (k f) (from f) (to f) (start f) (there f) refl) (omega arith)
     ((shifted c).shift.ensures ∙ cut_out (memory l) (start f) (to f + 1) (n l) (omega arith) (omega arith) (omega arith))))
 
-returns-2 : tie.Need-returns-2
+returns-2 : tie.Need-returns-in-Absent
 returns-2 c =
-    let l = c.before.before in
-    rw (retire-absent (memory l) (n l) (starts l) (count l) (identity l) (place l ∙ c.enum_told.given.1))
-    (both-kept (memory l) (starts l) (count l) _)
+    rw (retire-absent (memory c.before) (n c.before) (starts c.before) (count c.before) (identity c.before) (place c.before ∙ c.in-Absent.is))
+    (both-kept (memory c.before) (starts c.before) (count c.before) _)
 
-returns-3 : tie.Need-returns-3
+returns-3 : tie.Need-returns-in-Refused
 returns-3 c =
-    let l = c.before.before.before in
-    rw (edit-refused (memory l) (n l) (starts l) (count l) (retire (identity l)) _ (place l ∙ c.before.found2.given.1))
-    (both-kept (memory l) (starts l) (count l) _)
+    rw (edit-refused (memory c.before) (n c.before) (starts c.before) (count c.before) (retire (identity c.before)) _ (place c.before ∙ c.in-Refused.is))
+    (both-kept (memory c.before) (starts c.before) (count c.before) _)
 
-pub retire-spec : {M : Type 1} → statement M
-retire-spec =
+pub retire_spec : {M : Type 1} → statement M
+retire_spec =
     tie.close
     (tie.spec
     (λ c κs. search rules)

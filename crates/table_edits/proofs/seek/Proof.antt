@@ -1,5 +1,6 @@
 -- `table_edits::seek`: the first test that fails decides; where both pass, the search does.
 -- Assumes nothing.
+use Rattle.std.specs.Prelude.{not}
 use mathlib.Core.Path.{◌≡◌, sym, ap, ◌∙◌}
 use borrow.Author.Tests.{not-true, not-false}
 use Rattle.lists.proofs.Tests.{failed, passed}
@@ -10,17 +11,16 @@ use borrow.Author.Rules.{rules}
 use Rattle.table_edits.proofs.seek.Statement.{statement}
 use Rattle.table_edits.proofs.seek.Tie as tie
 
-returns : tie.Need-returns
-returns c = rw (failed _ _ c.before.valid-identity.ensures c.if1.true)
+returns : tie.Need-returns-then-not-valid_identity
+returns c = rw (failed _ _ c.valid_identity.ensures (ap not c.if-not-valid_identity.true))
 
-returns-2 : tie.Need-returns-2
+returns-2 : tie.Need-returns-then-not-secret
 returns-2 c =
-    let v = c.before.before in
-    rw (passed _ _ v.valid-identity.ensures c.before.if1.false, not-true v.before.before.before.before.args.secret c.if2.true)
+    rw (passed _ _ c.valid_identity.ensures (ap not c.if-not-valid_identity.false), not-true c.args.secret (ap not c.if-not-secret.true))
 
 -- where the search has been made: both tests passed
-module _ (c : tie.After-first-line) where
-  abbrev identified : tie.After-valid-identity
+module _ (c : tie.After-first_line-hit) where
+  abbrev identified : tie.After-valid_identity
   identified = c.before.before.before
 
   abbrev start : tie.Start
@@ -30,20 +30,18 @@ module _ (c : tie.After-first-line) where
       ≡ hit_place (placed 0 start.args.identity.now start.args.table.now start.args.starts.now)
   place =
       sought start.args.table.now start.args.starts.now start.args.identity.now start.args.secret
-      (passed _ _ identified.valid-identity.ensures c.before.before.if1.false) (not-false start.args.secret c.before.if2.false)
+      (passed _ _ identified.valid_identity.ensures (ap not c.if-not-valid_identity.false)) (not-false start.args.secret (ap not c.if-not-secret.false))
 
-returns-3 : tie.Need-returns-3
+returns-3 : tie.Need-returns-in-Line
 returns-3 c =
-    let h = c.before.before.before in
-    sym (place h ∙ ap hit_place (sym h.first-line.ensures ∙ c.before.hit.given.1))
+    sym (place c.before ∙ ap hit_place (sym c.first_line-hit.ensures ∙ c.in-Line.is))
 
-returns-4 : tie.Need-returns-4
+returns-4 : tie.Need-returns-in-Nothing
 returns-4 c =
-    let h = c.before.before in
-    sym (place h ∙ ap hit_place (sym h.first-line.ensures ∙ c.enum_told.given.1))
+    sym (place c.before ∙ ap hit_place (sym c.first_line-hit.ensures ∙ c.in-Nothing.is))
 
-pub seek-spec : {M : Type 1} → statement M
-seek-spec =
+pub seek_spec : {M : Type 1} → statement M
+seek_spec =
     tie.close
     (tie.spec
     (λ c κs. search rules)

@@ -4,24 +4,22 @@ use borrow.Author.Tests.{le-leb, lt-leb}
 use Rattle.utf8.proofs.allowed.Statement.{statement}
 use Rattle.utf8.proofs.allowed.Tie as tie
 
-returns : tie.Need-returns
-returns c = simp (lt-leb _ _ c.if1.true)
+returns : tie.Need-returns-then-v-least
+returns c = simp (lt-leb _ _ c.if-v-least.true)
 
-returns-2 : tie.Need-returns-2
-returns-2 c = simp (le-leb _ _ c.before.if1.false, lt-leb _ _ c.if2.true)
+returns-2 : tie.Need-returns-then-v-gt1114111
+returns-2 c = simp (le-leb _ _ c.if-v-least.false, lt-leb _ _ c.if-v-gt1114111.true)
 
-returns-3 : tie.Need-returns-3
-returns-3 c = simp (le-leb _ _ c.before.before.if1.false, le-leb _ _ c.before.if2.false, lt-leb _ _ c.if3.true)
+returns-3 : tie.Need-returns-then-v-lt55296
+returns-3 c = simp (le-leb _ _ c.if-v-least.false, le-leb _ _ c.if-v-gt1114111.false, lt-leb _ _ c.if-v-lt55296.true)
 
-returns-4 : tie.Need-returns-4
+returns-4 : tie.Need-returns-then-v-gt57343
 returns-4 c =
-    let second = c.before.before in
-    simp (le-leb _ _ second.before.if1.false, le-leb _ _ second.if2.false, le-leb _ _ c.before.if3.false, lt-leb _ _ c.if4.true)
+    simp (le-leb _ _ c.if-v-least.false, le-leb _ _ c.if-v-gt1114111.false, le-leb _ _ c.if-v-lt55296.false, lt-leb _ _ c.if-v-gt57343.true)
 
-returns-5 : tie.Need-returns-5
+returns-5 : tie.Need-returns
 returns-5 c =
-    let second = c.before.before in
-    simp (le-leb _ _ second.before.if1.false, le-leb _ _ second.if2.false, le-leb _ _ c.before.if3.false, le-leb _ _ c.if4.false)
+    simp (le-leb _ _ c.if-v-least.false, le-leb _ _ c.if-v-gt1114111.false, le-leb _ _ c.if-v-lt55296.false, le-leb _ _ c.if-v-gt57343.false)
 
-pub allowed-spec : {M : Type 1} → statement M
-allowed-spec = tie.close (tie.spec returns returns-2 returns-3 returns-4 returns-5)
+pub allowed_spec : {M : Type 1} → statement M
+allowed_spec = tie.close (tie.spec returns returns-2 returns-3 returns-4 returns-5)

@@ -5,17 +5,17 @@ use borrow.Author.Tests.{le-leb, lt-leb, eq-eqb, ne_eqb}
 use Rattle.utf8.proofs.size.Statement.{statement}
 use Rattle.utf8.proofs.size.Tie as tie
 
-returns : tie.Need-returns
-returns c = simp (eq-eqb _ _ c.if1.true)
+returns : tie.Need-returns-then-ones-eq0
+returns c = simp (eq-eqb _ _ c.if-ones-eq0.true)
 
-returns-2 : tie.Need-returns-2
-returns-2 c = simp (ne_eqb _ _ c.before.if1.false, lt-leb _ _ c.if2.true)
+returns-2 : tie.Need-returns-then-ones-lt2
+returns-2 c = simp (ne_eqb _ _ c.if-ones-eq0.false, lt-leb _ _ c.if-ones-lt2.true)
 
-returns-3 : tie.Need-returns-3
-returns-3 c = simp (ne_eqb _ _ c.before.before.if1.false, le-leb _ _ c.before.if2.false, lt-leb _ _ c.if3.true)
+returns-3 : tie.Need-returns-then-ones-gt4
+returns-3 c = simp (ne_eqb _ _ c.if-ones-eq0.false, le-leb _ _ c.if-ones-lt2.false, lt-leb _ _ c.if-ones-gt4.true)
 
-returns-4 : tie.Need-returns-4
-returns-4 c = simp (ne_eqb _ _ c.before.before.if1.false, le-leb _ _ c.before.if2.false, le-leb _ _ c.if3.false)
+returns-4 : tie.Need-returns
+returns-4 c = simp (ne_eqb _ _ c.if-ones-eq0.false, le-leb _ _ c.if-ones-lt2.false, le-leb _ _ c.if-ones-gt4.false)
 
-pub size-spec : {M : Type 1} → statement M
-size-spec = tie.close (tie.spec returns returns-2 returns-3 (λ c. search rules) returns-4)
+pub size_spec : {M : Type 1} → statement M
+size_spec = tie.close (tie.spec returns returns-2 returns-3 (λ c. search rules) returns-4)

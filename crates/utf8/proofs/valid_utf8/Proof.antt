@@ -1,5 +1,6 @@
 -- `utf8::valid_utf8`: what is left of the text is as good as the whole, and each turn takes one character off.
 -- Assumes nothing.
+use Rattle.std.specs.Prelude.{not}
 use borrow.Author.Rules.{rules}
 use mathlib.Core.Path.{◌≡◌, ◌∙◌, sym, ap}
 use Prim.Native.Nat.{ℕ, ◌+◌, ◌-◌, ◌≤◌, ◌<◌}
@@ -15,77 +16,76 @@ use Rattle.utf8.proofs.Characters.{some_bytes, whole, valid-next, valid-stop}
 use Rattle.utf8.proofs.valid_utf8.Statement.{statement}
 use Rattle.utf8.proofs.valid_utf8.Tie as tie
 
-abbrev invariant-loop : tie.invariant-loop
+abbrev invariant-loop : tie.invariant-loop-at
 invariant-loop s at₀ at = (at ≤ length s) × (valid_after 0 s ≡ valid_after 0 (drop at s))
 
-abbrev decreases-loop : tie.decreases-loop
+abbrev decreases-loop : tie.decreases-loop-at
 decreases-loop s at₀ at = length s - at
 
 -- the text, and what is left of it at a turn
-module _ (c : tie.After-size invariant-loop decreases-loop) where
-  abbrev at-loop : tie.At-loop invariant-loop decreases-loop
+module _ (c : tie.After-size-n invariant-loop decreases-loop) where
+  abbrev at-loop : tie.At-loop-at invariant-loop decreases-loop
   at-loop = c.before.before.before
 
   abbrev text : List ℕ
-  text = at-loop.before.before.args.s.now
+  text = at-loop.args.s.now
 
   abbrev place : ℕ
-  place = at-loop.loop.at
+  place = at-loop.loop-at.at
 
   abbrev left : List ℕ
   left = drop place text
 
   some_left : 0 < length left
-  some_left = rw length-drop (omega (arith, c.before.before.loop-test.true))
+  some_left = rw length-drop (omega (arith, c.loop-at-test.true))
 
-  size-left : c.size.result ≡ size (get_or left 0 0)
-  size-left = c.size.ensures ∙ ap size (sym (first-of-drop text place))
+  size-left : c.size-n.result ≡ size (get_or left 0 0)
+  size-left = c.size-n.ensures ∙ ap size (sym (first-of-drop text place))
 
 begins-requires : tie.Need-begins-requires invariant-loop decreases-loop
-begins-requires c κs = let t = c.before in rw (part_to_end (text t) (place t)) (some_left t, size-left t)
+begins-requires c κs = rw (part_to_end (text c.before) (place c.before)) (some_left c.before, size-left c.before)
 
-returns : tie.Need-returns invariant-loop decreases-loop
+returns : tie.Need-returns-then-not-begins invariant-loop decreases-loop
 unfolding valid_utf8
 returns c =
-    let t = c.before.before.before in
-    let bad = rw (part_to_end (text t) (place t)) at (failed _ _ c.before.begins.ensures c.if1.true) in
-    sym ((at-loop t).loop.invariant.1 ∙ valid-stop (left t) _ (some_left t) (size-left t) bad)
+    let bad = rw (part_to_end (text c.before.before.before) (place c.before.before.before)) at (failed _ _ c.begins.ensures (ap not c.if-not-begins.true)) in
+    sym ((at-loop c.before.before.before).loop-at.invariant.1 ∙ valid-stop (left c.before.before.before) _ (some_left c.before.before.before) (size-left c.before.before.before) bad)
 
 -- after a character
-module _ (c : tie.Else1 invariant-loop decreases-loop) where
-  abbrev t : tie.After-size invariant-loop decreases-loop
+module _ (c : tie.Else-not-begins invariant-loop decreases-loop) where
+  abbrev t : tie.After-size-n invariant-loop decreases-loop
   t = c.before.before.before
 
-  good : character (take t.size.result (left t)) ≡ true
-  good = rw (part_to_end (text t) (place t)) at (passed _ _ c.before.begins.ensures c.if1.false)
+  good : character (take t.size-n.result (left t)) ≡ true
+  good = rw (part_to_end (text t) (place t)) at (passed _ _ c.begins.ensures (ap not c.if-not-begins.false))
 
-  moves : 0 < t.size.result
+  moves : 0 < t.size-n.result
   moves = some_bytes (left t) _ (some_left t) (size-left t) good
 
-  within : place t + t.size.result ≤ length (text t)
+  within : place t + t.size-n.result ≤ length (text t)
   within = omega (arith, length-drop (place t) (text t), whole (left t) _ (some_left t) (size-left t) good)
 
-  again : valid_after 0 (text t) ≡ valid_after 0 (drop (place t + t.size.result) (text t))
+  again : valid_after 0 (text t) ≡ valid_after 0 (drop (place t + t.size-n.result) (text t))
   again =
-      (at-loop t).loop.inv.1 ∙ valid-next (left t) _ (some_left t) (size-left t) good
-      ∙ ap (λ (l : List ℕ). valid_after 0 l) (drop-drop t.size.result (place t) (text t))
+      (at-loop t).loop-at.invariant.1 ∙ valid-next (left t) _ (some_left t) (size-left t) good
+      ∙ ap (λ (l : List ℕ). valid_after 0 l) (drop-drop t.size-n.result (place t) (text t))
 
-add_at : tie.Need-overflow-add-at invariant-loop decreases-loop
+add_at : tie.Need-overflow_add-at invariant-loop decreases-loop
 add_at c = let w = within c in search rules
 
-loop-less : tie.Need-loop-smaller invariant-loop decreases-loop
+loop-less : tie.Need-loop-at-smaller invariant-loop decreases-loop
 loop-less c = omega (arith, within c, moves c)
 
-loop-again : tie.Need-loop-preserved invariant-loop decreases-loop
+loop-again : tie.Need-loop-at-preserved invariant-loop decreases-loop
 loop-again c = (within c, again c)
 
-returns-2 : tie.Need-returns-2 invariant-loop decreases-loop
+returns-2 : tie.Need-returns invariant-loop decreases-loop
 unfolding valid_utf8
 returns-2 c =
-    sym (c.before.loop.invariant.1 ∙ ap (λ (l : List ℕ). valid_after 0 l) (drop_of_length-le _ c.loop-test.false))
+    sym (c.loop-at.invariant.1 ∙ ap (λ (l : List ℕ). valid_after 0 l) (drop_of_length-le _ c.loop-at-test.false))
 
-pub valid-utf8-spec : {M : Type 1} → statement M
-valid-utf8-spec =
+pub valid_utf8_spec : {M : Type 1} → statement M
+valid_utf8_spec =
     tie.close
     (tie.spec
     invariant-loop

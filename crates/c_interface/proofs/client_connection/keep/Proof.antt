@@ -11,10 +11,10 @@ use Rattle.c_interface.proofs.client_connection.keep.Tie as tie
 
 returns : tie.Need-returns
 returns c =
-    let told = sym c.before.before.changes.ensures in (
-      handed-on _ c.of-answer.type-inv ∙ c.of-answer.ensures,
+    let told = sym c.changes.ensures in (
+      handed-on _ c.of_answer.type_inv ∙ c.of_answer.ensures,
       ⊎_elim (λ w. kept-changed (told ∙ w.0.taken) (w.2 ∙ w.1.ensures.0) (ap restored w.2 ∙ w.1.ensures.1))
-          (λ w. kept_same (told ∙ w.0.left) w.1) c.before.if1.branch,
+          (λ w. kept_same (told ∙ w.0.left) w.1) c.if-changes.branch,
     )
 
 pub keep_spec : {M : Type 1} → statement M

@@ -15,17 +15,17 @@ use Rattle.c_interface.proofs.client_connection.tn_client_alert.Tie as tie
 
 keep-requires : tie.Need-keep-requires
 keep-requires c κs =
-    let a = c.before.before.before.before.before.args in
-    let x = c.before.before.before.restore.result in
-    silent-count (outcome (alert_step x a.level a.description)) (ap (λ (y : Answer). y.said) c.before.before.alert.ensures)
+    let a = c.args in
+    let x = c.restore.result in
+    silent-count (outcome (alert_step x a.level a.description)) (ap (λ (y : Answer). y.said) c.alert-answer.ensures)
 
 returns : tie.Need-returns
 returns c =
-    let a = c.before.before.before.before.before.before.args in
-    let answer = c.before.before.before.alert.ensures in
+    let a = c.args in
+    let answer = c.alert-answer.ensures in
     step_keeps (ended Phase.Closed) a.client.now [] (λ (x : Connection). alert_step x a.level a.description)
-    c.before.before.before.before.restore.ensures
-    (ap (λ (y : Answer). y.said) answer) (ap (λ (y : Answer). y.next) answer) c.keep.type-inv c.keep.ensures.0 c.keep.ensures.1
+    c.restore.ensures
+    (ap (λ (y : Answer). y.said) answer) (ap (λ (y : Answer). y.next) answer) c.keep.type_inv c.keep.ensures.0 c.keep.ensures.1
 
-pub tn-client-alert-spec : {M : Type 1} → statement M
-tn-client-alert-spec = tie.close (tie.spec (λ c κs. search rules) (λ c κs. search rules) keep-requires returns)
+pub tn_client_alert_spec : {M : Type 1} → statement M
+tn_client_alert_spec = tie.close (tie.spec (λ c κs. search rules) (λ c κs. search rules) keep-requires returns)

@@ -15,16 +15,16 @@ use Rattle.c_interface.proofs.client_connection.tn_client_change_of_cipher.Tie a
 
 keep-requires : tie.Need-keep-requires
 keep-requires c κs =
-    let x = c.before.before.before.restore.result in
-    silent-count (outcome (change_step x x.phase)) (ap (λ (y : Answer). y.said) c.before.before.change-of-cipher.ensures)
+    let x = c.restore.result in
+    silent-count (outcome (change_step x x.phase)) (ap (λ (y : Answer). y.said) c.change_of_cipher-answer.ensures)
 
 returns : tie.Need-returns
 returns c =
-    let a = c.before.before.before.before.before.before.args in
-    let answer = c.before.before.before.change-of-cipher.ensures in
-    step_keeps (ended Phase.Closed) a.client.now [] (λ (x : Connection). change_step x x.phase) c.before.before.before.before.restore.ensures
-    (ap (λ (y : Answer). y.said) answer) (ap (λ (y : Answer). y.next) answer) c.keep.type-inv c.keep.ensures.0 c.keep.ensures.1
+    let a = c.args in
+    let answer = c.change_of_cipher-answer.ensures in
+    step_keeps (ended Phase.Closed) a.client.now [] (λ (x : Connection). change_step x x.phase) c.restore.ensures
+    (ap (λ (y : Answer). y.said) answer) (ap (λ (y : Answer). y.next) answer) c.keep.type_inv c.keep.ensures.0 c.keep.ensures.1
 
-pub tn-client-change-of-cipher-spec : {M : Type 1} → statement M
-tn-client-change-of-cipher-spec =
+pub tn_client_change_of_cipher_spec : {M : Type 1} → statement M
+tn_client_change_of_cipher_spec =
     tie.close (tie.spec (λ c κs. search rules) (λ c κs. search rules) keep-requires returns)

@@ -12,8 +12,8 @@ use Rattle.c_interface.proofs.client_connection.tn_client_phase.Tie as tie
 
 returns : tie.Need-returns
 returns c =
-    to_z_pos w32 (search (rules, c.phase.type-inv))
-    ∙ ap pos (c.phase.ensures ∙ ap (λ (x : Connection). phase_byte x.phase) c.before.restore.ensures)
+    to_z_pos w32 (search (rules, c.phase.type_inv))
+    ∙ ap pos (c.phase.ensures ∙ ap (λ (x : Connection). phase_byte x.phase) c.restore.ensures)
 
-pub tn-client-phase-spec : {M : Type 1} → statement M
-tn-client-phase-spec = tie.close (tie.spec (λ c κs. search rules) (λ c κs. search rules) (λ c. search rules) returns)
+pub tn_client_phase_spec : {M : Type 1} → statement M
+tn_client_phase_spec = tie.close (tie.spec (λ c κs. search rules) (λ c κs. search rules) (λ c. search rules) returns)

@@ -10,7 +10,7 @@ use Rattle.c_interface.proofs.client_connection.tn_client_suite.Statement.{state
 use Rattle.c_interface.proofs.client_connection.tn_client_suite.Tie as tie
 
 returns : tie.Need-returns
-returns c = to_z_pos w32 (search rules) ∙ ap (λ (x : Connection). pos x.server.suite) c.before.before.restore.ensures
+returns c = to_z_pos w32 (search rules) ∙ ap (λ (x : Connection). pos x.server.suite) c.restore-c.ensures
 
-pub tn-client-suite-spec : {M : Type 1} → statement M
-tn-client-suite-spec = tie.close (tie.spec (λ c κs. search rules) (λ c. search rules) returns)
+pub tn_client_suite_spec : {M : Type 1} → statement M
+tn_client_suite_spec = tie.close (tie.spec (λ c κs. search rules) (λ c. search rules) returns)

@@ -10,19 +10,19 @@ use Rattle.c_interface.proofs.Signed.{handed-on}
 use Rattle.c_interface.proofs.code.of_answer.Statement.{statement}
 use Rattle.c_interface.proofs.code.of_answer.Tie as tie
 
-small : (c : tie.After-known-told) → c.before.said.given.0.0 < 2 ^ 31
-small c = rw c.before.said.given.1 at c.before.before.before.requires
+small : (c : tie.In-Wrote) → c.in-Wrote.n < 2 ^ 31
+small c = rw c.in-Wrote.is at c.requires
 
-cast-result : tie.Need-overflow-cast-result
+cast-result : tie.Need-overflow_cast-result
 cast-result c = record { sfits = omega (arith, small c) }
 
-returns : tie.Need-returns
-returns c = rw c.before.said.given.1 (to_z_pos w32 (small c))
+returns : tie.Need-returns-in-Wrote
+returns c = rw c.in-Wrote.is (to_z_pos w32 (small c))
 
-returns-2 : tie.Need-returns-2
-returns-2 c = rw c.before.before.said2.given.1 (handed-on _ c.of-refusal.type-inv ∙ c.of-refusal.ensures)
+returns-2 : tie.Need-returns-in-Refused
+returns-2 c = rw c.in-Refused.is (handed-on _ c.of_refusal.type_inv ∙ c.of_refusal.ensures)
 
-pub of-answer-spec : {M : Type 1} → statement M
-of-answer-spec =
+pub of_answer_spec : {M : Type 1} → statement M
+of_answer_spec =
     tie.close
     (tie.spec (λ c. search rules) cast-result (λ c. search rules) (λ c κs. search rules) returns returns-2)

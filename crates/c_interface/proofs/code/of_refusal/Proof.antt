@@ -6,26 +6,24 @@ use Rattle.c_interface.proofs.Signed.{handed-on}
 use Rattle.c_interface.proofs.code.of_refusal.Statement.{statement}
 use Rattle.c_interface.proofs.code.of_refusal.Tie as tie
 
-returns : tie.Need-returns
+returns : tie.Need-returns-then-for_peer
 returns c =
-    let r = c.before.before.for-peer in
-    handed-on _ c.below-zero.type-inv ∙ c.below-zero.ensures ∙ rw (
-      c.before.before.before.number.ensures,
-      sym r.ensures
-          ∙ c.before.if1.true,
+    handed-on _ c.below_zero.type_inv ∙ c.below_zero.ensures ∙ rw (
+      c.number-n.ensures,
+      sym c.for_peer.ensures
+          ∙ c.if-for_peer.true,
     )
 
-returns-2 : tie.Need-returns-2
+returns-2 : tie.Need-returns
 returns-2 c =
-    let r = c.before.before.for-peer in
-    handed-on _ c.below-zero2.type-inv ∙ c.below-zero2.ensures ∙ rw (
-      c.before.before.before.number.ensures,
-      sym r.ensures
-          ∙ c.before.if1.false,
+    handed-on _ c.below_zero-2.type_inv ∙ c.below_zero-2.ensures ∙ rw (
+      c.number-n.ensures,
+      sym c.for_peer.ensures
+          ∙ c.if-for_peer.false,
     )
 
-pub of-refusal-spec : {M : Type 1} → statement M
-of-refusal-spec =
+pub of_refusal_spec : {M : Type 1} → statement M
+of_refusal_spec =
     tie.close
     (tie.spec
     (λ c κs. search rules)

@@ -15,18 +15,18 @@ use Rattle.c_interface.proofs.connection.tn_alert.Tie as tie
 
 keep-requires : tie.Need-keep-requires
 keep-requires c κs =
-    let a = c.before.before.before.before.before.args in
-    let x = c.before.before.before.restore.result in
-    let said = ap (λ (y : Answer). y.said) c.before.before.alert.ensures in
+    let a = c.args in
+    let x = c.restore.result in
+    let said = ap (λ (y : Answer). y.said) c.alert-answer.ensures in
     silent-count (outcome (alert_step x a.level a.description)) said
 
 returns : tie.Need-returns
 returns c =
-    let a = c.before.before.before.before.before.before.args in
-    let answer = c.before.before.before.alert.ensures in
+    let a = c.args in
+    let answer = c.alert-answer.ensures in
     step_keeps (ended Phase.Closed) a.connection.now [] (λ (x : Connection). alert_step x a.level a.description)
-    c.before.before.before.before.restore.ensures
-    (ap (λ (y : Answer). y.said) answer) (ap (λ (y : Answer). y.next) answer) c.keep.type-inv c.keep.ensures.0 c.keep.ensures.1
+    c.restore.ensures
+    (ap (λ (y : Answer). y.said) answer) (ap (λ (y : Answer). y.next) answer) c.keep.type_inv c.keep.ensures.0 c.keep.ensures.1
 
-pub tn-alert-spec : {M : Type 1} → statement M
-tn-alert-spec = tie.close (tie.spec (λ c κs. search rules) (λ c κs. search rules) keep-requires returns)
+pub tn_alert_spec : {M : Type 1} → statement M
+tn_alert_spec = tie.close (tie.spec (λ c κs. search rules) (λ c κs. search rules) keep-requires returns)

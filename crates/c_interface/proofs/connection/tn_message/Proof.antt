@@ -19,11 +19,11 @@ use Rattle.c_interface.proofs.connection.tn_message.Statement.{statement}
 use Rattle.c_interface.proofs.connection.tn_message.Tie as tie
 
 -- the entry, seen from the server's reply
-abbrev entry : tie.After-message → tie.Start
+abbrev entry : tie.After-message-reply → tie.Start
 entry c = c.before.before.before.before.before.before.before.before
 
 -- the server's reply to the message, on the connection that was restored
-module _ (c : tie.After-message) where
+module _ (c : tie.After-message-reply) where
   abbrev view : View
   view = view_of (entry c).args.table.now (entry c).args.starts.now (entry c).args.count
 
@@ -34,37 +34,35 @@ module _ (c : tie.After-message) where
   over x = handed_by view x (entry c).args.message.now
 
   abbrev was : Connection
-  was = c.before.before.restore.result
+  was = c.restore.result
 
   restored-as : was ≡ restored (entry c).args.connection.now
-  restored-as = c.before.before.restore.ensures
+  restored-as = c.restore.ensures
 
   abbrev replied : Settled
   replied = settled was (entry c).args.out.now (step_on was)
 
-  parts : (c.message.result.said ≡ replied.said) × (c.message.result.next ≡ replied.next)
-      × Handed (over was) c.message.result.handed c.message.result.master c.message.result.blocks
-  parts = reply-parts replied (over was) c.message.ensures.0.0
+  parts : (c.message-reply.result.said ≡ replied.said) × (c.message-reply.result.next ≡ replied.next)
+      × Handed (over was) c.message-reply.result.handed c.message-reply.result.master c.message-reply.result.blocks
+  parts = reply-parts replied (over was) c.message-reply.ensures.0.0
 
 returns : tie.Need-returns
 returns c =
-    let m = c.before.before.before.before.before.before in
-    let a = (entry m).args in
+    let a = (entry c.before.before.before.before.before.before).args in
     let master = a.master.now in
     let blocks = a.blocks.now in
-    let joined = c.before.before.before.if1 in
-    let given : (joined.master ≡ master_after (over m (was m)) master) × (joined.blocks ≡ blocks_after (over m (was m)) blocks) =
-    ⊎_elim (λ w. let told = was-handed master blocks (parts m).2 w.0.taken in (w.2 ∙ told.0, w.3 ∙ told.1))
-    (λ w. let told = was-kept master blocks (parts m).2 w.0.left in (w.1 ∙ told.0, w.2 ∙ told.1)) joined.branch in (
-      step_keeps (ended Phase.Closed) a.connection.now a.out.now (step_on m) (restored-as m) (parts m).0 (parts m).1 c.keep.type-inv c.keep.ensures.0
+    let given : (c.if-reply.master ≡ master_after (over c.before.before.before.before.before.before (was c.before.before.before.before.before.before)) master) × (c.if-reply.blocks ≡ blocks_after (over c.before.before.before.before.before.before (was c.before.before.before.before.before.before)) blocks) =
+    ⊎_elim (λ w. let told = was-handed master blocks (parts c.before.before.before.before.before.before).2 w.0.taken in (w.2 ∙ told.0, w.3 ∙ told.1))
+    (λ w. let told = was-kept master blocks (parts c.before.before.before.before.before.before).2 w.0.left in (w.1 ∙ told.0, w.2 ∙ told.1)) c.if-reply.branch in (
+      step_keeps (ended Phase.Closed) a.connection.now a.out.now (step_on c.before.before.before.before.before.before) (restored-as c.before.before.before.before.before.before) (parts c.before.before.before.before.before.before).0 (parts c.before.before.before.before.before.before).1 c.keep.type_inv c.keep.ensures.0
           c.keep.ensures.1,
       record {
-        left = m.message.ensures.0.1 ∙ ap (λ (x : Connection). (settled x a.out.now (step_on m x)).out) (restored-as m);
-        handed = given.0 ∙ ap (λ (x : Connection). master_after (over m x) master) (restored-as m);
-        counted = given.1 ∙ ap (λ (x : Connection). blocks_after (over m x) blocks) (restored-as m);
+        left = c.message-reply.ensures.0.1 ∙ ap (λ (x : Connection). (settled x a.out.now (step_on c.before.before.before.before.before.before x)).out) (restored-as c.before.before.before.before.before.before);
+        handed = given.0 ∙ ap (λ (x : Connection). master_after (over c.before.before.before.before.before.before x) master) (restored-as c.before.before.before.before.before.before);
+        counted = given.1 ∙ ap (λ (x : Connection). blocks_after (over c.before.before.before.before.before.before x) blocks) (restored-as c.before.before.before.before.before.before);
       },
     )
 
-pub tn-message-spec : {M : Type 1} → statement M
-tn-message-spec =
+pub tn_message_spec : {M : Type 1} → statement M
+tn_message_spec =
     tie.close (tie.spec (λ c κs. search rules) (λ c κs. search rules) (λ c κs. search rules) (λ c. search rules) returns)

@@ -13,29 +13,27 @@ use Rattle.c_interface.proofs.Keeping.{kept_same, start-count, start-keeps}
 use Rattle.c_interface.proofs.connection.tn_start.Statement.{statement}
 use Rattle.c_interface.proofs.connection.tn_start.Tie as tie
 
-returns : tie.Need-returns
+returns : tie.Need-returns-then-rule-gt2
 returns c =
-    let a = c.before.before.before.before.before.args in
-    rw (lt-leb a.rule 2 (omega (arith, c.before.if1.true)))
-    (start-keeps {said = bad_setting.said} {next = bad_setting.next} refl refl c.of-refusal.type-inv c.of-refusal.ensures (kept_same refl refl))
+    let a = c.args in
+    rw (lt-leb a.rule 2 (omega (arith, c.if-rule-gt2.true)))
+    (start-keeps {said = bad_setting.said} {next = bad_setting.next} refl refl c.of_refusal.type_inv c.of_refusal.ensures (kept_same refl refl))
 
 keep-requires : tie.Need-keep-requires
 keep-requires c κs =
-    let n = c.before.before.before in
-    let a = n.before.before.before.before.before.args in
+    let a = c.args in
     let settings : Settings =
-    record { random = a.random.now; hint = a.hint.now; stand_in = a.stand-in.now; named = n.named.result; suites = suites } in
-    start-count settings c.before.before.start.ensures
+    record { random = a.random.now; hint = a.hint.now; stand_in = a.stand-in.now; named = c.named.result; suites = suites } in
+    start-count settings c.start-answer.ensures
 
-returns-2 : tie.Need-returns-2
+returns-2 : tie.Need-returns
 returns-2 c =
-    let n = c.before.before.before.before in
-    let a = n.before.before.before.before.before.args in
-    let answer : c.before.before.before.start.result ≡ start_call a.random.now a.hint.now a.stand-in.now a.rule =
-    c.before.before.before.start.ensures ∙ rw (n.named.ensures, le-leb a.rule 2 n.before.if1.false) in
-    start-keeps (ap (λ (y : Answer). y.said) answer) (ap (λ (y : Answer). y.next) answer) c.keep.type-inv c.keep.ensures.0 c.keep.ensures.1
+    let a = c.args in
+    let answer : c.start-answer.result ≡ start_call a.random.now a.hint.now a.stand-in.now a.rule =
+    c.start-answer.ensures ∙ rw (c.named.ensures, le-leb a.rule 2 c.if-rule-gt2.false) in
+    start-keeps (ap (λ (y : Answer). y.said) answer) (ap (λ (y : Answer). y.next) answer) c.keep.type_inv c.keep.ensures.0 c.keep.ensures.1
 
-pub tn-start-spec : {M : Type 1} → statement M
-tn-start-spec =
+pub tn_start_spec : {M : Type 1} → statement M
+tn_start_spec =
     tie.close
     (tie.spec (λ c κs. search rules) returns (λ c κs. search rules) (λ c κs. search rules) keep-requires returns-2)

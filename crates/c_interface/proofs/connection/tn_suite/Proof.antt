@@ -10,7 +10,7 @@ use Rattle.c_interface.proofs.connection.tn_suite.Statement.{statement}
 use Rattle.c_interface.proofs.connection.tn_suite.Tie as tie
 
 returns : tie.Need-returns
-returns c = to_z_pos w32 (search rules) ∙ ap (λ (x : Connection). pos x.client.suite) c.before.before.restore.ensures
+returns c = to_z_pos w32 (search rules) ∙ ap (λ (x : Connection). pos x.client.suite) c.restore-c.ensures
 
-pub tn-suite-spec : {M : Type 1} → statement M
-tn-suite-spec = tie.close (tie.spec (λ c κs. search rules) (λ c. search rules) returns)
+pub tn_suite_spec : {M : Type 1} → statement M
+tn_suite_spec = tie.close (tie.spec (λ c κs. search rules) (λ c. search rules) returns)

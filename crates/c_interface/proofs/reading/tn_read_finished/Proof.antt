@@ -8,14 +8,14 @@ use Rattle.c_interface.proofs.Places.{finished-fits}
 use Rattle.c_interface.proofs.reading.tn_read_finished.Statement.{statement}
 use Rattle.c_interface.proofs.reading.tn_read_finished.Tie as tie
 
-put-part-requires : tie.Need-put-part-requires
+put-part-requires : tie.Need-put_part-requires
 put-part-requires c κs =
-    let m = c.before.before.before.args.message.now in
-    let b : Bytes m = λ i. omega (arith, c.before.before.shared-slice-known.given i) in
-    rw c.before.read-finished.ensures (finished-fits m b)
+    let m = c.args.message.now in
+    let b : Bytes m = λ i. omega (arith, c.shared_slice_known-1.given i) in
+    rw c.read_finished.ensures (finished-fits m b)
 
 returns : tie.Need-returns
-returns c = rw c.before.before.read-finished.ensures at (reads-reading c.put-part.ensures c.put-part.type-inv)
+returns c = rw c.read_finished.ensures at (reads-reading c.put_part.ensures c.put_part.type_inv)
 
-pub tn-read-finished-spec : {M : Type 1} → statement M
-tn-read-finished-spec = tie.close (tie.spec (λ c κs. search rules) put-part-requires returns)
+pub tn_read_finished_spec : {M : Type 1} → statement M
+tn_read_finished_spec = tie.close (tie.spec (λ c κs. search rules) put-part-requires returns)

@@ -12,34 +12,34 @@ use Rattle.c_interface.proofs.Places.{TicketFits, ticket-fits}
 use Rattle.c_interface.proofs.reading.tn_read_new_session_ticket.Statement.{statement}
 use Rattle.c_interface.proofs.reading.tn_read_new_session_ticket.Tie as tie
 
-abbrev said : tie.After-known-told → Ticket
-said c = let given = c.before.lifetime-hint.given.0 in Ticket.Read given.0 given.1.0 given.1.1.0
+abbrev said : tie.In-Read → Ticket
+said c = Ticket.Read c.in-Read.lifetime_hint c.in-Read.start c.in-Read.len
 
-found : (c : tie.After-known-told) → ticket_place c.before.before.before.before.before.args.message.now ≡ said c
-found c = sym c.before.before.before.read.ensures ∙ c.before.lifetime-hint.given.1
+found : (c : tie.In-Read) → ticket_place c.args.message.now ≡ said c
+found c = sym c.read.ensures ∙ c.in-Read.is
 
-fits : (c : tie.After-known-told) → TicketFits (said c)
+fits : (c : tie.In-Read) → TicketFits (said c)
 fits c =
-    let m = c.before.before.before.before.before.args.message.now in
-    let b : Bytes m = λ i. omega (arith, c.before.before.before.before.shared-slice-known.given i) in
+    let m = c.args.message.now in
+    let b : Bytes m = λ i. omega (arith, c.shared_slice_known-1.given i) in
     rw (found c) at (ticket-fits m b)
 
-cast-t8 : tie.Need-overflow-cast-t8
+cast-t8 : tie.Need-overflow_cast-fields
 cast-t8 c = record { fits = (fits c).start_fits }
 
-cast-t9 : tie.Need-overflow-cast-t9
+cast-t9 : tie.Need-overflow_cast-fields-in-Read
 cast-t9 c = record { fits = (fits c).len-fits }
 
-returns : tie.Need-returns
+returns : tie.Need-returns-in-Read
 returns c = rw (found c.before) (record { told = refl; left = refl })
 
-returns-2 : tie.Need-returns-2
+returns-2 : tie.Need-returns-in-Refused
 returns-2 c =
-    rw (sym c.before.before.before.read.ensures ∙ c.before.enum_told.given.1)
-    (refusal-read (DecodeError) c.of-refusal.type-inv c.of-refusal.ensures)
+    rw (sym c.read.ensures ∙ c.in-Refused.is)
+    (refusal-read (DecodeError) c.of_refusal.type_inv c.of_refusal.ensures)
 
-pub tn-read-new-session-ticket-spec : {M : Type 1} → statement M
-tn-read-new-session-ticket-spec =
+pub tn_read_new_session_ticket_spec : {M : Type 1} → statement M
+tn_read_new_session_ticket_spec =
     tie.close
     (tie.spec
     (λ c κs. search rules)

@@ -12,43 +12,41 @@ use Rattle.c_interface.proofs.Places.{ServerFits, server-fits}
 use Rattle.c_interface.proofs.reading.tn_read_server_hello.Statement.{statement}
 use Rattle.c_interface.proofs.reading.tn_read_server_hello.Tie as tie
 
-abbrev said : tie.After-known-told → Server
-said c = let given = c.before.version.given.0 in Server.Read given.0 given.1.0 given.1.1.0 given.1.1.1.0 given.1.1.1.1.0
+abbrev said : tie.In-Read → Server
+said c = Server.Read c.in-Read.version c.in-Read.session_len c.in-Read.suite c.in-Read.compression c.in-Read.block
 
-found : (c : tie.After-known-told) → server_place c.before.before.before.before.before.args.message.now ≡ said c
-found c = sym c.before.before.before.read.ensures ∙ c.before.version.given.1
+found : (c : tie.In-Read) → server_place c.args.message.now ≡ said c
+found c = sym c.read.ensures ∙ c.in-Read.is
 
-fits : (c : tie.After-known-told) → ServerFits (said c)
+fits : (c : tie.In-Read) → ServerFits (said c)
 fits c =
-    let m = c.before.before.before.before.before.args.message.now in
-    let b : Bytes m = λ i. omega (arith, c.before.before.before.before.shared-slice-known.given i) in
+    let m = c.args.message.now in
+    let b : Bytes m = λ i. omega (arith, c.shared_slice_known-1.given i) in
     rw (found c) at (server-fits m b)
 
-block-fields-requires : tie.Need-block-fields-requires
+block-fields-requires : tie.Need-block_fields-last-requires
 block-fields-requires c κs = (fits c).block
 
-cast-t12 : tie.Need-overflow-cast-t12
+cast-t12 : tie.Need-overflow_cast-fields
 cast-t12 c = record { fits = (fits c.before).version-fits }
 
-cast-t13 : tie.Need-overflow-cast-t13
+cast-t13 : tie.Need-overflow_cast-fields-in-Read
 cast-t13 c = record { fits = (fits c.before).session-fits }
 
-cast-t14 : tie.Need-overflow-cast-t14
+cast-t14 : tie.Need-overflow_cast-fields-in-Read-2
 cast-t14 c = record { fits = (fits c.before).suite-fits }
 
-returns : tie.Need-returns
+returns : tie.Need-returns-in-Read
 returns c =
-    let b = c.before.before.before.version.given.0.1.1.1.1.0 in
-    let last = c.before.block-fields in
-    rw (found c.before.before) (record { told = refl; left = rw (← three-fields b last.result last.ensures) })
+    rw (found c.before.before) (record { told = refl; left = rw (← three-fields c.in-Read.block c.block_fields-last.result c.block_fields-last.ensures) })
 
-returns-2 : tie.Need-returns-2
+returns-2 : tie.Need-returns-in-Refused
 returns-2 c =
-    rw (sym c.before.before.before.read.ensures ∙ c.before.enum_told.given.1)
-    (refusal-read (DecodeError) c.of-refusal.type-inv c.of-refusal.ensures)
+    rw (sym c.read.ensures ∙ c.in-Refused.is)
+    (refusal-read (DecodeError) c.of_refusal.type_inv c.of_refusal.ensures)
 
-pub tn-read-server-hello-spec : {M : Type 1} → statement M
-tn-read-server-hello-spec =
+pub tn_read_server_hello_spec : {M : Type 1} → statement M
+tn_read_server_hello_spec =
     tie.close
     (tie.spec
     (λ c κs. search rules)

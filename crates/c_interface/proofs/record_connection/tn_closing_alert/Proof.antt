@@ -6,16 +6,15 @@ use Rattle.c_interface.proofs.RecordSizes.{alert-small}
 use Rattle.c_interface.proofs.record_connection.tn_closing_alert.Statement.{statement}
 use Rattle.c_interface.proofs.record_connection.tn_closing_alert.Tie as tie
 
-of-answer-requires : tie.Need-of-answer-requires
+of-answer-requires : tie.Need-of_answer-requires
 of-answer-requires c κs =
-    let x = c.before.before.before.before.restore in
-    answer-count-small c.before.before.alert.ensures (alert-small x.result (search (rules, x.type-inv.1.1.1.1.1.1.1.0)))
+    answer-count-small c.alert.ensures (alert-small c.restore.result (search (rules, c.restore.type_inv.1.1.1.1.1.1.1.0)))
 
 returns : tie.Need-returns
 returns c =
-    rw c.before.before.before.before.before.restore.ensures at
-    (codes-answer c.before.before.before.alert.ensures c.of-answer.type-inv c.of-answer.ensures)
+    rw c.restore.ensures at
+    (codes-answer c.alert.ensures c.of_answer.type_inv c.of_answer.ensures)
 
-pub tn-closing-alert-spec : {M : Type 1} → statement M
-tn-closing-alert-spec =
+pub tn_closing_alert_spec : {M : Type 1} → statement M
+tn_closing_alert_spec =
     tie.close (tie.spec (λ c κs. search rules) (λ c κs. search rules) of-answer-requires (λ c. search rules) returns)

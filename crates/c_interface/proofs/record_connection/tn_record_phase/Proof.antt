@@ -12,8 +12,8 @@ use Rattle.c_interface.proofs.record_connection.tn_record_phase.Tie as tie
 
 returns : tie.Need-returns
 returns c =
-    to_z_pos w32 (search (rules, c.phase.type-inv))
-    ∙ ap pos (c.phase.ensures ∙ ap (λ (x : RecordConnection). phase_byte x.handshake.phase) c.before.before.restore.ensures)
+    to_z_pos w32 (search (rules, c.phase.type_inv))
+    ∙ ap pos (c.phase.ensures ∙ ap (λ (x : RecordConnection). phase_byte x.handshake.phase) c.restore-c.ensures)
 
-pub tn-record-phase-spec : {M : Type 1} → statement M
-tn-record-phase-spec = tie.close (tie.spec (λ c κs. search rules) (λ c κs. search rules) (λ c. search rules) returns)
+pub tn_record_phase_spec : {M : Type 1} → statement M
+tn_record_phase_spec = tie.close (tie.spec (λ c κs. search rules) (λ c κs. search rules) (λ c. search rules) returns)

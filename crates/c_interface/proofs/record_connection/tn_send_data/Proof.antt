@@ -10,20 +10,20 @@ use Rattle.c_interface.proofs.record_connection.tn_send_data.Tie as tie
 
 keep-requires : tie.Need-keep-requires
 keep-requires c κs =
-    let a = c.before.before.before.before.before.before.before.before.before.before.args in
-    let x = c.before.before.before.before.before.before.restore.result in
-    let answered = c.before.before.before.before.send.ensures.0 in
+    let a = c.args in
+    let x = c.restore.result in
+    let answered = c.send-answer.ensures.0 in
     sent-count a.connection.now a.out.now after_sending (λ (x : RecordConnection). data_record x a.content.now)
     x answered (data-small x a.content.now)
 
 returns : tie.Need-returns
 returns c =
-    let a = c.before.before.before.before.before.before.before.before.before.before.before.args in
+    let a = c.args in
     sent-keeps a.connection.now a.out.now after_sending (λ (x : RecordConnection). data_record x a.content.now)
-    c.before.before.before.before.before.before.before.restore.ensures
-    c.before.before.before.before.before.send.ensures
-    c.keep.type-inv c.keep.ensures.0 c.keep.ensures.1
+    c.restore.ensures
+    c.send-answer.ensures
+    c.keep.type_inv c.keep.ensures.0 c.keep.ensures.1
 
-pub tn-send-data-spec : {M : Type 1} → statement M
-tn-send-data-spec =
+pub tn_send_data_spec : {M : Type 1} → statement M
+tn_send_data_spec =
     tie.close (tie.spec (λ c κs. search rules) (λ c κs. search rules) keep-requires (λ c. search rules) returns)

@@ -16,10 +16,10 @@ use Rattle.c_interface.proofs.record_connection.tn_take_record.Statement.{statem
 use Rattle.c_interface.proofs.record_connection.tn_take_record.Tie as tie
 
 -- the entry, seen from what was taken
-abbrev entry : tie.After-take → tie.Start
-entry c = c.before.before.before.before.before.before.before.before.before.before
+abbrev entry : tie.After-take-taken → tie.Start
+entry c = c.before.before.before.before.before.before.before.before.before
 
-module _ (c : tie.After-take) where
+module _ (c : tie.After-take-taken) where
   abbrev view : View
   view = view_of (entry c).args.table.now (entry c).args.starts.now (entry c).args.count
 
@@ -30,46 +30,43 @@ module _ (c : tie.After-take) where
   abbrev wanted : Settled
   wanted = taken_on (restored (entry c).args.connection.now)
 
-  same : c.before.before.before.connection-of.result ≡ restored (entry c).args.connection.now
-  same = c.before.before.before.connection-of.ensures
+  same : c.connection_of.result ≡ restored (entry c).args.connection.now
+  same = c.connection_of.ensures
 
-  given : c.take.result ≡ taken wanted
-  given = c.take.ensures.0.gives ∙ ap (λ (x : RecordConnection). taken (taken_on x)) same
+  given : c.take-taken.result ≡ taken wanted
+  given = c.take-taken.ensures.0.gives ∙ ap (λ (x : RecordConnection). taken (taken_on x)) same
 
-told-of-requires : tie.Need-told-of-requires
+told-of-requires : tie.Need-told_of-requires
 told-of-requires c κs =
-    let m = c.before.before.before.before.before.before.before.before in
-    let a = (entry m).args in
-    rw (taken-parts (wanted m) (wanted m).master (given m)).2
-    (data-fits (view m) (restored a.connection.now) a.received.now a.memory.now a.out.now)
+    let a = (entry c.before.before.before.before.before.before.before).args in
+    rw (taken-parts (wanted c.before.before.before.before.before.before.before) (wanted c.before.before.before.before.before.before.before).master (given c.before.before.before.before.before.before.before)).2
+    (data-fits (view c.before.before.before.before.before.before.before) (restored a.connection.now) a.received.now a.memory.now a.out.now)
 
 returns : tie.Need-returns
 returns c =
-    let m = c.before.before.before.before.before.before.before.before.before in
-    let a = (entry m).args in
-    let w = wanted m in
+    let a = (entry c.before.before.before.before.before.before.before.before.before).args in
+    let w = wanted c.before.before.before.before.before.before.before.before.before in
     let master = a.master.now in
-    let over = (taken-parts w w.master (given m)).4 in
+    let over = (taken-parts w w.master (given c.before.before.before.before.before.before.before.before.before)).4 in
     let blocks = a.blocks.now in
-    let joined = c.before.before.before.if1 in
-    let handed : (joined.master ≡ master_after w.master master) × (joined.blocks ≡ blocks_after w.master blocks) =
+    let handed : (c.if-taken.master ≡ master_after w.master master) × (c.if-taken.blocks ≡ blocks_after w.master blocks) =
     ⊎_elim (λ x. let told = was-handed master blocks over x.0.taken in (x.2 ∙ told.0, x.3 ∙ told.1))
-    (λ x. let told = was-kept master blocks over x.0.left in (x.1 ∙ told.0, x.2 ∙ told.1)) joined.branch in
-    let told = ⊎_elim (λ x. told-accepted w a.told.now (given m) x.1.given.1 (x.3 ∙ x.2.ensures))
-    (λ x. told-refused w a.told.now (given m) x.1.given.1 x.2) c.before.before.match.branch in (
-      took-keeps (view m) a.connection.now a.received.now a.memory.now a.out.now (given m) c.keep.type-inv c.keep.ensures.0
+    (λ x. let told = was-kept master blocks over x.0.left in (x.1 ∙ told.0, x.2 ∙ told.1)) c.if-taken.branch in
+    let told = ⊎_elim (λ x. told-accepted w a.told.now (given c.before.before.before.before.before.before.before.before.before) x.1.given.1 (x.3 ∙ x.2.ensures))
+    (λ x. told-refused w a.told.now (given c.before.before.before.before.before.before.before.before.before) x.1.given.1 x.2) c.match-said.branch in (
+      took-keeps (view c.before.before.before.before.before.before.before.before.before) a.connection.now a.received.now a.memory.now a.out.now (given c.before.before.before.before.before.before.before.before.before) c.keep.type_inv c.keep.ensures.0
           c.keep.ensures.1,
       record {
-        out-left = m.take.ensures.0.out-left ∙ ap (λ (x : RecordConnection). (taken_on m x).out) (same m);
-        memory-left = m.take.ensures.0.memory-left ∙ ap (λ (x : RecordConnection). (taken_on m x).memory) (same m);
+        out-left = c.take-taken.ensures.0.out-left ∙ ap (λ (x : RecordConnection). (taken_on c.before.before.before.before.before.before.before.before.before x).out) (same c.before.before.before.before.before.before.before.before.before);
+        memory-left = c.take-taken.ensures.0.memory-left ∙ ap (λ (x : RecordConnection). (taken_on c.before.before.before.before.before.before.before.before.before x).memory) (same c.before.before.before.before.before.before.before.before.before);
         handed = handed.0;
         fields = told;
         counted = handed.1;
       },
     )
 
-pub tn-take-record-spec : {M : Type 1} → statement M
-tn-take-record-spec =
+pub tn_take_record_spec : {M : Type 1} → statement M
+tn_take_record_spec =
     tie.close
     (tie.spec
     (λ c κs. search rules)

@@ -13,20 +13,20 @@ use Rattle.layout.proofs.Windows.{stated-window}
 use Rattle.c_interface.proofs.record_layout.message_end.Statement.{statement}
 use Rattle.c_interface.proofs.record_layout.message_end.Tie as tie
 
-fits : (c : tie.After-message-end) → c.message-end.result < 2 ^ 31
+fits : (c : tie.After-message_end) → c.message_end.result < 2 ^ 31
 fits c =
-    let header = c.before.args.header in
-    let size : length header ≡ 4 = search (rules, c.before.well-formed) in
-    let high : Fits w8 (get_or header 1 0) = search (rules, c.before.well-formed) in
-    let middle : Fits w8 (get_or header 2 0) = search (rules, c.before.well-formed) in
-    let low : Fits w8 (get_or header 3 0) = search (rules, c.before.well-formed) in
-    omega (arith, c.message-end.ensures, stated-window 3 1 header (omega arith))
+    let header = c.args.header in
+    let size : length header ≡ 4 = search (rules, c.well_formed) in
+    let high : Fits w8 (get_or header 1 0) = search (rules, c.well_formed) in
+    let middle : Fits w8 (get_or header 2 0) = search (rules, c.well_formed) in
+    let low : Fits w8 (get_or header 3 0) = search (rules, c.well_formed) in
+    omega (arith, c.message_end.ensures, stated-window 3 1 header (omega arith))
 
-cast-result : tie.Need-overflow-cast-result
+cast-result : tie.Need-overflow_cast-result
 cast-result c = record { sfits = fits c }
 
 returns : tie.Need-returns
-returns c = to_z_pos w32 (fits c) ∙ ap pos c.message-end.ensures
+returns c = to_z_pos w32 (fits c) ∙ ap pos c.message_end.ensures
 
-pub message-end-spec : {M : Type 1} → statement M
-message-end-spec = tie.close (tie.spec (λ c κs. search rules) cast-result returns)
+pub message_end_spec : {M : Type 1} → statement M
+message_end_spec = tie.close (tie.spec (λ c κs. search rules) cast-result returns)

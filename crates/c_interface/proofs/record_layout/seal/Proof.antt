@@ -8,54 +8,54 @@ use Rattle.c_interface.proofs.RecordSizes.{sealing-small}
 use Rattle.c_interface.proofs.record_layout.seal.Statement.{statement}
 use Rattle.c_interface.proofs.record_layout.seal.Tie as tie
 
-of-answer-requires : tie.Need-of-answer-requires
+of-answer-requires : tie.Need-of_answer-requires
 of-answer-requires c κs =
-    let a = c.before.before.before.before.before.before.before.args in
-    answer-count-small c.before.before.seal.ensures (sealing-small a.s ContentType.ChangeCipherSpec a.content.now)
+    let a = c.args in
+    answer-count-small c.seal.ensures (sealing-small a.s ContentType.ChangeCipherSpec a.content.now)
 
-of-answer-requires-2 : tie.Need-of-answer-requires-2
+of-answer-requires-2 : tie.Need-of_answer-requires-in-21
 of-answer-requires-2 c κs =
-    let a = c.before.before.before.before.before.before.before.args in
-    answer-count-small c.before.before.seal2.ensures (sealing-small a.s ContentType.Alert a.content.now)
+    let a = c.args in
+    answer-count-small c.seal-in-21.ensures (sealing-small a.s ContentType.Alert a.content.now)
 
-of-answer-requires-3 : tie.Need-of-answer-requires-3
+of-answer-requires-3 : tie.Need-of_answer-requires-in-22
 of-answer-requires-3 c κs =
-    let a = c.before.before.before.before.before.before.before.args in
-    answer-count-small c.before.before.seal3.ensures (sealing-small a.s ContentType.Handshake a.content.now)
+    let a = c.args in
+    answer-count-small c.seal-in-22.ensures (sealing-small a.s ContentType.Handshake a.content.now)
 
-of-answer-requires-4 : tie.Need-of-answer-requires-4
+of-answer-requires-4 : tie.Need-of_answer-requires-in-23
 of-answer-requires-4 c κs =
-    let a = c.before.before.before.before.before.before.before.args in
-    answer-count-small c.before.before.seal4.ensures (sealing-small a.s ContentType.ApplicationData a.content.now)
+    let a = c.args in
+    answer-count-small c.seal-in-23.ensures (sealing-small a.s ContentType.ApplicationData a.content.now)
 
-returns : tie.Need-returns
+returns : tie.Need-returns-in-20
 returns c =
-    rw c.before.before.before.before.before.match.keys1
-    (codes-answer c.before.before.before.seal.ensures c.of-answer.type-inv c.of-answer.ensures)
+    rw c.in-20.is
+    (codes-answer c.seal.ensures c.of_answer.type_inv c.of_answer.ensures)
 
-returns-2 : tie.Need-returns-2
+returns-2 : tie.Need-returns-in-21
 returns-2 c =
-    rw c.before.before.before.before.before.match.keys2
-    (codes-answer c.before.before.before.seal2.ensures c.of-answer2.type-inv c.of-answer2.ensures)
+    rw c.in-21.is
+    (codes-answer c.seal-in-21.ensures c.of_answer-in-21.type_inv c.of_answer-in-21.ensures)
 
-returns-3 : tie.Need-returns-3
+returns-3 : tie.Need-returns-in-22
 returns-3 c =
-    rw c.before.before.before.before.before.match.keys3
-    (codes-answer c.before.before.before.seal3.ensures c.of-answer3.type-inv c.of-answer3.ensures)
+    rw c.in-22.is
+    (codes-answer c.seal-in-22.ensures c.of_answer-in-22.type_inv c.of_answer-in-22.ensures)
 
-returns-4 : tie.Need-returns-4
+returns-4 : tie.Need-returns-in-23
 returns-4 c =
-    rw c.before.before.before.before.before.match.keys4
-    (codes-answer c.before.before.before.seal4.ensures c.of-answer4.type-inv c.of-answer4.ensures)
+    rw c.in-23.is
+    (codes-answer c.seal-in-23.ensures c.of_answer-in-23.type_inv c.of_answer-in-23.ensures)
 
-returns-5 : tie.Need-returns-5
+returns-5 : tie.Need-returns-in_default
 returns-5 c =
-    let r = c.before.match.rest in
+    let r = c.in_default.in_default-own.rest in
     rw (ne_eqb _ 20 r.0.0.0.1, ne_eqb _ 21 r.0.0.1, ne_eqb _ 22 r.0.1, ne_eqb _ 23 r.1)
-    (refusal-codes c.of-refusal.type-inv c.of-refusal.ensures)
+    (refusal-codes c.of_refusal.type_inv c.of_refusal.ensures)
 
-pub seal-spec : {M : Type 1} → statement M
-seal-spec =
+pub seal_spec : {M : Type 1} → statement M
+seal_spec =
     tie.close
     (tie.spec
     (λ c κs. search rules)

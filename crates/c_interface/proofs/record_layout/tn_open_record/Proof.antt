@@ -22,33 +22,32 @@ abbrev keyed : tie.After-open → State
 keyed c = under (entry c).args.key.now (entry c).args.sequence
 
 opens : (c : tie.After-open) → opened (keyed c) (entry c).args.received.now ≡ c.«open».result
-opens c = ap (λ (s : State). opened s (entry c).args.received.now) (sym c.before.state.ensures) ∙ sym c.«open».ensures
+opens c = ap (λ (s : State). opened s (entry c).args.received.now) (sym c.state.ensures) ∙ sym c.«open».ensures
 
 -- the record passed
-found : (c : tie.After-len) →
-    let given = c.len.given.0 in
-    opened (keyed c.before.before) (entry c.before.before).args.received.now ≡ Opened.Content given.0 given.1.0
-found c = opens c.before.before ∙ c.len.given.1
+found : (c : tie.In-Content) →
+    opened (keyed c.before) (entry c.before).args.received.now ≡ Opened.Content c.in-Content.kind c.in-Content.len
+found c = opens c.before ∙ c.in-Content.is
 
-fits : (c : tie.After-len) → c.len.given.0.1.0 < 2 ^ 31
+fits : (c : tie.In-Content) → c.in-Content.len < 2 ^ 31
 fits c =
-    let few = (opened_inside (keyed c.before.before) (entry c.before.before).args.received.now (found c)).1 in
+    let few = (opened_inside (keyed c.before) (entry c.before).args.received.now (found c)).1 in
     omega arith
 
-cast-result : tie.Need-overflow-cast-result
-cast-result c = record { sfits = fits c.before }
+cast-result : tie.Need-overflow_cast-result
+cast-result c = record { sfits = fits c }
 
-returns : tie.Need-returns
+returns : tie.Need-returns-in-Content
 returns c =
-    rw (found c.before) (to_z_pos w32 (fits c.before))
+    rw (found c) (to_z_pos w32 (fits c))
 
-returns-2 : tie.Need-returns-2
+returns-2 : tie.Need-returns-in-Refused
 returns-2 c =
-    rw (opens c.before.before.before.before ∙ c.before.before.r.given.1)
-    (handed-on _ c.of-refusal.type-inv ∙ c.of-refusal.ensures)
+    rw (opens c.before.before ∙ c.in-Refused.is)
+    (handed-on _ c.of_refusal.type_inv ∙ c.of_refusal.ensures)
 
-pub tn-open-record-spec : {M : Type 1} → statement M
-tn-open-record-spec =
+pub tn_open_record_spec : {M : Type 1} → statement M
+tn_open_record_spec =
     tie.close
     (tie.spec
     (λ c κs. search rules)

@@ -7,8 +7,7 @@ use Rattle.c_interface.proofs.record_layout.tn_seal_record.Tie as tie
 
 returns : tie.Need-returns
 returns c =
-    let sealed = c.before.before.seal in
-    rw c.before.before.before.before.state.ensures at (codes-codes sealed.ensures sealed.type-inv)
+    rw c.state.ensures at (codes-codes c.seal.ensures c.seal.type_inv)
 
-pub tn-seal-record-spec : {M : Type 1} → statement M
-tn-seal-record-spec = tie.close (tie.spec (λ c κs. search rules) (λ c κs. search rules) (λ c. search rules) returns)
+pub tn_seal_record_spec : {M : Type 1} → statement M
+tn_seal_record_spec = tie.close (tie.spec (λ c κs. search rules) (λ c κs. search rules) (λ c. search rules) returns)

@@ -7,8 +7,7 @@ use Rattle.c_interface.proofs.record_layout.tn_write_record.Tie as tie
 
 returns : tie.Need-returns
 returns c =
-    let sealed = c.before.before.seal in
-    rw c.before.before.before.before.initial.ensures at (codes-codes sealed.ensures sealed.type-inv)
+    rw c.initial.ensures at (codes-codes c.seal.ensures c.seal.type_inv)
 
-pub tn-write-record-spec : {M : Type 1} → statement M
-tn-write-record-spec = tie.close (tie.spec (λ c κs. search rules) (λ c κs. search rules) (λ c. search rules) returns)
+pub tn_write_record_spec : {M : Type 1} → statement M
+tn_write_record_spec = tie.close (tie.spec (λ c κs. search rules) (λ c κs. search rules) (λ c. search rules) returns)

@@ -9,23 +9,22 @@ use Rattle.c_interface.proofs.Sizes.{verify-small}
 use Rattle.c_interface.proofs.secrets.tn_finished.Statement.{statement}
 use Rattle.c_interface.proofs.secrets.tn_finished.Tie as tie
 
-returns : tie.Need-returns
+returns : tie.Need-returns-then-side-gt1
 returns c =
-    rw (lt-leb c.before.before.before.before.before.args.side 1 (omega (arith, c.before.if1.true)))
-    (refusal-codes c.of-refusal.type-inv c.of-refusal.ensures)
+    rw (lt-leb c.args.side 1 (omega (arith, c.if-side-gt1.true)))
+    (refusal-codes c.of_refusal.type_inv c.of_refusal.ensures)
 
-of-answer-requires : tie.Need-of-answer-requires
-of-answer-requires c κs = answer-count-small c.before.before.finished.ensures (verify-small _ _ _)
+of-answer-requires : tie.Need-of_answer-requires
+of-answer-requires c κs = answer-count-small c.finished.ensures (verify-small _ _ _)
 
-returns-2 : tie.Need-returns-2
+returns-2 : tie.Need-returns
 returns-2 c =
-    let a = c.before.before.before.before.before.before.before.before.before.before.args in
-    let n = c.before.before.before.before.before in
-    rw (le-leb a.side 1 n.before.if1.false, ← n.side-of.ensures)
-    (codes-answer c.before.before.before.finished.ensures c.of-answer.type-inv c.of-answer.ensures)
+    let a = c.args in
+    rw (le-leb a.side 1 c.if-side-gt1.false, ← c.side_of.ensures)
+    (codes-answer c.finished.ensures c.of_answer.type_inv c.of_answer.ensures)
 
-pub tn-finished-spec : {M : Type 1} → statement M
-tn-finished-spec =
+pub tn_finished_spec : {M : Type 1} → statement M
+tn_finished_spec =
     tie.close
     (tie.spec
     (λ c κs. search rules)

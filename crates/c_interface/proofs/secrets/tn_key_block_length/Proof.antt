@@ -8,12 +8,12 @@ use Rattle.c_interface.proofs.Sizes.{key-block-few}
 use Rattle.c_interface.proofs.secrets.tn_key_block_length.Statement.{statement}
 use Rattle.c_interface.proofs.secrets.tn_key_block_length.Tie as tie
 
-of-answer-requires : tie.Need-of-answer-requires
-of-answer-requires c κs = rw c.key-block-length.ensures (key-block-few c.before.args.suite)
+of-answer-requires : tie.Need-of_answer-requires
+of-answer-requires c κs = rw c.key_block_length.ensures (key-block-few c.args.suite)
 
 returns : tie.Need-returns
-returns c = handed-on _ c.of-answer.type-inv ∙ c.of-answer.ensures ∙ ap pos c.before.key-block-length.ensures
+returns c = handed-on _ c.of_answer.type_inv ∙ c.of_answer.ensures ∙ ap pos c.key_block_length.ensures
 
-pub tn-key-block-length-spec : {M : Type 1} → statement M
-tn-key-block-length-spec =
+pub tn_key_block_length_spec : {M : Type 1} → statement M
+tn_key_block_length_spec =
     tie.close (tie.spec (λ c κs. search rules) of-answer-requires returns)

@@ -12,27 +12,24 @@ use Rattle.c_interface.proofs.Sizes.{master-small}
 use Rattle.c_interface.proofs.secrets.tn_master.Statement.{statement}
 use Rattle.c_interface.proofs.secrets.tn_master.Tie as tie
 
-of-answer-requires : tie.Need-of-answer-requires
+of-answer-requires : tie.Need-of_answer-requires
 of-answer-requires c κs =
-    let at-master = c.before.before.before in
-    let args = at-master.before.before.before.before.before.before.args in
-    answer-count-small at-master.master.ensures.0 (master-small args.premaster.now args.client.now args.server.now)
+    let args = c.args in
+    answer-count-small c.master-done.ensures.0 (master-small args.premaster.now args.client.now args.server.now)
 
 returns : tie.Need-returns
 returns c =
-    let at-match = c.before in
-    let at-master = at-match.before.before.before in
-    let made = at-master.master.ensures in
-    let a = at-master.before.before.before.before.before.before.args in
+    let made = c.master-done.ensures in
+    let a = c.args in
     let wanted = within (length a.out.now) (master a.premaster.now a.client.now a.server.now) in
     let n = master_blocks a.premaster.now a.client.now a.server.now in
     record {
-      value = codes-answer made.0 c.of-answer.type-inv c.of-answer.ensures;
+      value = codes-answer made.0 c.of_answer.type_inv c.of_answer.ensures;
       counted =
           ⊎_elim (λ x. x.2 ∙ report-wrote wanted n a.blocks.now made.0.told x.1.given.1 made.1)
-          (λ x. x.2 ∙ report-refused wanted n a.blocks.now made.0.told x.1.given.1) at-match.match.branch;
+          (λ x. x.2 ∙ report-refused wanted n a.blocks.now made.0.told x.1.given.1) c.match-said.branch;
     }
 
-pub tn-master-spec : {M : Type 1} → statement M
-tn-master-spec =
+pub tn_master_spec : {M : Type 1} → statement M
+tn_master_spec =
     tie.close (tie.spec (λ c κs. search rules) (λ c. search rules) (λ c. search rules) of-answer-requires (λ c. search rules) returns)

@@ -9,23 +9,22 @@ use Rattle.c_interface.proofs.Sizes.{prf-small}
 use Rattle.c_interface.proofs.secrets.tn_prf.Statement.{statement}
 use Rattle.c_interface.proofs.secrets.tn_prf.Tie as tie
 
-returns : tie.Need-returns
+returns : tie.Need-returns-then-label-gt3
 returns c =
-    rw (lt-leb c.before.before.before.before.before.args.label 3 (omega (arith, c.before.if1.true)))
-    (refusal-codes c.of-refusal.type-inv c.of-refusal.ensures)
+    rw (lt-leb c.args.label 3 (omega (arith, c.if-label-gt3.true)))
+    (refusal-codes c.of_refusal.type_inv c.of_refusal.ensures)
 
-of-answer-requires : tie.Need-of-answer-requires
-of-answer-requires c κs = answer-count-small c.before.before.prf.ensures (prf-small _ _ _ _)
+of-answer-requires : tie.Need-of_answer-requires
+of-answer-requires c κs = answer-count-small c.prf.ensures (prf-small _ _ _ _)
 
-returns-2 : tie.Need-returns-2
+returns-2 : tie.Need-returns
 returns-2 c =
-    let a = c.before.before.before.before.before.before.before.before.before.before.args in
-    let n = c.before.before.before.before.before in
-    rw (le-leb a.label 3 n.before.if1.false, ← n.label_of.ensures)
-    (codes-answer c.before.before.before.prf.ensures c.of-answer.type-inv c.of-answer.ensures)
+    let a = c.args in
+    rw (le-leb a.label 3 c.if-label-gt3.false, ← c.label_of.ensures)
+    (codes-answer c.prf.ensures c.of_answer.type_inv c.of_answer.ensures)
 
-pub tn-prf-spec : {M : Type 1} → statement M
-tn-prf-spec =
+pub tn_prf_spec : {M : Type 1} → statement M
+tn_prf_spec =
     tie.close
     (tie.spec
     (λ c κs. search rules)

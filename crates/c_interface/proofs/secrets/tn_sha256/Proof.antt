@@ -6,11 +6,11 @@ use Rattle.c_interface.proofs.Sizes.{sha256-small}
 use Rattle.c_interface.proofs.secrets.tn_sha256.Statement.{statement}
 use Rattle.c_interface.proofs.secrets.tn_sha256.Tie as tie
 
-of-answer-requires : tie.Need-of-answer-requires
-of-answer-requires c κs = answer-count-small c.before.before.hash.ensures (sha256-small _)
+of-answer-requires : tie.Need-of_answer-requires
+of-answer-requires c κs = answer-count-small c.hash.ensures (sha256-small _)
 
 returns : tie.Need-returns
-returns c = codes-answer c.before.before.before.hash.ensures c.of-answer.type-inv c.of-answer.ensures
+returns c = codes-answer c.hash.ensures c.of_answer.type_inv c.of_answer.ensures
 
-pub tn-sha256-spec : {M : Type 1} → statement M
-tn-sha256-spec = tie.close (tie.spec (λ c κs. search rules) of-answer-requires (λ c. search rules) returns)
+pub tn_sha256_spec : {M : Type 1} → statement M
+tn_sha256_spec = tie.close (tie.spec (λ c κs. search rules) of-answer-requires (λ c. search rules) returns)

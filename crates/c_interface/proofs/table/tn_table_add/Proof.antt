@@ -6,11 +6,11 @@ use Rattle.c_interface.proofs.Sizes.{edit-small}
 use Rattle.c_interface.proofs.table.tn_table_add.Statement.{statement}
 use Rattle.c_interface.proofs.table.tn_table_add.Tie as tie
 
-of-answer-requires : tie.Need-of-answer-requires
-of-answer-requires c κs = answer-count-small c.before.before.before.before.add.ensures.table (edit-small _ _ _ _ _)
+of-answer-requires : tie.Need-of_answer-requires
+of-answer-requires c κs = answer-count-small c.add.ensures.table (edit-small _ _ _ _ _)
 
 returns : tie.Need-returns
-returns c = codes-edit c.before.before.before.before.before.add.ensures c.of-answer.type-inv c.of-answer.ensures
+returns c = codes-edit c.add.ensures c.of_answer.type_inv c.of_answer.ensures
 
-pub tn-table-add-spec : {M : Type 1} → statement M
-tn-table-add-spec = tie.close (tie.spec (λ c κs. search rules) of-answer-requires (λ c. search rules) (λ c. search rules) returns)
+pub tn_table_add_spec : {M : Type 1} → statement M
+tn_table_add_spec = tie.close (tie.spec (λ c κs. search rules) of-answer-requires (λ c. search rules) (λ c. search rules) returns)

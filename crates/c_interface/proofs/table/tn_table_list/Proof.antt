@@ -6,11 +6,11 @@ use Rattle.c_interface.proofs.Sizes.{list-small}
 use Rattle.c_interface.proofs.table.tn_table_list.Statement.{statement}
 use Rattle.c_interface.proofs.table.tn_table_list.Tie as tie
 
-of-answer-requires : tie.Need-of-answer-requires
-of-answer-requires c κs = answer-count-small c.before.before.make-list.ensures (list-small _)
+of-answer-requires : tie.Need-of_answer-requires
+of-answer-requires c κs = answer-count-small c.make_list.ensures (list-small _)
 
 returns : tie.Need-returns
-returns c = codes-answer c.before.before.before.make-list.ensures c.of-answer.type-inv c.of-answer.ensures
+returns c = codes-answer c.make_list.ensures c.of_answer.type_inv c.of_answer.ensures
 
-pub tn-table-list-spec : {M : Type 1} → statement M
-tn-table-list-spec = tie.close (tie.spec (λ c κs. search rules) of-answer-requires (λ c. search rules) returns)
+pub tn_table_list_spec : {M : Type 1} → statement M
+tn_table_list_spec = tie.close (tie.spec (λ c κs. search rules) of-answer-requires (λ c. search rules) returns)

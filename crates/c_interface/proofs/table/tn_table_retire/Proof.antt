@@ -6,11 +6,11 @@ use Rattle.c_interface.proofs.Sizes.{edit-small}
 use Rattle.c_interface.proofs.table.tn_table_retire.Statement.{statement}
 use Rattle.c_interface.proofs.table.tn_table_retire.Tie as tie
 
-of-answer-requires : tie.Need-of-answer-requires
-of-answer-requires c κs = answer-count-small c.before.before.before.before.retire.ensures.table (edit-small _ _ _ _ _)
+of-answer-requires : tie.Need-of_answer-requires
+of-answer-requires c κs = answer-count-small c.retire.ensures.table (edit-small _ _ _ _ _)
 
 returns : tie.Need-returns
-returns c = codes-edit c.before.before.before.before.before.retire.ensures c.of-answer.type-inv c.of-answer.ensures
+returns c = codes-edit c.retire.ensures c.of_answer.type_inv c.of_answer.ensures
 
-pub tn-table-retire-spec : {M : Type 1} → statement M
-tn-table-retire-spec = tie.close (tie.spec (λ c κs. search rules) of-answer-requires (λ c. search rules) (λ c. search rules) returns)
+pub tn_table_retire_spec : {M : Type 1} → statement M
+tn_table_retire_spec = tie.close (tie.spec (λ c κs. search rules) of-answer-requires (λ c. search rules) (λ c. search rules) returns)

@@ -6,12 +6,12 @@ use Rattle.c_interface.proofs.Signed.{handed-on}
 use Rattle.c_interface.proofs.table.tn_table_test.Statement.{statement}
 use Rattle.c_interface.proofs.table.tn_table_test.Tie as tie
 
-returns : tie.Need-returns
-returns c = rw (sym c.before.well-formed-2.ensures ∙ c.if1.true)
+returns : tie.Need-returns-then-well_formed
+returns c = rw (sym c.well_formed-2.ensures ∙ c.if-well_formed.true)
 
-returns-2 : tie.Need-returns-2
-returns-2 c = rw (sym c.before.before.well-formed-2.ensures ∙ c.before.if1.false) (handed-on _ c.of-refusal.type-inv ∙ c.of-refusal.ensures)
+returns-2 : tie.Need-returns
+returns-2 c = rw (sym c.well_formed-2.ensures ∙ c.if-well_formed.false) (handed-on _ c.of_refusal.type_inv ∙ c.of_refusal.ensures)
 
-pub tn-table-test-spec : {M : Type 1} → statement M
-tn-table-test-spec =
+pub tn_table_test_spec : {M : Type 1} → statement M
+tn_table_test_spec =
     tie.close (tie.spec (λ c κs. search rules) returns (λ c κs. search rules) returns-2)

@@ -7,15 +7,15 @@ use Rattle.c_interface.proofs.Sizes.{written_small}
 use Rattle.c_interface.proofs.writing.tn_write_client_hello.Statement.{statement}
 use Rattle.c_interface.proofs.writing.tn_write_client_hello.Tie as tie
 
-of-answer-requires : tie.Need-of-answer-requires
+of-answer-requires : tie.Need-of_answer-requires
 of-answer-requires c κs =
-    let a = c.before.before.before.before.before.before.before.before.before.before.args in
+    let a = c.args in
     let fields = client_given a.version a.random.now a.session-id.now a.suites.now a.methods.now a.present a.block.now in
-    answer-count-small c.before.before.write.ensures (written_small client_hello fields)
+    answer-count-small c.write.ensures (written_small client_hello fields)
 
 returns : tie.Need-returns
-returns c = codes-answer c.before.before.before.write.ensures c.of-answer.type-inv c.of-answer.ensures
+returns c = codes-answer c.write.ensures c.of_answer.type_inv c.of_answer.ensures
 
-pub tn-write-client-hello-spec : {M : Type 1} → statement M
-tn-write-client-hello-spec =
+pub tn_write_client_hello_spec : {M : Type 1} → statement M
+tn_write_client_hello_spec =
     tie.close (tie.spec (λ c κs. search rules) of-answer-requires (λ c. search rules) returns)

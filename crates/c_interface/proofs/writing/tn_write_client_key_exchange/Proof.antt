@@ -7,14 +7,14 @@ use Rattle.c_interface.proofs.Sizes.{written_small}
 use Rattle.c_interface.proofs.writing.tn_write_client_key_exchange.Statement.{statement}
 use Rattle.c_interface.proofs.writing.tn_write_client_key_exchange.Tie as tie
 
-of-answer-requires : tie.Need-of-answer-requires
+of-answer-requires : tie.Need-of_answer-requires
 of-answer-requires c κs =
-    let a = c.before.before.before.before.before.before.args in
-    answer-count-small c.before.before.write-identity.ensures (written_small client_key_exchange a.identity.now)
+    let a = c.args in
+    answer-count-small c.write_identity.ensures (written_small client_key_exchange a.identity.now)
 
 returns : tie.Need-returns
-returns c = codes-answer c.before.before.before.write-identity.ensures c.of-answer.type-inv c.of-answer.ensures
+returns c = codes-answer c.write_identity.ensures c.of_answer.type_inv c.of_answer.ensures
 
-pub tn-write-client-key-exchange-spec : {M : Type 1} → statement M
-tn-write-client-key-exchange-spec =
+pub tn_write_client_key_exchange_spec : {M : Type 1} → statement M
+tn_write_client_key_exchange_spec =
     tie.close (tie.spec (λ c κs. search rules) of-answer-requires (λ c. search rules) returns)

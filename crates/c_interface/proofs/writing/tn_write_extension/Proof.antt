@@ -6,14 +6,14 @@ use Rattle.c_interface.proofs.Sizes.{extension-small}
 use Rattle.c_interface.proofs.writing.tn_write_extension.Statement.{statement}
 use Rattle.c_interface.proofs.writing.tn_write_extension.Tie as tie
 
-of-answer-requires : tie.Need-of-answer-requires
+of-answer-requires : tie.Need-of_answer-requires
 of-answer-requires c κs =
-    let a = c.before.before.before.before.before.before.args in
-    answer-count-small c.before.before.write.ensures (extension-small (record { kind = a.kind; contents = a.contents.now }))
+    let a = c.args in
+    answer-count-small c.write.ensures (extension-small (record { kind = a.kind; contents = a.contents.now }))
 
 returns : tie.Need-returns
-returns c = codes-answer c.before.before.before.write.ensures c.of-answer.type-inv c.of-answer.ensures
+returns c = codes-answer c.write.ensures c.of_answer.type_inv c.of_answer.ensures
 
-pub tn-write-extension-spec : {M : Type 1} → statement M
-tn-write-extension-spec =
+pub tn_write_extension_spec : {M : Type 1} → statement M
+tn_write_extension_spec =
     tie.close (tie.spec (λ c κs. search rules) of-answer-requires (λ c. search rules) returns)

@@ -7,14 +7,14 @@ use Rattle.c_interface.proofs.Sizes.{written_small}
 use Rattle.c_interface.proofs.writing.tn_write_finished.Statement.{statement}
 use Rattle.c_interface.proofs.writing.tn_write_finished.Tie as tie
 
-of-answer-requires : tie.Need-of-answer-requires
+of-answer-requires : tie.Need-of_answer-requires
 of-answer-requires c κs =
-    let a = c.before.before.before.before.before.before.args in
-    answer-count-small c.before.before.write-finished.ensures (written_small finished a.verify-data.now)
+    let a = c.args in
+    answer-count-small c.write_finished.ensures (written_small finished a.verify-data.now)
 
 returns : tie.Need-returns
-returns c = codes-answer c.before.before.before.write-finished.ensures c.of-answer.type-inv c.of-answer.ensures
+returns c = codes-answer c.write_finished.ensures c.of_answer.type_inv c.of_answer.ensures
 
-pub tn-write-finished-spec : {M : Type 1} → statement M
-tn-write-finished-spec =
+pub tn_write_finished_spec : {M : Type 1} → statement M
+tn_write_finished_spec =
     tie.close (tie.spec (λ c κs. search rules) of-answer-requires (λ c. search rules) returns)

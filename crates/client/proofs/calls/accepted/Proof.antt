@@ -17,29 +17,29 @@ module _ (c : tie.Start) where
   in-phase : {p : Phase} → c.args.a.next.phase ≡ p → In p ≡ In c.args.a.next.phase
   in-phase e = ap In (sym e)
 
-returns : tie.Need-returns
-returns c = c.without-master.ensures ∙ in-phase c.before.before.before.before c.before.enum_told.given.1
+returns : tie.Need-returns-in-Hello
+returns c = c.without_master.ensures ∙ in-phase c.before.before.before c.in-Hello.is
 
-returns-2 : tie.Need-returns-2
-returns-2 c = c.without-master2.ensures ∙ in-phase c.before.before.before.before c.before.enum-told2.given.1
+returns-2 : tie.Need-returns-in-KeyExchange
+returns-2 c = c.without_master-in-KeyExchange.ensures ∙ in-phase c.before.before.before c.in-KeyExchange.is
 
-returns-3 : tie.Need-returns-3
-returns-3 c = c.without-master3.ensures ∙ in-phase c.before.before.before.before c.before.enum-told3.given.1
+returns-3 : tie.Need-returns-in-Done
+returns-3 c = c.without_master-in-Done.ensures ∙ in-phase c.before.before.before c.in-Done.is
 
-returns-4 : tie.Need-returns-4
-returns-4 c = in-phase c.before.before.before.before.before c.before.before.enum-told4.given.1
+returns-4 : tie.Need-returns-in-Change
+returns-4 c = in-phase c.before.before.before.before c.in-Change.is
 
-returns-5 : tie.Need-returns-5
-returns-5 c = c.without-master4.ensures ∙ in-phase c.before.before.before.before c.before.enum-told5.given.1
+returns-5 : tie.Need-returns-in-Finished
+returns-5 c = c.without_master-in-Finished.ensures ∙ in-phase c.before.before.before c.in-Finished.is
 
-returns-6 : tie.Need-returns-6
-returns-6 c = c.without-master5.ensures ∙ in-phase c.before.before.before.before c.before.enum-told6.given.1
+returns-6 : tie.Need-returns-in-Complete
+returns-6 c = c.without_master-in-Complete.ensures ∙ in-phase c.before.before.before c.in-Complete.is
 
-returns-7 : tie.Need-returns-7
-returns-7 c = c.without-master6.ensures ∙ in-phase c.before.before.before.before c.before.enum-told7.given.1
+returns-7 : tie.Need-returns-in-Closed
+returns-7 c = c.without_master-in-Closed.ensures ∙ in-phase c.before.before.before c.in-Closed.is
 
-pub accepted-spec : {M : Type 1} → statement M
-accepted-spec =
+pub accepted_spec : {M : Type 1} → statement M
+accepted_spec =
     tie.close
     (tie.spec
     (λ c. search rules)

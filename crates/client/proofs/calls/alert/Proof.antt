@@ -4,24 +4,24 @@ use borrow.Author.Rules.{rules}
 use Rattle.client.proofs.calls.alert.Statement.{statement}
 use Rattle.client.proofs.calls.alert.Tie as tie
 
-returns : tie.Need-returns
-returns c = rw (← c.before.before.is-over.ensures, c.before.if1.true) c.refuse.ensures
+returns : tie.Need-returns-then-is_over
+returns c = rw (← c.is_over.ensures, c.if-is_over.true) c.refuse.ensures
 
-returns-2 : tie.Need-returns-2
+returns-2 : tie.Need-returns-in-Illegal
 returns-2 c =
-    rw (← c.before.before.before.before.before.is-over.ensures, c.before.before.before.before.if1.false, ← c.before.before.before.hear.ensures, c.before.enum_told.given.1)
-    c.refuse2.ensures
+    rw (← c.is_over.ensures, c.if-is_over.false, ← c.hear.ensures, c.in-Illegal.is)
+    c.refuse-in-Illegal.ensures
 
-returns-3 : tie.Need-returns-3
+returns-3 : tie.Need-returns-in-Ends
 returns-3 c =
-    rw (← c.before.before.before.before.before.is-over.ensures, c.before.before.before.before.if1.false, ← c.before.before.before.hear.ensures, c.before.enum-told2.given.1, c.ended.ensures)
+    rw (← c.is_over.ensures, c.if-is_over.false, ← c.hear.ensures, c.in-Ends.is, c.ended-next.ensures)
 
-returns-4 : tie.Need-returns-4
+returns-4 : tie.Need-returns-in-Ignored
 returns-4 c =
-    rw (← c.before.before.before.before.is-over.ensures, c.before.before.before.if1.false, ← c.before.before.hear.ensures, c.enum-told3.given.1)
+    rw (← c.is_over.ensures, c.if-is_over.false, ← c.hear.ensures, c.in-Ignored.is)
 
-pub alert-spec : {M : Type 1} → statement M
-alert-spec =
+pub alert_spec : {M : Type 1} → statement M
+alert_spec =
     tie.close
     (tie.spec
     (λ c κs. search rules)

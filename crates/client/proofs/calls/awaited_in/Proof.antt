@@ -4,20 +4,20 @@ use borrow.Author.Rules.{rules}
 use Rattle.client.proofs.calls.awaited_in.Statement.{statement}
 use Rattle.client.proofs.calls.awaited_in.Tie as tie
 
-returns : tie.Need-returns
-returns c = rw c.enum_told.given.1
+returns : tie.Need-returns-in-Hello
+returns c = rw c.in-Hello.is
 
-returns-2 : tie.Need-returns-2
-returns-2 c = rw c.before.enum-told2.given.1 c.hint-or-done.ensures
+returns-2 : tie.Need-returns-in-KeyExchange
+returns-2 c = rw c.in-KeyExchange.is c.hint_or_done.ensures
 
-returns-3 : tie.Need-returns-3
-returns-3 c = rw c.enum-told3.given.1
+returns-3 : tie.Need-returns-in-Done
+returns-3 c = rw c.in-Done.is
 
-returns-5 : tie.Need-returns-5
-returns-5 c = rw c.enum-told5.given.1
+returns-5 : tie.Need-returns-in-Finished
+returns-5 c = rw c.in-Finished.is
 
-pub awaited-in-spec : {M : Type 1} → statement M
-awaited-in-spec =
+pub awaited_in_spec : {M : Type 1} → statement M
+awaited_in_spec =
     tie.close
     (tie.spec
     (λ c. search rules)

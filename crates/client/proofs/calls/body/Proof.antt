@@ -17,38 +17,36 @@ module _ (c : tie.Start) where
   in-phase : {d : Decision} {p : Phase} → c.args.c.phase ≡ p → In d p → In d c.args.c.phase
   in-phase {d} e h = subst (In d) (sym e) h
 
-returns : tie.Need-returns
+returns : tie.Need-returns-then-brings_hint
 returns c =
-    let hinted = c.before.before in
-    in-phase hinted.before.before.before.before hinted.before.enum-told2.given.1
-    (rw (← hinted.brings-hint.ensures, c.before.if1.true) c.hint.ensures)
+    in-phase c.before.before.before.before.before c.in-KeyExchange.is
+    (rw (← c.brings_hint.ensures, c.if-brings_hint.true) c.hint.ensures)
 
-returns-2 : tie.Need-returns-2
-returns-2 c = in-phase c.before.before.before.before c.before.enum_told.given.1 c.body.ensures
+returns-2 : tie.Need-returns-in-Hello
+returns-2 c = in-phase c.before.before.before c.in-Hello.is c.body.ensures
 
-returns-3 : tie.Need-returns-3
+returns-3 : tie.Need-returns-else-brings_hint
 returns-3 c =
-    let hinted = c.before.before in
-    in-phase hinted.before.before.before.before hinted.before.enum-told2.given.1
-    (rw (← hinted.brings-hint.ensures, c.before.if1.false) c.done.ensures)
+    in-phase c.before.before.before.before.before c.in-KeyExchange.is
+    (rw (← c.brings_hint.ensures, c.if-brings_hint.false) c.done.ensures)
 
-returns-4 : tie.Need-returns-4
-returns-4 c = in-phase c.before.before.before.before c.before.enum-told3.given.1 c.done2.ensures
+returns-4 : tie.Need-returns-in-Done
+returns-4 c = in-phase c.before.before.before c.in-Done.is c.done-in-Done.ensures
 
-returns-5 : tie.Need-returns-5
-returns-5 c = in-phase c.before.before.before.before c.before.enum-told4.given.1 c.refused.ensures
+returns-5 : tie.Need-returns-in-Change
+returns-5 c = in-phase c.before.before.before c.in-Change.is c.refused.ensures
 
-returns-6 : tie.Need-returns-6
-returns-6 c = in-phase c.before.before.before.before c.before.enum-told5.given.1 c.body2.ensures
+returns-6 : tie.Need-returns-in-Finished
+returns-6 c = in-phase c.before.before.before c.in-Finished.is c.body-in-Finished.ensures
 
-returns-7 : tie.Need-returns-7
-returns-7 c = in-phase c.before.before.before.before c.before.enum-told6.given.1 c.refused2.ensures
+returns-7 : tie.Need-returns-in-Complete
+returns-7 c = in-phase c.before.before.before c.in-Complete.is c.refused-in-Complete.ensures
 
-returns-8 : tie.Need-returns-8
-returns-8 c = in-phase c.before.before.before.before c.before.enum-told7.given.1 c.refused3.ensures
+returns-8 : tie.Need-returns-in-Closed
+returns-8 c = in-phase c.before.before.before c.in-Closed.is c.refused-in-Closed.ensures
 
-pub body-spec : {M : Type 1} → statement M
-body-spec =
+pub body_spec : {M : Type 1} → statement M
+body_spec =
     tie.close
     (tie.spec
     (λ c. search rules)

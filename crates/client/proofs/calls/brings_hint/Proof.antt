@@ -15,8 +15,8 @@ no-type : (m : List ℕ) → length m ≡ 0 → brings_hint m ≡ false
 no-type [] h = refl
 no-type (b ∷ m) h = absurd (omega arith)
 
-returns : tie.Need-returns
-returns c = rw (no-type c.before.args.m.now c.if1.true)
+returns : tie.Need-returns-then-m-eq0
+returns c = rw (no-type c.args.m.now c.if-m-eq0.true)
 
-pub brings-hint-spec : {M : Type 1} → statement M
-brings-hint-spec = tie.close (tie.spec returns (λ c. search rules) (λ c. search rules))
+pub brings_hint_spec : {M : Type 1} → statement M
+brings_hint_spec = tie.close (tie.spec returns (λ c. search rules) (λ c. search rules))

@@ -14,29 +14,29 @@ use Rattle.client.proofs.calls.change_of_cipher.Tie as tie
 over : (c : Connection) {p : Phase} → c.phase ≡ p → answered (settled c [] (change_step c p)) ≡ answered (settled c [] (change_step c c.phase))
 over c e = ap (λ (q : Phase). answered (settled c [] (change_step c q))) (sym e)
 
-returns : tie.Need-returns
-returns c = rw c.before.enum_told.given.1 c.refuse.ensures
+returns : tie.Need-returns-in-Hello
+returns c = rw c.in-Hello.is c.refuse.ensures
 
-returns-2 : tie.Need-returns-2
-returns-2 c = rw c.before.enum-told2.given.1 c.refuse2.ensures
+returns-2 : tie.Need-returns-in-KeyExchange
+returns-2 c = rw c.in-KeyExchange.is c.refuse-in-KeyExchange.ensures
 
-returns-3 : tie.Need-returns-3
-returns-3 c = rw c.before.enum-told3.given.1 c.refuse3.ensures
+returns-3 : tie.Need-returns-in-Done
+returns-3 c = rw c.in-Done.is c.refuse-in-Done.ensures
 
-returns-4 : tie.Need-returns-4
-returns-4 c = rw (c.before.enum-told4.given.1, c.after-change.ensures)
+returns-4 : tie.Need-returns-in-Change
+returns-4 c = rw (c.in-Change.is, c.after_change-next.ensures)
 
-returns-5 : tie.Need-returns-5
-returns-5 c = rw c.before.enum-told5.given.1 c.refuse4.ensures
+returns-5 : tie.Need-returns-in-Finished
+returns-5 c = rw c.in-Finished.is c.refuse-in-Finished.ensures
 
-returns-6 : tie.Need-returns-6
-returns-6 c = c.refuse5.ensures ∙ over c.before.before.before.args.c c.before.enum-told6.given.1
+returns-6 : tie.Need-returns-in-Complete
+returns-6 c = c.refuse-in-Complete.ensures ∙ over c.args.c c.in-Complete.is
 
-returns-7 : tie.Need-returns-7
-returns-7 c = c.refuse6.ensures ∙ over c.before.before.before.args.c c.before.enum-told7.given.1
+returns-7 : tie.Need-returns-in-Closed
+returns-7 c = c.refuse-in-Closed.ensures ∙ over c.args.c c.in-Closed.is
 
-pub change-of-cipher-spec : {M : Type 1} → statement M
-change-of-cipher-spec =
+pub change_of_cipher_spec : {M : Type 1} → statement M
+change_of_cipher_spec =
     tie.close
     (tie.spec
     (λ c. search rules)

@@ -31,13 +31,11 @@ handed-as c out (accept flight next) n = refl
 
 returns : tie.Need-returns
 returns c =
-    let at-settle = c.before.before.before in
-    let at-decide = at-settle.before.before in
-    let args = at-decide.before.before.before.args in
+    let args = c.args in
     let step = message_step args.c args.m.now args.c.phase in
-    let decides = at-decide.decide.ensures in
-    let does = same-does (sym decides.means) at-settle.settle.ensures in
-    let a = at-settle.settle.result in
+    let decides = c.decide-d.ensures in
+    let does = same-does (sym decides.means) c.settle-a.ensures in
+    let a = c.settle-a.result in
     let said = ap (λ (r : Reply). counted r.said) c.reply.ensures in (
       (
         rw (does.answers, decides.counts) at c.reply.ensures ∙ ap (with_master _ _) (handed-as args.c args.out.now step _),
@@ -46,6 +44,6 @@ returns c =
       rw (said, said-kept a.said a.next _) does.brief,
     )
 
-pub message-spec : {M : Type 1} → statement M
-message-spec =
+pub message_spec : {M : Type 1} → statement M
+message_spec =
     tie.close (tie.spec (λ c κs. search rules) (λ c κs. search rules) (λ c κs. search rules) (λ c. search rules) returns)

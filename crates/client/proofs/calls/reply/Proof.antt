@@ -17,13 +17,13 @@ module _ (c : tie.Start) where
   said : {w : Written} → c.args.a.said ≡ w → After w ≡ After c.args.a.said
   said e = ap After (sym e)
 
-returns : tie.Need-returns
-returns c = c.accepted.ensures ∙ said c.before.before.before c.before.enum_told.given.1
+returns : tie.Need-returns-in-Wrote
+returns c = c.accepted.ensures ∙ said c.before.before c.in-Wrote.is
 
-returns-2 : tie.Need-returns-2
-returns-2 c = c.without-master.ensures ∙ said c.before.before.before c.before.enum-told2.given.1
+returns-2 : tie.Need-returns-in-Refused
+returns-2 c = c.without_master.ensures ∙ said c.before.before c.in-Refused.is
 
-pub reply-spec : {M : Type 1} → statement M
-reply-spec =
+pub reply_spec : {M : Type 1} → statement M
+reply_spec =
     tie.close
     (tie.spec (λ c. search rules) (λ c κs. search rules) (λ c. search rules) (λ c κs. search rules) returns returns-2)

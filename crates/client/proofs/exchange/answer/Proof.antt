@@ -19,71 +19,64 @@ use Rattle.client.proofs.exchange.answer.Statement.{statement}
 use Rattle.client.proofs.exchange.answer.Tie as tie
 
 -- the ClientKeyExchange, at the front of its array
-module _ (c : tie.After-put-exchange) where
+module _ (c : tie.After-put_exchange-n) where
   abbrev size : ℕ
-  size = c.put-exchange.result
+  size = c.put_exchange-n.result
 
   abbrev array : List ℕ
-  array = c.put-exchange.new.1.0
+  array = c.put_exchange-n.new.out
 
   within : size ≤ length array
   within =
-      let written = sym (length-take size array) ∙ ap length c.put-exchange.ensures.2 in
-      omega (arith, written, c.put-exchange.ensures.1)
+      let written = sym (length-take size array) ∙ ap length c.put_exchange-n.ensures.2 in
+      omega (arith, written, c.put_exchange-n.ensures.1)
 
   counted : size ≡ length (take size array)
   counted = sym (length-take-le size array within)
 
 -- the transcript with it
-module _ (c : tie.After-with-message2) where
-  abbrev put : tie.After-put-exchange
-  put = c.before.before.before
+module _ (c : tie.After-with_message-before) where
+  abbrev put : tie.After-put_exchange-n
+  put = c.before.before.before.before
 
-  before : c.with-message2.result ≡ absorb (absorb put.before.before.before.args.c.transcript put.before.before.before.args.m.now) (take (size put) (array put))
-  before = c.with-message2.ensures ∙ ap (λ (t : Sha256). absorb t (take (size put) (array put))) c.before.before.with-message.ensures
+  before : c.with_message-before.result ≡ absorb (absorb put.args.c.transcript put.args.m.now) (take (size put) (array put))
+  before = c.with_message-before.ensures ∙ ap (λ (t : Sha256). absorb t (take (size put) (array put))) c.with_message-with_done.ensures
 
-array-share-prefix-exchange : tie.Need-array-share-prefix-exchange
-array-share-prefix-exchange c = within c.before
+array-share-prefix-exchange : tie.Need-slice_bounds-exchange-end
+array-share-prefix-exchange c = within c.before.before
 
-slice-aggregate-with-message : tie.Need-slice-aggregate-with-message
-slice-aggregate-with-message c = counted c.before.before
+slice-aggregate-with-message : tie.Need-slice_bounds-with_message-end
+slice-aggregate-with-message c = counted c.before.before.before
 
-array-share-prefix-exchange-2 : tie.Need-array-share-prefix-exchange-2
+array-share-prefix-exchange-2 : tie.Need-slice_bounds-exchange-end-in-Wrote
 array-share-prefix-exchange-2 c = within c.before.before.before.before.before.before.before.before.before.before.before
 
-slice-aggregate-two : tie.Need-slice-aggregate-two
+slice-aggregate-two : tie.Need-slice_bounds-two-end
 slice-aggregate-two c = counted c.before.before.before.before.before.before.before.before.before.before.before.before
 
-two-requires : tie.Need-two-requires
+two-requires : tie.Need-two-outgoing-requires
 two-requires c κs =
-    let put = c.before.before.before.before.before.before.before.before.before.before.before.before.before in
-    (omega (arith, counted put, put.put-exchange.ensures.1), omega (arith, counted put, put.put-exchange.ensures.0))
+    (omega (arith, counted c.before.before.before.before.before.before.before.before.before.before.before.before.before, c.put_exchange-n.ensures.1), omega (arith, counted c.before.before.before.before.before.before.before.before.before.before.before.before.before, c.put_exchange-n.ensures.0))
 
-returns : tie.Need-returns
+returns : tie.Need-returns-in-Wrote
 returns c =
-    let at-two = c.before.before.before in
-    let told = at-two.before.before.before.before.before in
-    let at_value = told.before.before.before in
-    let hashed = at_value.before.before.before in
-    let args = (put hashed).before.before.before.args in
-    let made = sized-gives _ (finished-of-sized Client args.t3 hashed.with-message2.result) refl at_value.finished-of.ensures told.enum_told.given.1 in
-    let message = at-two.before.before.before.finished.ensures in
-    let next = c.after-done.ensures ∙ ap (after_done_with args.c args.t3) c.before.with-message3.ensures in
+    let args = (put c.before.before.before.before.before.before.before.before.before.before.before.before.before).args in
+    let made = sized-gives _ (finished-of-sized Client args.master c.with_message-before.result) refl c.finished_of.ensures c.in-Wrote.is in
+    let message = c.finished-message.ensures in
+    let next = c.after_done-next.ensures ∙ ap (after_done_with args.c args.master) c.with_message.ensures in
     same_step {n = args.blocks}
-    (answer-made args.c args.m.now args.t3 (put hashed).put-exchange.ensures.2 (before hashed) made message at-two.two.ensures.means next)
+    (answer-made args.c args.m.now args.master (put c.before.before.before.before.before.before.before.before.before.before.before.before.before).put_exchange-n.ensures.2 (before c.before.before.before.before.before.before.before.before.before.before.before.before.before) made message c.two-outgoing.ensures.means next)
     (record { means = refl; counts = refl })
 
-returns-2 : tie.Need-returns-2
+returns-2 : tie.Need-returns-in-Refused
 returns-2 c =
-    let at_value = c.before.before.before.before in
-    let hashed = at_value.before.before.before in
-    let args = (put hashed).before.before.before.args in
-    let none = sized-refuses _ (finished-of-sized Client args.t3 hashed.with-message2.result) refl at_value.finished-of.ensures c.before.enum-told2.given.1 in
-    same_step (answer-refused args.c args.m.now args.t3 (put hashed).put-exchange.ensures.2 (before hashed) none)
+    let args = (put c.before.before.before.before.before.before).args in
+    let none = sized-refuses _ (finished-of-sized Client args.master c.with_message-before.result) refl c.finished_of.ensures c.in-Refused.is in
+    same_step (answer-refused args.c args.m.now args.master (put c.before.before.before.before.before.before).put_exchange-n.ensures.2 (before c.before.before.before.before.before.before) none)
     (refusing c.refused.ensures _)
 
-pub answer-spec : {M : Type 1} → statement M
-answer-spec =
+pub answer_spec : {M : Type 1} → statement M
+answer_spec =
     tie.close
     (tie.spec
     (λ c κs. search rules)

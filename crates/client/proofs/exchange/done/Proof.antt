@@ -5,14 +5,14 @@ use borrow.Author.Rules.{rules}
 use Rattle.client.proofs.exchange.done.Statement.{statement}
 use Rattle.client.proofs.exchange.done.Tie as tie
 
-returns : tie.Need-returns
-returns c = rw (← c.before.before.before.read-done-body.ensures, c.before.enum_told.given.1) c.exchanged.ensures
+returns : tie.Need-returns-in-At
+returns c = rw (← c.read_done_body.ensures, c.in-At.is) c.exchanged.ensures
 
-returns-2 : tie.Need-returns-2
-returns-2 c = rw (← c.before.before.before.read-done-body.ensures, c.before.enum-told2.given.1) (refusing c.refused.ensures _)
+returns-2 : tie.Need-returns-in-Refused
+returns-2 c = rw (← c.read_done_body.ensures, c.in-Refused.is) (refusing c.refused.ensures _)
 
-pub done-spec : {M : Type 1} → statement M
-done-spec =
+pub done_spec : {M : Type 1} → statement M
+done_spec =
     tie.close
     (tie.spec
     (λ c κs. search rules)

@@ -19,12 +19,12 @@ use Rattle.client.proofs.exchange.exchanged.Statement.{statement}
 use Rattle.client.proofs.exchange.exchanged.Tie as tie
 
 -- the key, of a field of 64 bytes
-module _ (c : tie.After-in-field) where
+module _ (c : tie.After-in_field-n) where
   abbrev start : tie.Start
   start = c.before.before.before.before.before.before.before
 
   abbrev size : ℕ
-  size = c.in_field.result
+  size = c.in_field-n.result
 
   abbrev field : List ℕ
   field = start.args.c.setup.key
@@ -33,16 +33,16 @@ module _ (c : tie.After-in-field) where
   whole = search (rules, start.good)
 
   within : size ≤ length field
-  within = omega (arith, c.in_field.ensures.0, whole)
+  within = omega (arith, c.in_field-n.ensures.0, whole)
 
   counted : size ≡ length (take size field)
   counted = sym (length-take-le size field within)
 
   key : take size field ≡ key_of start.args.c.setup
-  key = c.in_field.ensures.1 field whole
+  key = c.in_field-n.ensures.1 field whole
 
 -- what the master secret comes to decides
-decided-by : (c : tie.After-in-field) {o : Outcome} → master_under (take (size c) (field c)) (start c).args.c.setup.random (start c).args.c.server.random ≡ o
+decided-by : (c : tie.After-in_field-n) {o : Outcome} → master_under (take (size c) (field c)) (start c).args.c.setup.random (start c).args.c.server.random ≡ o
     → exchanged (start c).args.c (start c).args.m.now ≡ exchange_with (start c).args.c (start c).args.m.now o
 decided-by c e =
     let conn = (start c).args.c in
@@ -50,40 +50,33 @@ decided-by c e =
     ap (exchange_with conn (start c).args.m.now) (sym under ∙ e)
 
 -- the number is that of the key
-counted-by : (c : tie.After-in-field) →
+counted-by : (c : tie.After-in_field-n) →
     let conn = (start c).args.c in
     master_under_blocks (take (size c) (field c)) conn.setup.random conn.server.random ≡ blocks_under conn
 counted-by c = let conn = (start c).args.c in ap (λ (k : List ℕ). master_under_blocks k conn.setup.random conn.server.random) (key c)
 
-array-share-prefix-key : tie.Need-array-share-prefix-key
+array-share-prefix-key : tie.Need-slice_bounds-key-end
 array-share-prefix-key c = within c
 
-slice-aggregate-master-under : tie.Need-slice-aggregate-master-under
+slice-aggregate-master-under : tie.Need-slice_bounds-master_under-end
 slice-aggregate-master-under c = counted c.before
 
-returns : tie.Need-returns
+returns : tie.Need-returns-in-Wrote
 returns c =
-    let told = c.before in
-    let at-master = told.before.before.before in
-    let at_field = at-master.before.before.before.before.before in
-    let conn = (start at_field).args.c in
-    let sized = master-under-sized (take (size at_field) (field at_field)) conn.setup.random conn.server.random in
-    let wrote = told.enum_told.given.1 in
-    let number : at-master.master-under.result.blocks ≡ blocks_under conn = rw wrote at at-master.master-under.ensures.1 ∙ counted-by at_field in
-    same_step (decided-by at_field (sized-gives _ sized refl at-master.master-under.ensures.0 wrote)) (rw number at c.answer.ensures)
+    let conn = (start c.before.before.before.before.before.before.before.before).args.c in
+    let sized = master-under-sized (take (size c.before.before.before.before.before.before.before.before) (field c.before.before.before.before.before.before.before.before)) conn.setup.random conn.server.random in
+    let number : c.master_under-told.result.blocks ≡ blocks_under conn = rw c.in-Wrote.is at c.master_under-told.ensures.1 ∙ counted-by c.before.before.before.before.before.before.before.before in
+    same_step (decided-by c.before.before.before.before.before.before.before.before (sized-gives _ sized refl c.master_under-told.ensures.0 c.in-Wrote.is)) (rw number at c.answer.ensures)
 
-returns-2 : tie.Need-returns-2
+returns-2 : tie.Need-returns-in-Refused
 returns-2 c =
-    let told = c.before in
-    let at-master = told.before.before.before in
-    let at_field = at-master.before.before.before.before.before in
-    let conn = (start at_field).args.c in
-    let sized = master-under-sized (take (size at_field) (field at_field)) conn.setup.random conn.server.random in
-    same_step (decided-by at_field (sized-refuses _ sized refl at-master.master-under.ensures.0 told.enum-told2.given.1))
+    let conn = (start c.before.before.before.before.before.before.before.before).args.c in
+    let sized = master-under-sized (take (size c.before.before.before.before.before.before.before.before) (field c.before.before.before.before.before.before.before.before)) conn.setup.random conn.server.random in
+    same_step (decided-by c.before.before.before.before.before.before.before.before (sized-refuses _ sized refl c.master_under-told.ensures.0 c.in-Refused.is))
     (refusing c.refused.ensures _)
 
-pub exchanged-spec : {M : Type 1} → statement M
-exchanged-spec =
+pub exchanged_spec : {M : Type 1} → statement M
+exchanged_spec =
     tie.close
     (tie.spec
     (λ c κs. search rules)

@@ -9,10 +9,8 @@ use Rattle.client.proofs.exchange.finished.Tie as tie
 
 returns : tie.Need-returns
 returns c =
-    let at-write = c.before in
-    let start = at-write.before.before.before in
-    let size : length start.args.value.now ≡ 12 = search (rules, start.well-formed) in
-    finished-put start.args.value.now size (search rules) at-write.write-finished.ensures
+    let size : length c.args.value.now ≡ 12 = search (rules, c.well_formed) in
+    finished-put c.args.value.now size (search rules) c.write_finished.ensures
 
-pub finished-spec : {M : Type 1} → statement M
-finished-spec = tie.close (tie.spec (λ c. search rules) (λ c κs. search rules) returns)
+pub finished_spec : {M : Type 1} → statement M
+finished_spec = tie.close (tie.spec (λ c. search rules) (λ c κs. search rules) returns)

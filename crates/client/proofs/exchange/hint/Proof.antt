@@ -4,14 +4,14 @@ use borrow.Author.Rules.{rules}
 use Rattle.client.proofs.exchange.hint.Statement.{statement}
 use Rattle.client.proofs.exchange.hint.Tie as tie
 
-returns : tie.Need-returns
-returns c = rw (← c.before.before.before.before.read-hint-body.ensures, c.before.before.enum_told.given.1, ← c.before.after-hint.ensures) c.silent.ensures
+returns : tie.Need-returns-in-At
+returns c = rw (← c.read_hint_body.ensures, c.in-At.is, ← c.after_hint.ensures) c.silent.ensures
 
-returns-2 : tie.Need-returns-2
-returns-2 c = rw (← c.before.before.before.read-hint-body.ensures, c.before.enum-told2.given.1) c.refused.ensures
+returns-2 : tie.Need-returns-in-Refused
+returns-2 c = rw (← c.read_hint_body.ensures, c.in-Refused.is) c.refused.ensures
 
-pub hint-spec : {M : Type 1} → statement M
-hint-spec =
+pub hint_spec : {M : Type 1} → statement M
+hint_spec =
     tie.close
     (tie.spec
     (λ c κs. search rules)

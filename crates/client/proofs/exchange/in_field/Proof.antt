@@ -7,10 +7,10 @@ use borrow.Author.Rules.{rules}
 use Rattle.client.proofs.exchange.in_field.Statement.{statement}
 use Rattle.client.proofs.exchange.in_field.Tie as tie
 
-returns : tie.Need-returns
+returns : tie.Need-returns-then-size-n
 returns c =
-    let args = c.before.args in
-    (omega arith, λ field h. take_all args.size field (omega arith) ∙ sym (take_all args.count field (omega (arith, c.if1.true))))
+    let args = c.args in
+    (omega arith, λ field h. take_all args.size field (omega arith) ∙ sym (take_all args.count field (omega (arith, c.if-size-n.true))))
 
-pub in-field-spec : {M : Type 1} → statement M
-in-field-spec = tie.close (tie.spec returns (λ c. search rules))
+pub in_field_spec : {M : Type 1} → statement M
+in_field_spec = tie.close (tie.spec returns (λ c. search rules))

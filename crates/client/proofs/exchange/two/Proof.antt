@@ -11,13 +11,11 @@ use Rattle.client.proofs.exchange.two.Tie as tie
 
 returns : tie.Need-returns
 returns c =
-    let put = c.before.two in
-    let start = c.before.before.before.before.before in
-    let first = start.args.first.now in
-    let second = start.args.second.now in
-    let size : length second ≡ 16 = search (rules, start.well-formed) in
-    two-sent first second _ _ (length first) refl start.requires.0 start.requires.1 size
-    (answer-in-front put.ensures (simp length-append (omega (arith, start.requires.1, size))))
+    let first = c.args.first.now in
+    let second = c.args.second.now in
+    let size : length second ≡ 16 = search (rules, c.well_formed) in
+    two-sent first second _ _ (length first) refl c.requires.0 c.requires.1 size
+    (answer-in-front c.two.ensures (simp length-append (omega (arith, c.requires.1, size))))
 
-pub two-spec : {M : Type 1} → statement M
-two-spec = tie.close (tie.spec (λ c. search rules) (λ c κs. search rules) returns)
+pub two_spec : {M : Type 1} → statement M
+two_spec = tie.close (tie.spec (λ c. search rules) (λ c κs. search rules) returns)

@@ -1,5 +1,7 @@
 -- `client::finished::body` meets its contract: the twelve bytes of the body are judged.
 -- Assumes nothing.
+use Rattle.std.specs.Prelude.{not}
+use Rattle.std.proofs.Common.{ap}
 use mathlib.Core.Path.{◌≡◌, sym, ◌∙◌}
 use Prim.Native.Nat.{ℕ}
 use native.Mathlib.Omega.{arith}
@@ -15,47 +17,43 @@ use Rattle.client.proofs.finished.body.Statement.{statement}
 use Rattle.client.proofs.finished.body.Tie as tie
 
 -- where the body has twelve bytes
-module _ (c : tie.After-known-told) where
+module _ (c : tie.In-At) where
   abbrev m : List ℕ
-  m = c.before.before.before.before.before.args.m.now
+  m = c.args.m.now
 
   abbrev from : ℕ
-  from = c.before.start.given.0.0
+  from = c.in-At.start
 
   abbrev size : ℕ
-  size = c.before.start.given.0.1.0
+  size = c.in-At.len
 
   here : filled_by 12 m ≡ At from size
-  here = sym c.before.before.before.read-finished-body.ensures ∙ c.before.start.given.1
+  here = sym c.read_finished_body.ensures ∙ c.in-At.is
 
   there : (length m ≡ 16) × (from ≡ 4) × (size ≡ 12)
   there = filled-there 12 m from size here
 
-add-is-value : tie.Need-overflow-add-is-value
+add-is-value : tie.Need-overflow_add-start
 add-is-value c = let at = there c.before.before in omega arith
 
-part-is-value-end : tie.Need-slice-bounds-is-value-end
+part-is-value-end : tie.Need-slice_bounds-is_value-end
 part-is-value-end c = let at = there c.before.before in omega arith
 
-returns : tie.Need-returns
+returns : tie.Need-returns-then-not-is_value
 returns c =
-    let judged = c.before.before in
-    let at = here judged.before.before.before.before.before in
-    let verdict = judged.is-value in
-    rw (at, ← (rw add-sub_cancel_left at verdict.ensures), not-true verdict.result c.before.if1.true) c.refused.ensures
+    let at = here c.before.before.before.before.before.before.before.before in
+    rw (at, ← (rw add-sub_cancel_left at c.is_value.ensures), not-true c.is_value.result (ap not c.if-not-is_value.true)) c.refused.ensures
 
-returns-2 : tie.Need-returns-2
+returns-2 : tie.Need-returns-else-not-is_value
 returns-2 c =
-    let judged = c.before.before.before in
-    let at = here judged.before.before.before.before.before in
-    let verdict = judged.is-value in
-    rw (at, ← (rw add-sub_cancel_left at verdict.ensures), not-false verdict.result c.before.before.if1.false, ← c.before.ended.ensures) c.silent.ensures
+    let at = here c.before.before.before.before.before.before.before.before.before in
+    rw (at, ← (rw add-sub_cancel_left at c.is_value.ensures), not-false c.is_value.result (ap not c.if-not-is_value.false), ← c.ended.ensures) c.silent.ensures
 
-returns-3 : tie.Need-returns-3
-returns-3 c = rw (← c.before.before.before.read-finished-body.ensures, c.before.enum_told.given.1) c.refused2.ensures
+returns-3 : tie.Need-returns-in-Refused
+returns-3 c = rw (← c.read_finished_body.ensures, c.in-Refused.is) c.refused-in-Refused.ensures
 
-pub body-spec : {M : Type 1} → statement M
-body-spec =
+pub body_spec : {M : Type 1} → statement M
+body_spec =
     tie.close
     (tie.spec
     (λ c κs. search rules)

@@ -5,10 +5,10 @@ use Rattle.client.proofs.hello.after_hello.Statement.{statement}
 use Rattle.client.proofs.hello.after_hello.Tie as tie
 
 returns : tie.Need-returns
-returns c = rw (c.with-message.ensures, c.before.before.bytes32.ensures)
+returns c = rw (c.with_message-transcript.ensures, c.bytes32-random.ensures)
 
-pub after-hello-spec : {M : Type 1} → statement M
-after-hello-spec =
+pub after_hello_spec : {M : Type 1} → statement M
+after_hello_spec =
     tie.close
     (tie.spec
     (λ c. search rules)

@@ -22,26 +22,24 @@ use Rattle.client.proofs.hello.body.Statement.{statement}
 use Rattle.client.proofs.hello.body.Tie as tie
 
 -- the entry, seen from where the fields are known
-abbrev entry : tie.After-known-told → tie.Start
-entry c = c.before.before.before.before.before
+abbrev entry : tie.In-Read → tie.Start
+entry c = c.before.before.before
 
-found : (c : tie.After-known-told) →
-    let g = c.before.version.given.0 in
-    server_body (entry c).args.m.now ≡ Read g.0 g.1.0 g.1.1.0 g.1.1.1.0 g.1.1.1.1.0
-found c = sym c.before.before.before.read-body.ensures ∙ c.before.version.given.1
+found : (c : tie.In-Read) →
+    server_body (entry c).args.m.now ≡ Read c.in-Read.version c.in-Read.session_len c.in-Read.suite c.in-Read.compression c.in-Read.block
+found c = sym c.read_body.ensures ∙ c.in-Read.is
 
-inside : (c : tie.After-known-told) → Inside (entry c).args.m.now c.before.version.given.0.1.1.1.1.0
+inside : (c : tie.In-Read) → Inside (entry c).args.m.now c.in-Read.block
 inside c = hello-inside (entry c).args.m.now _ _ _ _ _ (found c)
 
 -- the step of the fields that were found
-abbrev fields_step : tie.After-known-told → Step
+abbrev fields_step : tie.In-Read → Step
 fields_step c =
     let a = (entry c).args in
     let m = a.m.now in
-    let g = c.before.version.given.0 in
-    hello_step a.c m (server_fields m (Read g.0 g.1.0 g.1.1.0 g.1.1.1.0 g.1.1.1.1.0))
+    hello_step a.c m (server_fields m (Read c.in-Read.version c.in-Read.session_len c.in-Read.suite c.in-Read.compression c.in-Read.block))
 
-read : (c : tie.After-known-told) →
+read : (c : tie.In-Read) →
     let a = (entry c).args in
     fields_step c ≡ hello_step a.c a.m.now (server_fields a.m.now (server_body a.m.now))
 read c =
@@ -49,74 +47,64 @@ read c =
     ap (λ (f : Server). hello_step a.c a.m.now (server_fields a.m.now f)) (sym (found c))
 
 -- the suite was offered
-ours : (c : tie.Else1) → among suites c.before.before.before.version.given.0.1.1.0 ≡ true
-ours c = sym c.before.offered.ensures ∙ not-false c.before.offered.result c.if1.false
+ours : (c : tie.Else-not-offered) → among suites c.in-Read.suite ≡ true
+ours c = sym c.offered.ensures ∙ not-false c.offered.result (ap not c.if-not-offered.false)
 
 -- the compression is null, and the block is as its length says
-module _ (c : tie.After-no-extension) where
-  abbrev at-else : tie.Else1
+module _ (c : tie.After-no_extension) where
+  abbrev at-else : tie.Else-not-offered
   at-else = c.before.before.before
 
-  abbrev known : tie.After-known-told
+  abbrev known : tie.In-Read
   known = at-else.before.before
 
   -- what is left to decide: whether there is an extension
   abbrev by_block : Bool → Step
   by_block bare =
       let a = (entry known).args in
-      cond (not bare) (refuse UnsupportedExtension) (accept silence (after_hello_with a.c a.m.now known.before.version.given.0.1.1.0))
+      cond (not bare) (refuse UnsupportedExtension) (accept silence (after_hello_with a.c a.m.now known.in-Read.suite))
 
-  tests-passed : {b : Bool} → c.no-extension.result ≡ b →
+  tests-passed : {b : Bool} → c.no_extension.result ≡ b →
       let a = (entry known).args in
       hello_step a.c a.m.now (server_fields a.m.now (server_body a.m.now)) ≡ by_block b
   tests-passed e =
-      let g = known.before.version.given.0 in
-      let so_far : fields_step known ≡ by_block c.no-extension.result =
-      rw (ours at-else, eq-eqb g.0 0x0303 c.before.before.if2.false, eq-eqb g.1.1.1.0 0 c.before.if3.false, (inside known).bareness, ← c.no-extension.ensures) in
+      let so_far : fields_step known ≡ by_block c.no_extension.result =
+      rw (ours at-else, eq-eqb known.in-Read.version 0x0303 c.if-version-ne-VERSION.false, eq-eqb known.in-Read.compression 0 c.if-compression-ne0.false, (inside known).bareness, ← c.no_extension.ensures) in
       sym (read known) ∙ so_far ∙ ap by_block e
 
-returns : tie.Need-returns
+returns : tie.Need-returns-then-not-offered
 returns c =
-    let test = c.before.before in
-    let other = sym test.offered.ensures ∙ not-true test.offered.result c.before.if1.true in
-    rw (← read test.before, other) c.refused.ensures
+    let other = sym c.offered.ensures ∙ not-true c.offered.result (ap not c.if-not-offered.true) in
+    rw (← read c.before.before.before, other) c.refused.ensures
 
-returns-2 : tie.Need-returns-2
+returns-2 : tie.Need-returns-then-version-ne-VERSION
 returns-2 c =
-    let at-else = c.before.before.before in
-    let known = at-else.before.before in
-    let version = known.before.version.given.0.0 in
-    rw (← read known, ours at-else, ne_eqb version 0x0303 c.before.before.if2.true, ← c.before.other-version.ensures) c.refused2.ensures
+    rw (← read c.before.before.before.before.before, ours c.before.before.before, ne_eqb c.in-Read.version 0x0303 c.if-version-ne-VERSION.true, ← c.other_version.ensures) c.refused-then-version-ne-VERSION.ensures
 
-returns-3 : tie.Need-returns-3
+returns-3 : tie.Need-returns-then-compression-ne0
 returns-3 c =
-    let at-else = c.before.before.before in
-    let known = at-else.before.before in
-    let g = known.before.version.given.0 in
-    rw (← read known, ours at-else, eq-eqb g.0 0x0303 c.before.before.if2.false, ne_eqb g.1.1.1.0 0 c.before.if3.true) c.refused3.ensures
+    rw (← read c.before.before.before.before.before, ours c.before.before.before, eq-eqb c.in-Read.version 0x0303 c.if-version-ne-VERSION.false, ne_eqb c.in-Read.compression 0 c.if-compression-ne0.true) c.refused-then-compression-ne0.ensures
 
-returns-4 : tie.Need-returns-4
+returns-4 : tie.Need-returns-then-not-no_extension
 returns-4 c =
-    let test = c.before.before in
-    same_step (tests-passed test (not-true test.no-extension.result c.before.if4.true)) c.refused4.ensures
+    same_step (tests-passed c.before.before (not-true c.no_extension.result (ap not c.if-not-no_extension.true))) c.refused-then-not-no_extension.ensures
 
-cast-after-hello : tie.Need-overflow-cast-after-hello
-cast-after-hello c = omega (arith, among-small (known c.before).before.version.given.0.1.1.0 (ours (at-else c.before)))
+cast-after-hello : tie.Need-overflow_cast-suite
+cast-after-hello c = omega (arith, among-small (known c.before).in-Read.suite (ours (at-else c.before)))
 
-after-hello-requires : tie.Need-after-hello-requires
+after-hello-requires : tie.Need-after_hello-requires
 after-hello-requires c κs = omega (arith, (inside (known c.before)).room)
 
-returns-5 : tie.Need-returns-5
+returns-5 : tie.Need-returns-else-not-no_extension
 returns-5 c =
-    let test = c.before.before.before in
-    same_step (tests-passed test (not-false test.no-extension.result c.before.before.if4.false))
-    (rw c.before.after-hello.ensures at c.silent.ensures)
+    same_step (tests-passed c.before.before.before (not-false c.no_extension.result (ap not c.if-not-no_extension.false)))
+    (rw c.after_hello.ensures at c.silent.ensures)
 
-returns-6 : tie.Need-returns-6
-returns-6 c = rw (← c.before.before.before.read-body.ensures, c.before.enum_told.given.1) c.refused5.ensures
+returns-6 : tie.Need-returns-in-Refused
+returns-6 c = rw (← c.read_body.ensures, c.in-Refused.is) c.refused-in-Refused.ensures
 
-pub body-spec : {M : Type 1} → statement M
-body-spec =
+pub body_spec : {M : Type 1} → statement M
+body_spec =
     tie.close
     (tie.spec
     (λ c κs. search rules)

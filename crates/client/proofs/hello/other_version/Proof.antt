@@ -4,11 +4,11 @@ use borrow.Author.Tests.{ne_eqb}
 use Rattle.client.proofs.hello.other_version.Statement.{statement}
 use Rattle.client.proofs.hello.other_version.Tie as tie
 
-returns : tie.Need-returns
-returns c = rw c.if1.true
+returns : tie.Need-returns-then-suite-eq140
+returns c = rw c.if-suite-eq140.true
 
-returns-2 : tie.Need-returns-2
-returns-2 c = rw (ne_eqb c.before.args.suite 0x008c c.if1.false)
+returns-2 : tie.Need-returns
+returns-2 c = rw (ne_eqb c.args.suite 0x008c c.if-suite-eq140.false)
 
-pub other-version-spec : {M : Type 1} → statement M
-other-version-spec = tie.close (tie.spec returns returns-2)
+pub other_version_spec : {M : Type 1} → statement M
+other_version_spec = tie.close (tie.spec returns returns-2)

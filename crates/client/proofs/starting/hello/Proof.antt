@@ -8,13 +8,11 @@ use Rattle.client.proofs.starting.hello.Tie as tie
 
 returns : tie.Need-returns
 returns c =
-    let at-write = c.before in
-    let start = at-write.before.before.before.before.before.before in
-    let random = start.args.random.now in
-    answer-fills (rw (hello-valid random start.requires) at at-write.write.ensures) (hello-length random start.requires)
+    let random = c.args.random.now in
+    answer-fills (rw (hello-valid random c.requires) at c.write.ensures) (hello-length random c.requires)
 
-pub hello-spec : {M : Type 1} → statement M
-hello-spec =
+pub hello_spec : {M : Type 1} → statement M
+hello_spec =
     tie.close
     (tie.spec
     (λ c. search rules)

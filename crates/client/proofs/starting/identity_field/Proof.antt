@@ -10,8 +10,8 @@ use Rattle.client.proofs.starting.identity_field.Tie as tie
 
 returns : tie.Need-returns
 returns c =
-    let identity = c.before.before.before.before.args.identity.now in
-    c.before.copy.ensures.1 ∙ rw (take-length identity, drop-replicate 128 (length identity) 0)
+    let identity = c.args.identity.now in
+    c.copy.ensures.1 ∙ rw (take-length identity, drop-replicate 128 (length identity) 0)
 
-pub identity-field-spec : {M : Type 1} → statement M
-identity-field-spec = tie.close (tie.spec (λ c. search rules) (λ c κs. search rules) returns)
+pub identity_field_spec : {M : Type 1} → statement M
+identity_field_spec = tie.close (tie.spec (λ c. search rules) (λ c κs. search rules) returns)

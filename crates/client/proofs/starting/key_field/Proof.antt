@@ -10,8 +10,8 @@ use Rattle.client.proofs.starting.key_field.Tie as tie
 
 returns : tie.Need-returns
 returns c =
-    let key = c.before.before.before.before.args.key.now in
-    c.before.copy.ensures.1 ∙ rw (take-length key, drop-replicate 64 (length key) 0)
+    let key = c.args.key.now in
+    c.copy.ensures.1 ∙ rw (take-length key, drop-replicate 64 (length key) 0)
 
-pub key-field-spec : {M : Type 1} → statement M
-key-field-spec = tie.close (tie.spec (λ c. search rules) (λ c κs. search rules) returns)
+pub key_field_spec : {M : Type 1} → statement M
+key_field_spec = tie.close (tie.spec (λ c. search rules) (λ c κs. search rules) returns)

@@ -5,9 +5,9 @@ use Rattle.client.proofs.starting.setup.Statement.{statement}
 use Rattle.client.proofs.starting.setup.Tie as tie
 
 returns : tie.Need-returns
-returns c = rw (c.bytes32.ensures, c.before.key-field.ensures, c.before.before.identity-field.ensures)
+returns c = rw (c.bytes32-own.ensures, c.key_field-secret.ensures, c.identity_field-named.ensures)
 
-pub setup-spec : {M : Type 1} → statement M
-setup-spec =
+pub setup_spec : {M : Type 1} → statement M
+setup_spec =
     tie.close
     (tie.spec (λ c κs. search rules) (λ c κs. search rules) (λ c κs. search rules) (λ c. search rules) (λ c. search rules) returns)

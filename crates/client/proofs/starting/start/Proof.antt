@@ -1,5 +1,6 @@
 -- `client::starting::start` meets its contract: R3, then the room, and then the connection.
 -- Assumes nothing.
+use Rattle.std.specs.Prelude.{not}
 use mathlib.Core.Path.{◌≡◌, sym, ap, ◌∙◌}
 use mathlib.Core.Bool.{true}
 use Prim.Native.Nat.{ℕ}
@@ -18,62 +19,58 @@ use Rattle.client.proofs.starting.start.Tie as tie
 -- what start was given, seen from the first test
 abbrev given : tie.After-acceptable → Settings
 given c =
-    let args = c.before.before.before.before.before.args in
+    let args = c.args in
     record { random = args.random.now; identity = args.identity.now; key = args.key.now }
 
 -- the settings are those of a connection
-fine : (c : tie.Else1) → acceptable (given c.before) ≡ true
-fine c = sym c.before.acceptable.ensures ∙ not-false c.before.acceptable.result c.if1.false
+fine : (c : tie.Else-not-acceptable) → acceptable (given c.before) ≡ true
+fine c = sym c.acceptable.ensures ∙ not-false c.acceptable.result (ap not c.if-not-acceptable.false)
 
 -- what the hello that was put comes to, by what was said
-module _ (c : tie.After-put) where
-  abbrev at-else : tie.Else1
+module _ (c : tie.After-put-said) where
+  abbrev at-else : tie.Else-not-acceptable
   at-else = c.before.before.before.before
 
-  put : Answers (gives (hello (given at-else.before).random)) at-else.before.before.before.before.before.before.args.out.now c.put.result c.put.new.1.0
-  put = rw (← c.before.before.before.hello.ensures) c.put.ensures
+  put : Answers (gives (hello (given at-else.before).random)) at-else.args.out.now c.put-said.result c.put-said.new.out
+  put = rw (← c.hello-hello.ensures) c.put-said.ensures
 
-  sent : {n : ℕ} → c.put.result ≡ Wrote n
-      → start_call (given at-else.before) at-else.before.before.before.before.before.before.args.out.now
-      ≡ record { said = c.put.result; out = c.put.new.1.0; next = started (given at-else.before) }
+  sent : {n : ℕ} → c.put-said.result ≡ Wrote n
+      → start_call (given at-else.before) at-else.args.out.now
+      ≡ record { said = c.put-said.result; out = c.put-said.new.out; next = started (given at-else.before) }
   sent = hello-sent (given at-else.before) (fine at-else) put
 
-  short : {r : Refusal} → c.put.result ≡ Refused r
-      → start_call (given at-else.before) at-else.before.before.before.before.before.before.args.out.now
-      ≡ record { said = c.put.result; out = c.put.new.1.0; next = ended Phase.Closed }
+  short : {r : Refusal} → c.put-said.result ≡ Refused r
+      → start_call (given at-else.before) at-else.args.out.now
+      ≡ record { said = c.put-said.result; out = c.put-said.new.out; next = ended Phase.Closed }
   short = hello-short (given at-else.before) (fine at-else) put
 
-returns : tie.Need-returns
+returns : tie.Need-returns-then-not-acceptable
 returns c =
-    let test = c.before.before in
-    let all = not-started (given test) (sym test.acceptable.ensures ∙ not-true test.acceptable.result c.before.if1.true) in
-    (rw c.ended.ensures (sym (ap answered all)), sym (ap (λ (s : Settled). s.out) all))
+    let all = not-started (given c.before.before) (sym c.acceptable.ensures ∙ not-true c.acceptable.result (ap not c.if-not-acceptable.true)) in
+    (rw c.ended-next.ensures (sym (ap answered all)), sym (ap (λ (s : Settled). s.out) all))
 
-hello-requires : tie.Need-hello-requires
+hello-requires : tie.Need-hello-hello-requires
 hello-requires c κs = (allowed (given c.before) (fine c)).random
 
 setup-requires : tie.Need-setup-requires
 setup-requires c κs =
-    let at-else = c.before.before.before.before.before.before.before.before in
-    let ok = allowed (given at-else.before) (fine at-else) in
+    let ok = allowed (given c.before.before.before.before.before.before.before.before) (fine c.before.before.before.before.before.before.before) in
     (ok.random, (ok.identity, ok.few))
 
-started-requires : tie.Need-started-requires
+started-requires : tie.Need-started-next-requires
 started-requires c κs =
-    rw c.before.setup.ensures c.before.before.before.before.before.before.before.before.before.hello.ensures
+    rw c.setup.ensures c.hello-hello.ensures
 
-returns-2 : tie.Need-returns-2
+returns-2 : tie.Need-returns-in-Wrote
 unfolding started
 returns-2 c =
-    let at-put = c.before.before.before.before.before.before.before in
-    let all = sent (at-put) c.before.before.before.enum_told.given.1 in
-    (rw (c.started.ensures, c.before.before.setup.ensures) (sym (ap answered all)), sym (ap (λ (s : Settled). s.out) all))
+    let all = sent (c) c.in-Wrote.is in
+    (rw (c.started-next.ensures, c.setup.ensures) (sym (ap answered all)), sym (ap (λ (s : Settled). s.out) all))
 
-returns-3 : tie.Need-returns-3
+returns-3 : tie.Need-returns-in-Refused
 returns-3 c =
-    let at-put = c.before.before.before.before.before in
-    let all = short at-put c.before.enum-told2.given.1 in
-    (rw c.ended2.ensures (sym (ap answered all)), sym (ap (λ (s : Settled). s.out) all))
+    let all = short c.before.before.before.before c.in-Refused.is in
+    (rw c.ended-next-in-Refused.ensures (sym (ap answered all)), sym (ap (λ (s : Settled). s.out) all))
 
 pub start_spec : {M : Type 1} → statement M
 start_spec =

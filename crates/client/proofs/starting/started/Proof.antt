@@ -6,9 +6,8 @@ use Rattle.client.proofs.starting.started.Tie as tie
 
 returns : tie.Need-returns
 returns c =
-    let start = c.before.before.before.before in
-    rw (c.with-message.ensures, c.before.before.new.ensures, c.before.before.before.nothing_said.ensures, start.requires)
+    rw (c.with_message-transcript.ensures, c.new.ensures, c.nothing_said-server.ensures, c.requires)
 
-pub started-spec : {M : Type 1} → statement M
-started-spec =
+pub started_spec : {M : Type 1} → statement M
+started_spec =
     tie.close (tie.spec (λ c κs. search rules) (λ c κs. search rules) (λ c κs. search rules) returns)

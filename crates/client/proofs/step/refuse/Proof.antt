@@ -7,15 +7,15 @@ use borrow.Author.Rules.{rules}
 use Rattle.client.proofs.step.refuse.Statement.{statement}
 use Rattle.client.proofs.step.refuse.Tie as tie
 
-returns : tie.Need-returns
+returns : tie.Need-returns-then-for_peer
 returns c =
-    let args = c.before.before.before.args in
-    rw (alerts-close (ended Phase.Closed) args.r args.c, ← c.before.before.for-peer.ensures, c.before.if1.true, c.ended.ensures)
+    let args = c.args in
+    rw (alerts-close (ended Phase.Closed) args.r args.c, ← c.for_peer.ensures, c.if-for_peer.true, c.ended-next.ensures)
 
-returns-2 : tie.Need-returns-2
+returns-2 : tie.Need-returns
 returns-2 c =
-    let args = c.before.before.args in
-    rw (alerts-close (ended Phase.Closed) args.r args.c, ← c.before.for-peer.ensures, c.if1.false)
+    let args = c.args in
+    rw (alerts-close (ended Phase.Closed) args.r args.c, ← c.for_peer.ensures, c.if-for_peer.false)
 
-pub refuse-spec : {M : Type 1} → statement M
-refuse-spec = tie.close (tie.spec (λ c κs. search rules) (λ c κs. search rules) returns returns-2)
+pub refuse_spec : {M : Type 1} → statement M
+refuse_spec = tie.close (tie.spec (λ c κs. search rules) (λ c κs. search rules) returns returns-2)

@@ -11,25 +11,23 @@ use Rattle.client.proofs.step.send.Statement.{statement}
 use Rattle.client.proofs.step.send.Tie as tie
 
 -- the entry, seen from where the flight was put
-abbrev entry : tie.After-send → tie.Start
+abbrev entry : tie.After-send-said → tie.Start
 entry c = c.before.before.before
 
 few : (c : tie.Start) → length (flight_bytes (flight_of c.args.outgoing)) ≤ longest
-few c = flight-most c.args.outgoing (search (rules, c.well-formed))
+few c = flight-most c.args.outgoing (search (rules, c.well_formed))
 
-returns : tie.Need-returns
+returns : tie.Need-returns-in-Wrote
 returns c =
-    let at-send = c.before.before.before.before in
-    let start = entry at-send in
-    sent start.args.c start.args.next (flight_of start.args.outgoing) (few start) at-send.send.ensures c.enum_told.given.1
+    let start = entry c.before.before.before in
+    sent start.args.c start.args.next (flight_of start.args.outgoing) (few start) c.send-said.ensures c.in-Wrote.is
 
-returns-2 : tie.Need-returns-2
+returns-2 : tie.Need-returns-in-Refused
 returns-2 c =
-    let at-send = c.before.before.before.before in
-    let start = entry at-send in
-    not-sent start.args.c start.args.next (flight_of start.args.outgoing) (few start) at-send.send.ensures c.enum-told2.given.1
+    let start = entry c.before.before.before in
+    not-sent start.args.c start.args.next (flight_of start.args.outgoing) (few start) c.send-said.ensures c.in-Refused.is
 
-pub send-spec : {M : Type 1} → statement M
-send-spec =
+pub send_spec : {M : Type 1} → statement M
+send_spec =
     tie.close
     (tie.spec (λ c κs. search rules) (λ c. search rules) (λ c. search rules) (λ c. search rules) returns (λ c. search rules) returns-2)

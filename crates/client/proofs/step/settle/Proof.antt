@@ -8,20 +8,18 @@ use borrow.Author.Rules.{rules}
 use Rattle.client.proofs.step.settle.Statement.{statement}
 use Rattle.client.proofs.step.settle.Tie as tie
 
-returns : tie.Need-returns
+returns : tie.Need-returns-in-Accepted
 returns c =
-    let told = c.before.before.before.before.before.before in
-    let d = told.before.before.before.args.d in
-    same-does (ap (λ (v : Verdict). decided_by v d) told.enum_told.given.1) c.before.before.send.ensures
+    let d = c.args.d in
+    same-does (ap (λ (v : Verdict). decided_by v d) c.in-Accepted.is) c.send.ensures
 
-returns-2 : tie.Need-returns-2
+returns-2 : tie.Need-returns-in-Refused
 returns-2 c =
-    let told = c.before.before in
-    let args = told.before.before.before.args in
-    same-does (ap (λ (v : Verdict). decided_by v args.d) told.verdict.given.1) (refused-does args.c args.out.now _ c.refuse.ensures)
+    let args = c.args in
+    same-does (ap (λ (v : Verdict). decided_by v args.d) c.in-Refused.is) (refused-does args.c args.out.now _ c.refuse.ensures)
 
-pub settle-spec : {M : Type 1} → statement M
-settle-spec =
+pub settle_spec : {M : Type 1} → statement M
+settle_spec =
     tie.close
     (tie.spec
     (λ c. search rules)

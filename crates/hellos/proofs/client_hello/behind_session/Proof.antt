@@ -9,21 +9,21 @@ use Rattle.layout.proofs.Places.{ruled-inside}
 use Rattle.hellos.proofs.client_hello.behind_session.Statement.{statement}
 use Rattle.hellos.proofs.client_hello.behind_session.Tie as tie
 
-behind-suites-requires : tie.Need-behind-suites-requires
+behind-suites-requires : tie.Need-behind_suites-requires
 behind-suites-requires c κs =
-    let a = c.before.before.before.before.before.args in
-    let found = sym c.before.before.before.suites.ensures ∙ c.before.suites-start.given.1 in
+    let a = c.args in
+    let found = sym c.suites.ensures ∙ c.in-At.is in
     let i = ruled-inside suites_length 2 a.message.now (a.start + a.session-len) _ _ found in
     (omega arith, i.1)
 
-returns : tie.Need-returns
-returns c = rw (← c.before.before.before.before.suites.ensures, c.before.before.suites-start.given.1) c.behind-suites.ensures
+returns : tie.Need-returns-in-At
+returns c = rw (← c.suites.ensures, c.in-At.is) c.behind_suites.ensures
 
-returns-2 : tie.Need-returns-2
-returns-2 c = rw (← c.before.before.suites.ensures, c.enum_told.given.1)
+returns-2 : tie.Need-returns-in-Refused
+returns-2 c = rw (← c.suites.ensures, c.in-Refused.is)
 
-pub behind-session-spec : {M : Type 1} → statement M
-behind-session-spec =
+pub behind_session_spec : {M : Type 1} → statement M
+behind_session_spec =
     tie.close
     (tie.spec
     (λ c. search rules)

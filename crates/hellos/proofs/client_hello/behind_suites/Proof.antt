@@ -12,40 +12,36 @@ use Rattle.hellos.proofs.client_hello.behind_suites.Statement.{statement}
 use Rattle.hellos.proofs.client_hello.behind_suites.Tie as tie
 
 -- where the compression methods stand
-inside : (c : tie.After-known-told) →
-    let a = c.before.before.before.before.before.args in
-    let g = c.before.start.given.0 in
-    (g.0 ≡ a.suites-start + a.suites-len + 1) × (g.0 + g.1.0 ≤ length a.message.now)
+inside : (c : tie.In-At) →
+    let a = c.args in
+    (c.in-At.start ≡ a.suites-start + a.suites-len + 1) × (c.in-At.start + c.in-At.len ≤ length a.message.now)
 inside c =
-    let m = c.before.before.before.before.before.args.message.now in
-    ruled-inside methods_length 1 m _ _ _ (sym c.before.before.before.methods.ensures ∙ c.before.start.given.1)
+    let m = c.args.message.now in
+    ruled-inside methods_length 1 m _ _ _ (sym c.methods.ensures ∙ c.in-At.is)
 
-add-tail : tie.Need-overflow-add-tail
+add-tail : tie.Need-overflow_add-start
 add-tail c = record { fits = omega (arith, inside c) }
 
-returns : tie.Need-returns
+returns : tie.Need-returns-in-Found
 returns c =
-    let known = c.before.before.before.before.before.before.before in
-    let found = known.before in
     rw (
-      ← found.before.before.methods.ensures,
-      found.start.given.1,
-      ← c.before.before.before.before.before.before.tail.ensures,
-      c.before.before.before.before.block.given.1,
-      stated-window 2 4 known.before.before.before.before.before.args.message.now (omega (arith, inside known)),
-      ← c.number16.ensures,
+      ← c.methods.ensures,
+      c.in-At.is,
+      ← c.tail.ensures,
+      c.in-Found.is,
+      stated-window 2 4 c.args.message.now (omega (arith, inside c.before.before.before.before.before)),
+      ← c.number16-version.ensures,
     )
 
-returns-2 : tie.Need-returns-2
+returns-2 : tie.Need-returns-in-Refused-tail
 returns-2 c =
-    let found = c.before.before.before.before in
-    rw (← found.before.before.methods.ensures, found.start.given.1, ← c.before.before.tail.ensures, c.enum_told.given.1)
+    rw (← c.methods.ensures, c.in-At.is, ← c.tail.ensures, c.in-Refused-tail.is)
 
-returns-3 : tie.Need-returns-3
-returns-3 c = rw (← c.before.before.methods.ensures, c.enum-told2.given.1)
+returns-3 : tie.Need-returns-in-Refused
+returns-3 c = rw (← c.methods.ensures, c.in-Refused.is)
 
-pub behind-suites-spec : {M : Type 1} → statement M
-behind-suites-spec =
+pub behind_suites_spec : {M : Type 1} → statement M
+behind_suites_spec =
     tie.close
     (tie.spec
     (λ c. search rules)

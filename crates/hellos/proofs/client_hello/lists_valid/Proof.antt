@@ -7,30 +7,30 @@ use lib.ListN.{length}
 use Rattle.hellos.proofs.client_hello.lists_valid.Statement.{statement}
 use Rattle.hellos.proofs.client_hello.lists_valid.Tie as tie
 
-returns : tie.Need-returns
-returns c = rw (le-ltb (length c.before.args.suites.now) 65536 (omega arith))
+returns : tie.Need-returns-then-suites-gt65535
+returns c = rw (le-ltb (length c.args.suites.now) 65536 (omega arith))
 
-returns-2 : tie.Need-returns-2
+returns-2 : tie.Need-returns-then-suites-lt2
 returns-2 c =
-    let n = length c.before.before.args.suites.now in
-    rw (lt-ltb n 65536 (omega arith), lt-leb 2 n c.if2.true)
+    let n = length c.args.suites.now in
+    rw (lt-ltb n 65536 (omega arith), lt-leb 2 n c.if-suites-lt2.true)
 
-returns-3 : tie.Need-returns-3
+returns-3 : tie.Need-returns-then-suites-ne0
 returns-3 c =
-    let n = length c.before.before.before.args.suites.now in
-    rw (lt-ltb n 65536 (omega arith), le-leb 2 n c.before.if2.false, ne_eqb (n % 2) 0 c.if3.true)
+    let n = length c.args.suites.now in
+    rw (lt-ltb n 65536 (omega arith), le-leb 2 n c.if-suites-lt2.false, ne_eqb (n % 2) 0 c.if-suites-ne0.true)
 
-returns-4 : tie.Need-returns-4
+returns-4 : tie.Need-returns-then-methods-gt255
 returns-4 c =
-    let n = length c.before.before.before.before.args.suites.now in
-    let k = length c.before.before.before.before.args.methods.now in
-    rw (lt-ltb n 65536 (omega arith), le-leb 2 n c.before.before.if2.false, eq-eqb (n % 2) 0 c.before.if3.false, le-ltb k 256 (omega arith))
+    let n = length c.args.suites.now in
+    let k = length c.args.methods.now in
+    rw (lt-ltb n 65536 (omega arith), le-leb 2 n c.if-suites-lt2.false, eq-eqb (n % 2) 0 c.if-suites-ne0.false, le-ltb k 256 (omega arith))
 
-returns-5 : tie.Need-returns-5
+returns-5 : tie.Need-returns
 returns-5 c =
-    let n = length c.before.before.before.before.args.suites.now in
-    let k = length c.before.before.before.before.args.methods.now in
-    rw (lt-ltb n 65536 (omega arith), le-leb 2 n c.before.before.if2.false, eq-eqb (n % 2) 0 c.before.if3.false, lt-ltb k 256 (omega arith))
+    let n = length c.args.suites.now in
+    let k = length c.args.methods.now in
+    rw (lt-ltb n 65536 (omega arith), le-leb 2 n c.if-suites-lt2.false, eq-eqb (n % 2) 0 c.if-suites-ne0.false, lt-ltb k 256 (omega arith))
 
-pub lists-valid-spec : {M : Type 1} → statement M
-lists-valid-spec = tie.close (tie.spec returns returns-2 returns-3 returns-4 returns-5)
+pub lists_valid_spec : {M : Type 1} → statement M
+lists_valid_spec = tie.close (tie.spec returns returns-2 returns-3 returns-4 returns-5)

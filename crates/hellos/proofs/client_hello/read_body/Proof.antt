@@ -7,19 +7,19 @@ use Rattle.layout.proofs.Places.{ruled-inside}
 use Rattle.hellos.proofs.client_hello.read_body.Statement.{statement}
 use Rattle.hellos.proofs.client_hello.read_body.Tie as tie
 
-behind-session-requires : tie.Need-behind-session-requires
+behind-session-requires : tie.Need-behind_session-requires
 behind-session-requires c κs =
-    let m = c.before.before.before.before.before.args.message.now in
-    ruled-inside (λ n. leb n 32) 1 m 38 _ _ (sym c.before.before.before.session-id.ensures ∙ c.before.start.given.1)
+    let m = c.args.message.now in
+    ruled-inside (λ n. leb n 32) 1 m 38 _ _ (sym c.session_id.ensures ∙ c.in-At.is)
 
-returns : tie.Need-returns
-returns c = rw (← c.before.before.before.before.session-id.ensures, c.before.before.start.given.1) c.behind-session.ensures
+returns : tie.Need-returns-in-At
+returns c = rw (← c.session_id.ensures, c.in-At.is) c.behind_session.ensures
 
-returns-2 : tie.Need-returns-2
-returns-2 c = rw (← c.before.before.session-id.ensures, c.enum_told.given.1)
+returns-2 : tie.Need-returns-in-Refused
+returns-2 c = rw (← c.session_id.ensures, c.in-Refused.is)
 
-pub read-body-spec : {M : Type 1} → statement M
-read-body-spec =
+pub read_body_spec : {M : Type 1} → statement M
+read_body_spec =
     tie.close
     (tie.spec
     (λ c κs. search rules)

@@ -6,27 +6,22 @@ use Prim.Native.Nat.{◌%◌}
 use Rattle.hellos.proofs.client_hello.suites.Statement.{statement}
 use Rattle.hellos.proofs.client_hello.suites.Tie as tie
 
-returns : tie.Need-returns
+returns : tie.Need-returns-then-len-lt2
 returns c =
-    let found = c.before.before in
-    rw (← found.before.before.part16.ensures, found.start.given.1, lt-leb 2 found.start.given.0.1.0 c.if1.true)
+    rw (← c.part16.ensures, c.in-At.is, lt-leb 2 c.in-At.len c.if-len-lt2.true)
 
-returns-2 : tie.Need-returns-2
+returns-2 : tie.Need-returns-then-len-ne0
 returns-2 c =
-    let found = c.before.before.before in
-    let n = found.start.given.0.1.0 in
-    rw (← found.before.before.part16.ensures, found.start.given.1, le-leb 2 n c.before.if1.false, ne_eqb (n % 2) 0 c.if2.true)
+    rw (← c.part16.ensures, c.in-At.is, le-leb 2 c.in-At.len c.if-len-lt2.false, ne_eqb (c.in-At.len % 2) 0 c.if-len-ne0.true)
 
-returns-3 : tie.Need-returns-3
+returns-3 : tie.Need-returns-else-len-ne0
 returns-3 c =
-    let found = c.before.before.before in
-    let n = found.start.given.0.1.0 in
-    rw (← found.before.before.part16.ensures, found.start.given.1, le-leb 2 n c.before.if1.false, eq-eqb (n % 2) 0 c.if2.false)
+    rw (← c.part16.ensures, c.in-At.is, le-leb 2 c.in-At.len c.if-len-lt2.false, eq-eqb (c.in-At.len % 2) 0 c.if-len-ne0.false)
 
-returns-4 : tie.Need-returns-4
-returns-4 c = rw (← c.before.before.part16.ensures, c.enum_told.given.1)
+returns-4 : tie.Need-returns-in-Refused
+returns-4 c = rw (← c.part16.ensures, c.in-Refused.is)
 
-pub suites-spec : {M : Type 1} → statement M
-suites-spec =
+pub suites_spec : {M : Type 1} → statement M
+suites_spec =
     tie.close
     (tie.spec (λ c κs. search rules) (λ c. search rules) returns returns-2 (λ c. search rules) returns-3 returns-4)

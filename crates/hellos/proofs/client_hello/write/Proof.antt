@@ -1,5 +1,6 @@
 -- `hellos::client_hello::write`: R5 for suites or methods that the layout forbids; else they stand, with their lengths, between front and block.
 -- Assumes nothing.
+use Rattle.std.specs.Prelude.{not}
 use borrow.Author.Rules.{rules}
 use borrow.Author.Tests.{ltb-true, not-true, not-false}
 use Prim.Native.Nat.{ℕ, ◌<◌}
@@ -50,13 +51,13 @@ four-parts ss ms tail size e small =
     ∙ ap (λ (l : List ℕ). between l ss n ms ++ tail) (sym e)
 
 -- the entry, from behind the test, and what the test has shown
-abbrev start : tie.After-lists-valid → tie.Start
+abbrev start : tie.After-lists_valid → tie.Start
 start c = c.before.before.before.before.before.before.before
 
-lists-true : (c : tie.Else1) → (suites (start c.before) && methods (start c.before)) ≡ true
-lists-true c = sym c.before.lists-valid.ensures ∙ not-false c.before.lists-valid.result c.if1.false
+lists-true : (c : tie.Else-not-lists_valid) → (suites (start c.before) && methods (start c.before)) ≡ true
+lists-true c = sym c.lists_valid.ensures ∙ not-false c.lists_valid.result (ap not c.if-not-lists_valid.false)
 
-lists-ok : (c : tie.Else1) → let a = (start c.before).args in (length a.suites.now < 65536) × (length a.methods.now < 256)
+lists-ok : (c : tie.Else-not-lists_valid) → let a = (start c.before).args in (length a.suites.now < 65536) × (length a.methods.now < 256)
 lists-ok c =
     let s = start c.before in
     let ss = length s.args.suites.now in
@@ -66,36 +67,33 @@ lists-ok c =
       ltb-true ms 256 ((and-eq-true_iff (writable 1 s.args.methods.now) (methods_length ms)).0 both.1).0,
     )
 
-returns : tie.Need-returns
+returns : tie.Need-returns-then-not-lists_valid
 returns c =
     let s = start c.before in
-    let bad : (suites s && methods s) ≡ false = sym c.before.lists-valid.ensures ∙ not-true c.before.lists-valid.result c.if1.true in
+    let bad : (suites s && methods s) ≡ false = sym c.lists_valid.ensures ∙ not-true c.lists_valid.result (ap not c.if-not-lists_valid.true) in
     writes-none client_hello (fields s) s.args.out.now (valid-rules client_hello (fields s) (rules-by s ∙ rw bad (and-false (front s))))
 
-cast-methods : tie.Need-overflow-cast-t16
+cast-methods : tie.Need-overflow_cast-methods_size
 cast-methods c = record { fits = omega (arith, lists-ok c.before) }
 
 write-requires : tie.Need-write-requires
 write-requires c κs =
-    let two = c.before.before.before in
-    let l = lists-ok two.before in
+    let l = lists-ok c.before.before.before.before in
     (omega arith, l.0, omega arith, omega arith)
 
-returns-2 : tie.Need-returns-2
+returns-2 : tie.Need-returns
 returns-2 c =
-    let at = c.before.before in
-    let two = at.before.before.before.before in
-    let s = start two.before.before in
+    let s = start c.before.before.before.before.before.before.before.before in
     let a = s.args in
     let tail : List ℕ = tail_bytes (given a.present a.block.now) in
-    let size = two.bytes16.result in
-    let parts = four-parts a.suites.now a.methods.now tail size two.bytes16.ensures (lists-ok two.before).1 in
+    let size = c.bytes16-suites_size.result in
+    let parts = four-parts a.suites.now a.methods.now tail size c.bytes16-suites_size.ensures (lists-ok c.before.before.before.before.before.before.before).1 in
     let same = same-written client_hello (fields s)
     (hello_with 1 (between size a.suites.now (length a.methods.now ∷ []) a.methods.now))
     (front_given a.version a.random.now a.session-id.now a.present a.block.now) refl
-    (rules-by s ∙ rw (lists-true two.before))
+    (rules-by s ∙ rw (lists-true c.before.before.before.before.before.before.before))
     (ap (front_bytes a.version a.random.now a.session-id.now) parts) in
-    rw same at.write.ensures
+    rw same c.write.ensures
 
 pub write_spec : {M : Type 1} → statement M
 write_spec =

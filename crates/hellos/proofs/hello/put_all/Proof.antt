@@ -34,40 +34,38 @@ parts-are-message s =
     let size : a.body-len ≡ length (front_bytes a.version a.random.now a.session-id.now rest) = omega (arith, long, total, s.requires.2) in
     append_assoc (head s) (middle s) (tail s) ∙ front-message a.kind a.body-len a.version a.random.now a.session-id.now rest size
 
-abbrev start : tie.After-put-front → tie.Start
+abbrev start : tie.After-put_front-at → tie.Start
 start c = c.before.before.before.before.before.before.before.before.before.before
 
-abbrev before-four : tie.After-four → tie.After-put-front
+abbrev before-four : tie.After-four-next → tie.After-put_front-at
 before-four c = c.before.before.before.before
 
-abbrev before-tail : tie.After-put-tail → tie.After-four
+abbrev before-tail : tie.After-put_tail → tie.After-four-next
 before-tail c = c.before.before.before.before
 
 returns : tie.Need-returns
 returns c =
-    let at3 = c.before.before in
-    let at2 = before-tail at3 in
+    let at2 = before-tail c.before.before in
     let at1 = before-four at2 in
     let s = start at1 in
     let a = s.args in
     let out = a.out.now in
     let id = a.session-id.now in
-    let first = at1.put_front in
-    let second = at2.four in
-    let third = at3.put-tail in
-    let long = length_front a.kind a.body-len a.version a.random.now id s.pre.0 in
+    let first = at1.put_front-at in
+    let second = at2.four-next in
+    let long = length_front a.kind a.body-len a.version a.random.now id s.requires.0 in
     let one : first.last.1.1.1.1.1.0 ≡ front (head s) out =
-    front-put a.kind a.body-len a.version a.random.now id out _ s.pre.0 first.ensures.1 in
+    front-put a.kind a.body-len a.version a.random.now id out _ s.requires.0 first.ensures.1 in
     let two : second.last.1.1.1.1.0 ≡ front (head s ++ middle s) out =
     second.ensures.1 ∙ copy-behind-front (head s) (middle s) out _ first.result one (first.ensures.0 ∙ sym long) in
     let both = length-append (head s) (middle s) in
     let place : second.result ≡ length (head s ++ middle s) = omega (arith, first.ensures.0, second.ensures.0, long, both) in
-    let three : third.new.1.1.0 ≡ front ((head s ++ middle s) ++ tail s) out =
-    third.ensures.1 ∙ copy-behind-front (head s ++ middle s) (tail s) out _ second.result two place in
+    let three : c.put_tail.new.out ≡ front ((head s ++ middle s) ++ tail s) out =
+    c.put_tail.ensures.1 ∙ copy-behind-front (head s ++ middle s) (tail s) out _ second.result two place in
     let total = length-append (head s ++ middle s) (tail s) in
-    let size : length ((head s ++ middle s) ++ tail s) ≡ 4 + a.body-len = omega (arith, long, both, total, s.pre.2) in
-    (omega (arith, place, third.ensures.0, size, total), three ∙ ap₂ (λ (l : List ℕ) (k : ℕ). l ++ drop k out) (parts-are-message s) size)
+    let size : length ((head s ++ middle s) ++ tail s) ≡ 4 + a.body-len = omega (arith, long, both, total, s.requires.2) in
+    (omega (arith, place, c.put_tail.ensures.0, size, total), three ∙ ap₂ (λ (l : List ℕ) (k : ℕ). l ++ drop k out) (parts-are-message s) size)
 
-pub put-all-spec : {M : Type 1} → statement M
-put-all-spec =
+pub put_all_spec : {M : Type 1} → statement M
+put_all_spec =
     tie.close (tie.spec (λ c κs. search rules) (λ c κs. search rules) (λ c κs. search rules) (λ c. search rules) returns)

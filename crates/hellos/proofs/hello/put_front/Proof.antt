@@ -24,38 +24,35 @@ head-is kind size version random id n v e f small =
     rw (e, f, append-nil id, div-one (length id), mod-eq_of_lt small, append_assoc random (length id ∷ []) id)
 
 -- the six bytes, from where their numbers are known, and the entry
-abbrev start : tie.After-bytes16 → tie.Start
+abbrev start : tie.After-bytes16-v → tie.Start
 start c = c.before.before.before.before.before
 
-abbrev first : tie.After-bytes16 → List ℕ
-first c = head (start c).args.kind c.before.bytes24.result c.bytes16.result
+abbrev first : tie.After-bytes16-v → List ℕ
+first c = head (start c).args.kind c.bytes24-n.result c.bytes16-v.result
 
-cast-size : tie.Need-overflow-cast-t15
+cast-size : tie.Need-overflow_cast-size
 cast-size c = record { fits = omega (arith, (start c).requires) }
 
 four-requires : tie.Need-four-requires
 four-requires c κs =
-    let known = c.before.before.before in
-    let a = (start known).args in
-    let total = length-between (first known) a.random.now (length a.session-id.now ∷ []) a.session-id.now in
-    omega (arith, total, (start known).requires)
+    let a = (start c.before.before.before).args in
+    let total = length-between (first c.before.before.before) a.random.now (length a.session-id.now ∷ []) a.session-id.now in
+    omega (arith, total, (start c.before.before.before).requires)
 
 returns : tie.Need-returns
 returns c =
-    let known = c.before.before.before.before.before.before in
-    let s = start known in
+    let s = start c.before.before.before.before.before.before in
     let a = s.args in
     let random = a.random.now in
     let id = a.session-id.now in
-    let four = c.before.before.four in
-    let small : length id < 256 = omega (arith, s.pre.1) in
-    let total = length-between (first known) random (length id ∷ []) id in
-    let size : length (between (first known) random (length id ∷ []) id) ≡ 39 + length id = omega (arith, total, s.pre.0) in
-    let whole = head-is a.kind a.body-len a.version random id _ _ known.before.bytes24.ensures known.bytes16.ensures small in
-    (four.ensures.0 ∙ (omega (arith, size)), four.ensures.1 ∙ ap₂ (λ (l : List ℕ) (k : ℕ). paste a.out.now 0 l k) whole size)
+    let small : length id < 256 = omega (arith, s.requires.1) in
+    let total = length-between (first c.before.before.before.before.before.before) random (length id ∷ []) id in
+    let size : length (between (first c.before.before.before.before.before.before) random (length id ∷ []) id) ≡ 39 + length id = omega (arith, total, s.requires.0) in
+    let whole = head-is a.kind a.body-len a.version random id _ _ c.bytes24-n.ensures c.bytes16-v.ensures small in
+    (c.four.ensures.0 ∙ (omega (arith, size)), c.four.ensures.1 ∙ ap₂ (λ (l : List ℕ) (k : ℕ). paste a.out.now 0 l k) whole size)
 
-pub put-front-spec : {M : Type 1} → statement M
-put-front-spec =
+pub put_front_spec : {M : Type 1} → statement M
+put_front_spec =
     tie.close
     (tie.spec
     (λ c κs. search rules)

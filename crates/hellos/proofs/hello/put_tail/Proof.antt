@@ -9,15 +9,15 @@ use Rattle.hellos.proofs.hello.put_tail.Statement.{statement}
 use Rattle.hellos.proofs.hello.put_tail.Tie as tie
 
 vector16-requires : tie.Need-vector16-requires
-vector16-requires c κs = rw c.before.if1.true at c.before.before.before.before.requires
+vector16-requires c κs = rw c.if-present.true at c.requires
 
-returns : tie.Need-returns
-returns c = rw c.before.before.before.before.if1.true c.before.before.vector16.ensures
+returns : tie.Need-returns-then-present
+returns c = rw c.if-present.true c.vector16.ensures
 
-returns-2 : tie.Need-returns-2
+returns-2 : tie.Need-returns
 returns-2 c =
-    let a = c.before.before.before.args in
-    rw c.if1.false (sym (add-zero a.at), paste-zero a.out.now a.at [])
+    let a = c.args in
+    rw c.if-present.false (sym (add-zero a.at), paste-zero a.out.now a.at [])
 
-pub put-tail-spec : {M : Type 1} → statement M
-put-tail-spec = tie.close (tie.spec vector16-requires (λ c. search rules) returns returns-2)
+pub put_tail_spec : {M : Type 1} → statement M
+put_tail_spec = tie.close (tie.spec vector16-requires (λ c. search rules) returns returns-2)

@@ -1,5 +1,7 @@
 -- `hellos::hello::tail`: each return is a case of `block_at`; the block's own rule is asked of the part that last16 found.
 -- Assumes nothing.
+use Rattle.std.specs.Prelude.{not}
+use Rattle.std.proofs.Common.{ap}
 use borrow.Author.Rules.{rules}
 use borrow.Author.Tests.{eq-eqb, ne_eqb, not-true, not-false}
 use Prim.Native.Nat.{ℕ, ◌+◌, ◌-◌}
@@ -19,21 +21,21 @@ use Rattle.layout.proofs.Places.{last-there}
 use Rattle.hellos.proofs.hello.tail.Statement.{statement}
 use Rattle.hellos.proofs.hello.tail.Tie as tie
 
-returns : tie.Need-returns
-returns c = rw (eq-eqb _ _ c.if1.true)
+returns : tie.Need-returns-then-at-message
+returns c = rw (eq-eqb _ _ c.if-at-message.true)
 
 -- the entry, from where last16 found the block, and from its test
-abbrev start : tie.After-known-told → tie.Start
-start c = c.before.before.before.before.before.before
+abbrev start : tie.In-At → tie.Start
+start c = c.before.before.before.before
 
-abbrev known : tie.After-test → tie.After-known-told
+abbrev known : tie.After-test → tie.In-At
 known c = c.before.before
 
 -- the block ends where the message does
-inside : (c : tie.After-known-told) → c.before.start.given.0.0 + c.before.start.given.0.1.0 ≡ length (start c).args.message.now
+inside : (c : tie.In-At) → c.in-At.start + c.in-At.len ≡ length (start c).args.message.now
 inside c =
     let a = (start c).args in
-    let there = last-there 2 a.message.now a.at _ _ (sym c.before.before.before.last16.ensures ∙ c.before.start.given.1) in
+    let there = last-there 2 a.message.now a.at _ _ (sym c.last16.ensures ∙ c.in-At.is) in
     omega arith
 
 -- the length of a part from its two ends
@@ -43,17 +45,17 @@ same-rule m s n = rw (add-sub_cancel_left s n)
 -- what the block's own test was asked
 rule : (c : tie.After-test) →
     let a = (start (known c)).args in
-    let g = (known c).before.start.given.0 in
+    let g = (known c).start-1.given.0 in
     block_rule (take g.1.0 (drop g.0 a.message.now)) ≡ c.test.result
 rule c =
     let a = (start (known c)).args in
-    let g = (known c).before.start.given.0 in
+    let g = (known c).start-1.given.0 in
     same-rule a.message.now g.0 g.1.0 ∙ sym c.test.ensures
 
-add-test : tie.Need-overflow-add-test
+add-test : tie.Need-overflow_add-start
 add-test c = record { fits = omega (arith, inside c) }
 
-part-test-end : tie.Need-slice-bounds-test-end
+part-test-end : tie.Need-slice_bounds-test-end
 part-test-end c = omega (arith, inside c)
 
 -- what is left once the block is tested
@@ -63,7 +65,7 @@ block-tested m at s n t more there e = rw (ne_eqb at (length m) more, there, e)
 
 rule-left : (c : tie.After-test) {t : Bool} → c.test.result ≡ t →
     let a = (start (known c)).args in
-    let g = (known c).before.start.given.0 in
+    let g = (known c).start-1.given.0 in
     block_at a.message.now a.at ≡ cond t (Found (Block.At g.0 g.1.0)) Refused
 rule-left c e =
     let found = (known c).before in
@@ -71,20 +73,19 @@ rule-left c e =
     let more = found.before.before.before.if1.left in
     block-tested a.message.now a.at _ _ _ more (sym found.before.before.last16.ensures ∙ found.start.given.1) (rule c ∙ e)
 
-returns-2 : tie.Need-returns-2
-returns-2 c = sym (rule-left c.before (not-true c.before.test.result c.if2.true))
+returns-2 : tie.Need-returns-then-not-test
+returns-2 c = sym (rule-left c.before (not-true c.test.result (ap not c.if-not-test.true)))
 
-returns-3 : tie.Need-returns-3
-returns-3 c = sym (rule-left c.before (not-false c.before.test.result c.if2.false))
+returns-3 : tie.Need-returns-else-not-test
+returns-3 c = sym (rule-left c.before (not-false c.test.result (ap not c.if-not-test.false)))
 
-returns-4 : tie.Need-returns-4
+returns-4 : tie.Need-returns-in-Refused
 returns-4 c =
-    let test = c.before.before.before in
-    let a = test.before.before.args in
-    rw (ne_eqb a.at (length a.message.now) test.if1.false, ← c.before.before.last16.ensures, c.enum_told.given.1)
+    let a = c.args in
+    rw (ne_eqb a.at (length a.message.now) c.if-at-message.false, ← c.last16.ensures, c.in-Refused.is)
 
-pub tail-spec : {M : Type 1} → statement M
-tail-spec =
+pub tail_spec : {M : Type 1} → statement M
+tail_spec =
     tie.close
     (tie.spec
     returns

@@ -5,8 +5,8 @@ use native.Mathlib.Omega.{arith}
 use Rattle.hellos.proofs.hello.tail_len.Statement.{statement}
 use Rattle.hellos.proofs.hello.tail_len.Tie as tie
 
-returns : tie.Need-returns
-returns c = rw c.if1.true (omega arith)
+returns : tie.Need-returns-then-present
+returns c = rw c.if-present.true (omega arith)
 
-pub tail-len-spec : {M : Type 1} → statement M
-tail-len-spec = tie.close (tie.spec (λ c. search rules) returns (λ c. search rules))
+pub tail_len_spec : {M : Type 1} → statement M
+tail_len_spec = tie.close (tie.spec (λ c. search rules) returns (λ c. search rules))

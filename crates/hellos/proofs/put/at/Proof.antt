@@ -9,11 +9,11 @@ use Rattle.hellos.proofs.put.at.Tie as tie
 
 returns : tie.Need-returns
 returns c =
-    let a = c.before.before.before.before.before.before.args in
-    let copied = c.before.before.copy.ensures in
-    (ap (λ (k : ℕ). a.place + k) copied.0, lent-part a.out.now a.part.now c.before.before.copy.new.1.0 a.place copied.1)
+    let a = c.args in
+    let copied = c.copy-n.ensures in
+    (ap (λ (k : ℕ). a.place + k) copied.0, lent-part a.out.now a.part.now c.copy-n.new.dst a.place copied.1)
 
-pub at-spec : {M : Type 1} → statement M
-at-spec =
+pub at_spec : {M : Type 1} → statement M
+at_spec =
     tie.close
     (tie.spec (λ c. search rules) (λ c. search rules) (λ c. search rules) (λ c κs. search rules) (λ c. search rules) (λ c. search rules) returns)

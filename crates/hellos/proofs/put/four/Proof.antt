@@ -13,16 +13,16 @@ use Rattle.hellos.proofs.put.four.Statement.{statement}
 use Rattle.hellos.proofs.put.four.Tie as tie
 
 -- the entry, from where each part is put
-abbrev start : tie.After-at-arg → tie.Start
+abbrev start : tie.After-at-arg-1 → tie.Start
 start c = c.before.before.before.before.before.before
 
-abbrev first : tie.After-at-arg2 → tie.After-at
+abbrev first : tie.After-at-arg-2-1 → tie.After-at-second
 first c = c.before.before.before
 
-abbrev second : tie.After-at-arg3 → tie.After-at2
+abbrev second : tie.After-at-arg-3-1 → tie.After-at-third
 second c = c.before.before.before
 
-abbrev third : tie.After-at-arg4 → tie.After-at3
+abbrev third : tie.After-at-arg-4-1 → tie.After-at-last
 third c = c.before.before.before
 
 room : (s : tie.Start) →
@@ -30,29 +30,27 @@ room : (s : tie.Start) →
     a.place + (length a.a.now + length a.b.now + length a.c.now + length a.d.now) ≤ length a.out.now
 room s = let a = s.args in omega (arith, length-between a.a.now a.b.now a.c.now a.d.now, s.requires)
 
-at-requires : tie.Need-at-requires
+at-requires : tie.Need-at-second-requires
 at-requires c κs = omega (arith, room (start c))
 
-at-requires-2 : tie.Need-at-requires-2
+at-requires-2 : tie.Need-at-third-requires
 at-requires-2 c κs = omega (arith, room (start (first c).before))
 
-at-requires-3 : tie.Need-at-requires-3
+at-requires-3 : tie.Need-at-last-requires
 at-requires-3 c κs = omega (arith, room (start (first (second c).before).before))
 
-at-requires-4 : tie.Need-at-requires-4
+at-requires-4 : tie.Need-at-requires
 at-requires-4 c κs = omega (arith, room (start (first (second (third c).before).before).before))
 
 returns : tie.Need-returns
 returns c =
-    let at4 = c.before.before in
-    let at3 = third at4.before in
+    let at3 = third c.before.before.before in
     let at2 = second at3.before in
     let at1 = first at2.before in
     let s = start at1.before in
-    let one = at1.at in
-    let two = at2.at2 in
-    let three = at3.at3 in
-    let four = at4.at4 in
+    let one = at1.at-second in
+    let two = at2.at-third in
+    let three = at3.at-last in
     let p = s.args.place in
     let out = s.args.out.now in
     let a = s.args.a.now in
@@ -63,15 +61,15 @@ returns c =
     let abx = length-append (a ++ b) x in
     let all = length-append ((a ++ b) ++ x) d in
     let both : two.last.1.0 ≡ paste out p (a ++ b) (length (a ++ b)) =
-    put_two out one.last.1.0 two.last.1.0 a b p one.result (omega (arith, s.pre)) one.ensures.1 one.ensures.0
+    put_two out one.last.1.0 two.last.1.0 a b p one.result (omega (arith, s.requires)) one.ensures.1 one.ensures.0
     two.ensures.1 in
     let place : two.result ≡ p + length (a ++ b) = omega (arith, one.ensures.0, two.ensures.0) in
     let more : three.last.1.0 ≡ paste out p ((a ++ b) ++ x) (length ((a ++ b) ++ x)) =
-    put_two out two.last.1.0 three.last.1.0 (a ++ b) x p two.result (omega (arith, s.pre)) both place three.ensures.1 in
+    put_two out two.last.1.0 three.last.1.0 (a ++ b) x p two.result (omega (arith, s.requires)) both place three.ensures.1 in
     let next : three.result ≡ p + length ((a ++ b) ++ x) = omega (arith, place, three.ensures.0) in
-    let whole = put_two out three.last.1.0 four.new.1.0 ((a ++ b) ++ x) d p three.result (omega (arith, s.pre)) more next
-    four.ensures.1 in
-    (omega (arith, next, four.ensures.0, all), whole)
+    let whole = put_two out three.last.1.0 c.at.new.out ((a ++ b) ++ x) d p three.result (omega (arith, s.requires)) more next
+    c.at.ensures.1 in
+    (omega (arith, next, c.at.ensures.0, all), whole)
 
-pub four-spec : {M : Type 1} → statement M
-four-spec = tie.close (tie.spec at-requires at-requires-2 at-requires-3 at-requires-4 (λ c. search rules) returns)
+pub four_spec : {M : Type 1} → statement M
+four_spec = tie.close (tie.spec at-requires at-requires-2 at-requires-3 at-requires-4 (λ c. search rules) returns)

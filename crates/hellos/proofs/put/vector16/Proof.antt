@@ -14,22 +14,18 @@ use Rattle.hellos.proofs.put.vector16.Tie as tie
 
 returns : tie.Need-returns
 returns c =
-    let known = c.before.before.before.before.before.before.before.before.before in
-    let s = known.before.before.before in
-    let a = s.args in
+    let a = c.args in
     let xs = a.contents.now in
-    let first = c.before.before.before.before.before.before.at in
-    let second = c.before.before.at2 in
-    let size = known.bytes16.result in
-    let two : size ≡ be 2 (length xs) = known.bytes16.ensures in
-    let room : a.place + length size ≤ length a.out.now = rw two (omega (arith, s.requires)) in
-    let both : second.new.1.0 ≡ paste a.out.now a.place (size ++ xs) (length (size ++ xs)) =
-    put_two a.out.now first.new.1.0 second.new.1.0 size xs a.place first.result
-    room first.ensures.1 first.ensures.0 second.ensures.1 in
-    let next : first.result ≡ a.place + 2 = rw two at first.ensures.0 in
-    (omega (arith, second.ensures.0), rw two at both)
+    let size = c.bytes16-size.result in
+    let two : size ≡ be 2 (length xs) = c.bytes16-size.ensures in
+    let room : a.place + length size ≤ length a.out.now = rw two (omega (arith, c.requires)) in
+    let both : c.at.new.out ≡ paste a.out.now a.place (size ++ xs) (length (size ++ xs)) =
+    put_two a.out.now c.at-next.new.out c.at.new.out size xs a.place c.at-next.result
+    room c.at-next.ensures.1 c.at-next.ensures.0 c.at.ensures.1 in
+    let next : c.at-next.result ≡ a.place + 2 = rw two at c.at-next.ensures.0 in
+    (omega (arith, c.at.ensures.0), rw two at both)
 
-pub vector16-spec : {M : Type 1} → statement M
-vector16-spec =
+pub vector16_spec : {M : Type 1} → statement M
+vector16_spec =
     tie.close
     (tie.spec (λ c κs. search rules) (λ c. search rules) (λ c κs. search rules) (λ c κs. search rules) (λ c. search rules) returns)

@@ -4,14 +4,14 @@ use borrow.Author.Rules.{rules}
 use Rattle.hellos.proofs.server_hello.read_body.Statement.{statement}
 use Rattle.hellos.proofs.server_hello.read_body.Tie as tie
 
-returns : tie.Need-returns
-returns c = rw (← c.before.before.before.before.session-id.ensures, c.before.before.len.given.1) c.behind-session.ensures
+returns : tie.Need-returns-in-At
+returns c = rw (← c.session_id.ensures, c.in-At.is) c.behind_session.ensures
 
-returns-2 : tie.Need-returns-2
-returns-2 c = rw (← c.before.before.session-id.ensures, c.enum_told.given.1)
+returns-2 : tie.Need-returns-in-Refused
+returns-2 c = rw (← c.session_id.ensures, c.in-Refused.is)
 
-pub read-body-spec : {M : Type 1} → statement M
-read-body-spec =
+pub read_body_spec : {M : Type 1} → statement M
+read_body_spec =
     tie.close
     (tie.spec
     (λ c κs. search rules)

@@ -29,28 +29,24 @@ four-parts suite compression number tail e =
     let padded : both ≡ (both ++ []) ++ [] = sym (append-nil both) ∙ sym (append-nil (both ++ [])) in
     ap (λ (l : List ℕ). l ++ (compression ∷ tail)) (sym e) ∙ sym (append_assoc number (compression ∷ []) tail) ∙ ap (λ (l : List ℕ). l ++ tail) padded
 
-returns : tie.Need-returns
+returns : tie.Need-returns-then-suite-gt65535
 returns c =
-    let s = c.before.before.before.before.before in
-    let a = s.args in
+    let a = c.args in
     let front = front_rules a.version a.random.now a.session-id.now in
-    writes-none server_hello (fields s) a.out.now
-    (valid-rules server_hello (fields s) (rw (le-ltb a.suite 65536 (omega arith)) (and-false front)))
+    writes-none server_hello (fields c.before.before.before.before.before) a.out.now
+    (valid-rules server_hello (fields c.before.before.before.before.before) (rw (le-ltb a.suite 65536 (omega arith)) (and-false front)))
 
-returns-2 : tie.Need-returns-2
+returns-2 : tie.Need-returns
 returns-2 c =
-    let at = c.before.before in
-    let two = at.before.before.before.before.before in
-    let s = two.before.before.before.before.before.before in
-    let a = s.args in
+    let a = c.args in
     let tail : List ℕ = tail_bytes (given a.present a.block.now) in
-    let number = two.bytes16.result in
-    let parts = four-parts a.suite a.compression number tail two.bytes16.ensures in
-    let same = same-written server_hello (fields s) (hello_with 2 (between number (a.compression ∷ []) [] []))
+    let number = c.bytes16-number.result in
+    let parts = four-parts a.suite a.compression number tail c.bytes16-number.ensures in
+    let same = same-written server_hello (fields c.before.before.before.before.before.before.before.before.before.before.before.before.before) (hello_with 2 (between number (a.compression ∷ []) [] []))
     (front_given a.version a.random.now a.session-id.now a.present a.block.now) refl
-    (rw (lt-ltb a.suite 65536 (omega (arith, two.before.if1.false)), lt-ltb a.compression 256 s.ranges.compression.fits))
+    (rw (lt-ltb a.suite 65536 (omega (arith, c.if-suite-gt65535.false)), lt-ltb a.compression 256 c.ranges.compression.fits))
     (ap (front_bytes a.version a.random.now a.session-id.now) parts) in
-    rw same at.write.ensures
+    rw same c.write.ensures
 
 pub write_spec : {M : Type 1} → statement M
 write_spec =

@@ -7,11 +7,9 @@ use Rattle.keys.proofs.buffer.append.Tie as tie
 
 returns : tie.Need-returns
 returns c =
-    let start = c.before.before.before.before.before.before in
-    let copied = c.before.before.copy in
-    copied_behind start.args.buffer.now start.args.part.now copied.new.1.0 start.args.at start.requires copied.ensures.1
+    copied_behind c.args.buffer.now c.args.part.now c.copy.new.dst c.args.at c.requires c.copy.ensures.1
 
-pub append-spec : {M : Type 1} → statement M
-append-spec =
+pub append_spec : {M : Type 1} → statement M
+append_spec =
     tie.close
     (tie.spec (λ c. search rules) (λ c. search rules) (λ c. search rules) (λ c. search rules) (λ c κs. search rules) (λ c. search rules) returns)

@@ -11,31 +11,29 @@ use borrow.Author.Rules.{rules}
 use Rattle.keys.proofs.mac.begin.Statement.{statement}
 use Rattle.keys.proofs.mac.begin.Tie as tie
 
-abbrev invariant-loop : tie.invariant-loop
+abbrev invariant-loop : tie.invariant-loop-i
 invariant-loop pad block padded₀ i₀ padded i = (i ≤ 64) × (length padded ≡ 64) × (length block ≡ 64) × (take i padded ≡ xored (take i block) pad)
 
-abbrev decreases-loop : tie.decreases-loop
+abbrev decreases-loop : tie.decreases-loop-i
 decreases-loop pad block padded₀ i₀ padded i = 64 - i
 
-loop-again : tie.Need-loop-preserved invariant-loop decreases-loop
+loop-again : tie.Need-loop-i-preserved invariant-loop decreases-loop
 loop-again c =
-    let at-loop = c.before in
-    let args = at-loop.before.args in
-    let next = next-xored args.t1 at-loop.loop.padded at-loop.loop.i args.pad in
-    (search rules, search rules, search rules, next (omega arith) (omega arith) at-loop.loop.invariant.3)
+    let args = c.args in
+    let next = next-xored args.block c.loop-i.padded c.loop-i.i args.pad in
+    (search rules, search rules, search rules, next (omega arith) (omega arith) c.loop-i.invariant.3)
 
 returns : tie.Need-returns invariant-loop decreases-loop
 returns c =
-    let at-loop = c.before.before.before.before in
-    let block = at-loop.before.args.t1 in
-    let padded = at-loop.loop.padded in
-    let done : at-loop.loop.i ≡ 64 = omega arith in
-    let whole : padded ≡ xored block at-loop.before.args.pad =
-    sym (take_all 64 padded (omega arith)) ∙ (rw (done, take_all 64 block (omega arith)) at at-loop.loop.invariant.3) in
-    rw (c.update.ensures, c.before.before.new.ensures, whole)
+    let block = c.args.block in
+    let padded = c.loop-i.padded in
+    let done : c.loop-i.i ≡ 64 = omega arith in
+    let whole : padded ≡ xored block c.args.pad =
+    sym (take_all 64 padded (omega arith)) ∙ (rw (done, take_all 64 block (omega arith)) at c.loop-i.invariant.3) in
+    rw (c.update.ensures, c.new.ensures, whole)
 
-pub begin-spec : {M : Type 1} → statement M
-begin-spec =
+pub begin_spec : {M : Type 1} → statement M
+begin_spec =
     tie.close
     (tie.spec
     invariant-loop

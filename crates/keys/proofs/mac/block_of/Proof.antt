@@ -10,33 +10,28 @@ use borrow.Author.Rules.{rules}
 use Rattle.keys.proofs.mac.block_of.Statement.{statement}
 use Rattle.keys.proofs.mac.block_of.Tie as tie
 
-returns : tie.Need-returns
+returns : tie.Need-returns-then-key-le64
 returns c =
-    let key = c.before.before.before.before.before.args.key.now in
-    let few = c.before.before.before.if1.true in
-    ((short-key key c.before.copy.new.1.0 few c.before.copy.ensures.1, short-blocks key few), omega arith)
+    let key = c.args.key.now in
+    let few = c.if-key-le64.true in
+    ((short-key key c.copy.new.dst few c.copy.ensures.1, short-blocks key few), omega arith)
 
-returns-2 : tie.Need-returns-2
+returns-2 : tie.Need-returns
 returns-2 c =
-    let at-finish = c.before in
-    let at-update = at-finish.before.before in
-    let at_new = at-update.before in
-    let start = at_new.before.before.before in
-    let key = start.args.key.now in
-    let long = at_new.before.if1.false in
-    let s = at-update.update.result in
-    let absorbed : s ≡ absorb fresh key = at-update.update.ensures ∙ rw at_new.new.ensures in
-    let done = at-finish.finish-counted in
-    let hashed = rw (finished-within s key absorbed start.requires) at done.ensures.0 in (
+    let key = c.args.key.now in
+    let long = c.if-key-le64.false in
+    let s = c.update.result in
+    let absorbed : s ≡ absorb fresh key = c.update.ensures ∙ rw c.new.ensures in
+    let hashed = rw (finished-within s key absorbed c.requires) at c.finish_counted-done.ensures.0 in (
       (
-        long-key key done.new.1.0 long (answer-in-front hashed (rw (length-digest key) (omega arith))),
-        counted_of s key absorbed start.requires done.ensures.0 (omega arith) done.ensures.1.0 ∙ long-blocks key long,
+        long-key key c.finish_counted-done.new.out long (answer-in-front hashed (rw (length-digest key) (omega arith))),
+        counted_of s key absorbed c.requires c.finish_counted-done.ensures.0 (omega arith) c.finish_counted-done.ensures.1.0 ∙ long-blocks key long,
       ),
-      omega (arith, done.ensures.1.1),
+      omega (arith, c.finish_counted-done.ensures.1.1),
     )
 
-pub block-of-spec : {M : Type 1} → statement M
-block-of-spec =
+pub block_of_spec : {M : Type 1} → statement M
+block_of_spec =
     tie.close
     (tie.spec
     (λ c. search rules)

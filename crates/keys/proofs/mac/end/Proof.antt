@@ -12,25 +12,21 @@ use Rattle.keys.proofs.mac.end.Tie as tie
 
 returns : tie.Need-returns
 returns c =
-    let at_second = c.before.before.before in
-    let second = at_second.finish-counted2 in
-    let at-update = at_second.before.before in
-    let first = at-update.before.before.before.finish-counted in
-    let args = at-update.before.before.before.before.before.args in
-    let sum : args.blocks + first.result.blocks + second.result.blocks ≤ 2 ^ 58 = omega (arith, first.ensures.1.1, second.ensures.1.1) in (
+    let args = c.args in
+    let sum : args.blocks + c.finish_counted-first.result.blocks + c.finish_counted-second.result.blocks ≤ 2 ^ 58 = omega (arith, c.finish_counted-first.ensures.1.1, c.finish_counted-second.ensures.1.1) in (
       λ key text ei eo eb few.
-          let outer = at-update.update.ensures ∙ ap (λ (s : Sha256). absorb s first.new.1.0) eo in
+          let outer = c.update.ensures ∙ ap (λ (s : Sha256). absorb s c.finish_counted-first.new.out) eo in
           record {
-            value = two-digests key text few ei first.ensures.0 refl first.ensures.1.0 outer second.ensures.0 refl second.ensures.1.0;
+            value = two-digests key text few ei c.finish_counted-first.ensures.0 refl c.finish_counted-first.ensures.1.0 outer c.finish_counted-second.ensures.0 refl c.finish_counted-second.ensures.1.0;
             blocks =
                 rw eb
-                (two-counts key text few ei first.ensures.0 refl first.ensures.1.0 outer second.ensures.0 refl second.ensures.1.0);
+                (two-counts key text few ei c.finish_counted-first.ensures.0 refl c.finish_counted-first.ensures.1.0 outer c.finish_counted-second.ensures.0 refl c.finish_counted-second.ensures.1.0);
           },
       sum,
     )
 
-pub end-spec : {M : Type 1} → statement M
-end-spec =
+pub end_spec : {M : Type 1} → statement M
+end_spec =
     tie.close
     (tie.spec
     (λ c. search rules)

@@ -6,8 +6,8 @@ use Rattle.keys.proofs.mac.under.Tie as tie
 
 returns : tie.Need-returns
 returns c =
-    let block = c.before.before.before.Block-of.ensures in
-    (rw (c.before.begin.ensures, c.begin2.ensures, block.0.0, block.0.1), block.1)
+    let block = c.Block-of.ensures in
+    (rw (c.begin-inner.ensures, c.begin-outer.ensures, block.0.0, block.0.1), block.1)
 
 pub under_spec : {M : Type 1} → statement M
 under_spec = tie.close (tie.spec (λ c κs. search rules) (λ c κs. search rules) (λ c κs. search rules) returns)

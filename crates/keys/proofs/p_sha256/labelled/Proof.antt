@@ -9,11 +9,9 @@ use Rattle.keys.proofs.p_sha256.labelled.Tie as tie
 
 returns : tie.Need-returns
 returns c =
-    let at_label = c.before in
-    let at-update = at_label.before in
-    let args = at-update.before.before.before.args in
-    c.update2.ensures ∙ rw (at_label.with-label.ensures, at-update.update.ensures)
+    let args = c.args in
+    c.update-2.ensures ∙ rw (c.with_label.ensures, c.update.ensures)
     (three-parts args.hash args.front.now (text args.label) args.seed.now)
 
-pub labelled-spec : {M : Type 1} → statement M
-labelled-spec = tie.close (tie.spec (λ c κs. search rules) (λ c κs. search rules) (λ c κs. search rules) returns)
+pub labelled_spec : {M : Type 1} → statement M
+labelled_spec = tie.close (tie.spec (λ c κs. search rules) (λ c κs. search rules) (λ c κs. search rules) returns)

@@ -7,13 +7,13 @@ use borrow.Author.Rules.{rules}
 use Rattle.keys.proofs.p_sha256.with_a.Statement.{statement}
 use Rattle.keys.proofs.p_sha256.with_a.Tie as tie
 
-returns : tie.Need-returns
+returns : tie.Need-returns-then-i-eq0
 unfolding Prf.a_of
-returns c secret known = rw c.before.before.if1.true c.labelled.ensures
+returns c secret known = rw c.if-i-eq0.true c.labelled.ensures
 
-returns-2 : tie.Need-returns-2
+returns-2 : tie.Need-returns
 returns-2 c secret known = c.update.ensures ∙ rw (known (omega arith))
 
-pub with-a-spec : {M : Type 1} → statement M
-with-a-spec =
+pub with_a_spec : {M : Type 1} → statement M
+with_a_spec =
     tie.close (tie.spec (λ c. search rules) (λ c κs. search rules) returns (λ c κs. search rules) returns-2)

@@ -4,20 +4,20 @@ use borrow.Author.Rules.{rules}
 use Rattle.keys.proofs.p_sha256.with_label.Statement.{statement}
 use Rattle.keys.proofs.p_sha256.with_label.Tie as tie
 
-returns : tie.Need-returns
-returns c = rw (c.before.before.enum_told.given.1, c.update.ensures)
+returns : tie.Need-returns-in-MasterSecret
+returns c = rw (c.in-MasterSecret.is, c.update.ensures)
 
-returns-2 : tie.Need-returns-2
-returns-2 c = rw (c.before.before.enum-told2.given.1, c.update2.ensures)
+returns-2 : tie.Need-returns-in-KeyExpansion
+returns-2 c = rw (c.in-KeyExpansion.is, c.update-in-KeyExpansion.ensures)
 
-returns-3 : tie.Need-returns-3
-returns-3 c = rw (c.before.before.enum-told3.given.1, c.update3.ensures)
+returns-3 : tie.Need-returns-in-ClientFinished
+returns-3 c = rw (c.in-ClientFinished.is, c.update-in-ClientFinished.ensures)
 
-returns-4 : tie.Need-returns-4
-returns-4 c = rw (c.before.before.enum-told4.given.1, c.update4.ensures)
+returns-4 : tie.Need-returns-in-ServerFinished
+returns-4 c = rw (c.in-ServerFinished.is, c.update-in-ServerFinished.ensures)
 
-pub with-label-spec : {M : Type 1} → statement M
-with-label-spec =
+pub with_label_spec : {M : Type 1} → statement M
+with_label_spec =
     tie.close
     (tie.spec
     (λ c. search rules)

@@ -4,14 +4,14 @@ use borrow.Author.Tests.{le-leb, lt-leb}
 use Rattle.keytable.proofs.checks.sized_key.Statement.{statement}
 use Rattle.keytable.proofs.checks.sized_key.Tie as tie
 
-returns : tie.Need-returns
-returns c = simp (lt-leb _ _ c.if1.true)
+returns : tie.Need-returns-then-digits-lt2
+returns c = simp (lt-leb _ _ c.if-digits-lt2.true)
 
-returns-2 : tie.Need-returns-2
-returns-2 c = simp (le-leb _ _ c.before.if1.false, lt-leb _ _ c.if2.true)
+returns-2 : tie.Need-returns-then-digits-gt128
+returns-2 c = simp (le-leb _ _ c.if-digits-lt2.false, lt-leb _ _ c.if-digits-gt128.true)
 
-returns-3 : tie.Need-returns-3
-returns-3 c = simp (le-leb _ _ c.before.if1.false, le-leb _ _ c.if2.false)
+returns-3 : tie.Need-returns
+returns-3 c = simp (le-leb _ _ c.if-digits-lt2.false, le-leb _ _ c.if-digits-gt128.false)
 
-pub sized-key-spec : {M : Type 1} → statement M
-sized-key-spec = tie.close (tie.spec returns returns-2 returns-3)
+pub sized_key_spec : {M : Type 1} → statement M
+sized_key_spec = tie.close (tie.spec returns returns-2 returns-3)

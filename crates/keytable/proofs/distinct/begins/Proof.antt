@@ -11,46 +11,42 @@ use Rattle.keytable.proofs.Matching.{Matched, match-more, match-other, match-end
 use Rattle.keytable.proofs.distinct.begins.Statement.{statement}
 use Rattle.keytable.proofs.distinct.begins.Tie as tie
 
-abbrev invariant-loop : tie.invariant-loop
+abbrev invariant-loop : tie.invariant-loop-i
 invariant-loop table at identity i₀ i = (i ≤ length identity) × Matched table identity at i
 
-abbrev decreases-loop : tie.decreases-loop
+abbrev decreases-loop : tie.decreases-loop-i
 decreases-loop table at identity i₀ i = length table - (at + i)
 
 below : {i n : ℕ} → i ≤ n → (i ≡ n → ⊥) → i < n
 below h other = omega arith
 
-loop-holds : tie.Need-loop-init invariant-loop decreases-loop
+loop-holds : tie.Need-loop-i-init invariant-loop decreases-loop
 loop-holds c = (search rules, rw add-zero)
 
-returns : tie.Need-returns invariant-loop decreases-loop
+returns : tie.Need-returns-then-i-identity invariant-loop decreases-loop
 returns c =
-    let turn = c.before.before in
-    match-whole _ _ _ _ turn.loop-test.true turn.before.loop.invariant.1 c.if1.true
+    match-whole _ _ _ _ c.loop-i-test.true c.loop-i.invariant.1 c.if-i-identity.true
 
-returns-2 : tie.Need-returns-2 invariant-loop decreases-loop
+returns-2 : tie.Need-returns-then-b-identity invariant-loop decreases-loop
 returns-2 c =
-    let turn = c.before.before.before.before in
-    let more = below turn.before.loop.invariant.0 c.before.before.if1.false in
-    sym (ap is_some (match-other _ _ _ _ turn.loop-test.true turn.before.loop.invariant.1 more c.if2.true))
+    let more = below c.loop-i.invariant.0 c.if-i-identity.false in
+    sym (ap is_some (match-other _ _ _ _ c.loop-i-test.true c.loop-i.invariant.1 more c.if-b-identity.true))
 
-returns-3 : tie.Need-returns-3 invariant-loop decreases-loop
+returns-3 : tie.Need-returns-then-b-eq10 invariant-loop decreases-loop
 returns-3 c =
-    let turn = c.before.before.before.before.before in
-    let more = below turn.before.loop.invariant.0 c.before.before.before.if1.false in
-    sym (ap is_some (match-ended _ _ _ _ turn.loop-test.true turn.before.loop.invariant.1 more c.if3.true))
+    let more = below c.loop-i.invariant.0 c.if-i-identity.false in
+    sym (ap is_some (match-ended _ _ _ _ c.loop-i-test.true c.loop-i.invariant.1 more c.if-b-eq10.true))
 
-loop-again : tie.Need-loop-preserved invariant-loop decreases-loop
+loop-again : tie.Need-loop-i-preserved invariant-loop decreases-loop
 loop-again c =
-    let turn = c.before.before.before.before.before in
-    let more = below turn.before.loop.invariant.0 c.before.before.before.if1.false in
-    (search rules, match-more _ _ _ _ turn.loop-test.true turn.before.loop.invariant.1 more c.before.if2.false c.if3.false)
+    let more = below c.loop-i.invariant.0 c.if-i-identity.false in
+    (search rules, match-more _ _ _ _ c.loop-i-test.true c.loop-i.invariant.1 more c.if-b-identity.false c.if-b-eq10.false)
 
-returns-4 : tie.Need-returns-4 invariant-loop decreases-loop
-returns-4 c = sym (ap is_some (match-end _ _ _ _ c.loop-test.false c.before.loop.invariant.1))
+returns-4 : tie.Need-returns invariant-loop decreases-loop
+returns-4 c = sym (ap is_some (match-end _ _ _ _ c.loop-i-test.false c.loop-i.invariant.1))
 
-pub begins-spec : {M : Type 1} → statement M
-begins-spec =
+pub begins_spec : {M : Type 1} → statement M
+begins_spec =
     tie.close
     (tie.spec
     invariant-loop

@@ -10,26 +10,26 @@ use lib.ListN.{length, drop}
 use Rattle.keytable.specs.Inner.{fingerprint}
 use Rattle.keytable.proofs.Apart.{fingerprint-more, fingerprint-end}
 
-abbrev invariant-loop : tie.invariant-loop
+abbrev invariant-loop : tie.invariant-loop-i
 invariant-loop s p₀ i₀ p i = (i ≤ length s) × (fingerprint 0 s ≡ fingerprint p (drop i s))
 
-abbrev decreases-loop : tie.decreases-loop
+abbrev decreases-loop : tie.decreases-loop-i
 decreases-loop s p₀ i₀ p i = length s - i
 
-cast-p : tie.Need-overflow-cast-p invariant-loop decreases-loop
-cast-p c = omega (arith, c.shared-slice-known.given c.before.before.loop.i)
+cast-p : tie.Need-overflow_cast-p invariant-loop decreases-loop
+cast-p c = omega (arith, c.shared_slice_known-1.given c.loop-i.i)
 
-add-p : tie.Need-overflow-add-p invariant-loop decreases-loop
-add-p c = omega (arith, c.shared-slice-known.given c.before.before.loop.i)
+add-p : tie.Need-overflow_add-p invariant-loop decreases-loop
+add-p c = omega (arith, c.shared_slice_known-1.given c.loop-i.i)
 
-loop-again : tie.Need-loop-preserved invariant-loop decreases-loop
-loop-again c = (search rules, fingerprint-more _ _ _ c.before.loop-test.true c.before.before.loop.invariant.1)
+loop-again : tie.Need-loop-i-preserved invariant-loop decreases-loop
+loop-again c = (search rules, fingerprint-more _ _ _ c.loop-i-test.true c.loop-i.invariant.1)
 
 returns : tie.Need-returns invariant-loop decreases-loop
-returns c = fingerprint-end _ _ _ c.loop-test.false c.before.loop.invariant.1
+returns c = fingerprint-end _ _ _ c.loop-i-test.false c.loop-i.invariant.1
 
-pub fingerprint-spec : {M : Type 1} → statement M
-fingerprint-spec =
+pub fingerprint_spec : {M : Type 1} → statement M
+fingerprint_spec =
     tie.close
     (tie.spec
     invariant-loop

@@ -15,17 +15,17 @@ use Rattle.keytable.proofs.Chains.{Walked, begins-own, other_tag, walk_begins, w
 use Rattle.keytable.proofs.distinct.repeated.Statement.{statement}
 use Rattle.keytable.proofs.distinct.repeated.Tie as tie
 
-abbrev invariant-loop : tie.invariant-loop
+abbrev invariant-loop : tie.invariant-loop-c
 invariant-loop table starts tags links n latest identity tag c₀ c = Walked table starts identity n c
 
-abbrev decreases-loop : tie.decreases-loop
+abbrev decreases-loop : tie.decreases-loop-c
 decreases-loop table starts tags links n latest identity tag c₀ c = c
 
-loop-holds : tie.Need-loop-init invariant-loop decreases-loop
-loop-holds c = let s = c.before.before in walk_begins _ _ _ _ _ s.requires.1.1.1.1.1
+loop-holds : tie.Need-loop-c-init invariant-loop decreases-loop
+loop-holds c = walk_begins _ _ _ _ _ c.requires.1.1.1.1.1
 
 -- a turn of the loop: the line that it looks at
-module _ (c : tie.In-loop invariant-loop decreases-loop) where
+module _ (c : tie.In-loop-c invariant-loop decreases-loop) where
   abbrev start : tie.Start invariant-loop decreases-loop
   start = c.before.before.before.before
 
@@ -39,65 +39,59 @@ module _ (c : tie.In-loop invariant-loop decreases-loop) where
   identity = start.args.identity.now
 
   abbrev line : ℕ
-  line = c.before.loop.c - 1
+  line = c.loop-c.c - 1
 
   below : line < start.args.n
-  below = omega (arith, c.loop-test.true, c.before.loop.invariant.few)
+  below = omega (arith, c.loop-c-test.true, c.loop-c.invariant.few)
 
   inside : line < 256
-  inside = omega (arith, below, start.pre.0)
+  inside = omega (arith, below, start.requires.0)
 
   linked : Linked table starts start.args.tags.now start.args.links.now line
-  linked = start.pre.1.1.1.1.0 line below
+  linked = start.requires.1.1.1.1.0 line below
 
   own : begins identity table (get_or starts line 0) ≡ same identity (identity_at table (get_or starts line 0))
-  own = begins-own identity _ start.pre.1.1.0 linked.valid
+  own = begins-own identity _ start.requires.1.1.0 linked.valid
 
-cast-begins : tie.Need-overflow-cast-begins invariant-loop decreases-loop
-cast-begins c = let h = (linked c.before.before.before).inside in search rules
+cast-begins : tie.Need-overflow_cast-starts invariant-loop decreases-loop
+cast-begins c = let h = (linked c.before.before.before.before.before).inside in search rules
 
 begins-requires : tie.Need-begins-requires invariant-loop decreases-loop
-begins-requires c κs = let h = (linked c.before.before.before).inside in search rules
+begins-requires c κs = let h = (linked c.before.before.before.before.before).inside in search rules
 
-returns : tie.Need-returns invariant-loop decreases-loop
+returns : tie.Need-returns-then-begins invariant-loop decreases-loop
 returns c =
-    let t = c.before.before.before.before.before in
-    one_hit (table t) (starts t) (identity t) (line t) (omega (arith, below t, (start t).requires.1.0)) _ (below t)
-    (sym (own t) ∙ sym c.before.begins.ensures ∙ c.if2.true)
+    one_hit (table c.before.before.before.before.before.before.before) (starts c.before.before.before.before.before.before.before) (identity c.before.before.before.before.before.before.before) (line c.before.before.before.before.before.before.before) (omega (arith, below c.before.before.before.before.before.before.before, (start c.before.before.before.before.before.before.before).requires.1.0)) _ (below c.before.before.before.before.before.before.before)
+    (sym (own c.before.before.before.before.before.before.before) ∙ sym c.begins.ensures ∙ c.if-begins.true)
 
 -- where the line is another's
-missed : (c : tie.Joined1 invariant-loop decreases-loop) → let t = c.before.before in
-    same (identity t) (identity_at (table t) (get_or (starts t) (line t) 0)) ≡ false
+missed : (c : tie.Joined-tags-c invariant-loop decreases-loop) → same (identity c.before.before.before) (identity_at (table c.before.before.before) (get_or (starts c.before.before.before) (line c.before.before.before) 0)) ≡ false
 missed c =
-    let t = c.before.before in
-    ⊎_elim (λ o. sym (own t) ∙ sym o.2.ensures ∙ o.3.left)
-    (λ o. other_tag (table t) (starts t) (identity t) (start t).args.n (line t) _ _ (linked t).tagged (start t).requires.1.1.1.0 o.left)
-    c.if1.branch
+    ⊎_elim (λ o. sym (own c.before.before.before) ∙ sym o.2.ensures ∙ o.3.left)
+    (λ o. other_tag (table c.before.before.before) (starts c.before.before.before) (identity c.before.before.before) (start c.before.before.before).args.n (line c.before.before.before) _ _ (linked c.before.before.before).tagged (start c.before.before.before).requires.1.1.1.0 o.left)
+    c.if-tags-c.branch
 
-cast-c : tie.Need-overflow-cast-c invariant-loop decreases-loop
+cast-c : tie.Need-overflow_cast-c invariant-loop decreases-loop
 cast-c c =
-    let t = c.before.before.before in
-    let small = (linked t).link.few in
-    let few = inside t in
+    let small = (linked c.before.before.before.before.before).link.few in
+    let few = inside c.before.before.before.before.before in
     search rules
 
-loop-less : tie.Need-loop-smaller invariant-loop decreases-loop
-loop-less c = let t = c.before.before.before in omega (arith, (linked t).link.few, t.loop-test.true)
+loop-less : tie.Need-loop-c-smaller invariant-loop decreases-loop
+loop-less c = omega (arith, (linked c.before.before.before.before.before).link.few, c.loop-c-test.true)
 
-loop-again : tie.Need-loop-preserved invariant-loop decreases-loop
+loop-again : tie.Need-loop-c-preserved invariant-loop decreases-loop
 loop-again c =
-    let t = c.before.before.before in
-    let here : t.before.loop.c ≡ suc (line t) = omega (arith, t.loop-test.true) in
-    walk-on (table t) (starts t) (identity t) _ (line t) _ _ here (linked t).link (missed c.before) t.before.loop.invariant
+    let here : c.loop-c.c ≡ suc (line c.before.before.before.before.before) = omega (arith, c.loop-c-test.true) in
+    walk-on (table c.before.before.before.before.before) (starts c.before.before.before.before.before) (identity c.before.before.before.before.before) _ (line c.before.before.before.before.before) _ _ here (linked c.before.before.before.before.before).link (missed c.before.before) c.loop-c.invariant
 
-returns-2 : tie.Need-returns-2 invariant-loop decreases-loop
+returns-2 : tie.Need-returns invariant-loop decreases-loop
 returns-2 c =
-    let s = c.before.before.before.before in
-    let done : c.before.loop.c ≡ 0 = omega (arith, c.loop-test.false) in
-    sym (walk_ends _ _ _ _ _ done s.requires.1.0 c.before.loop.invariant)
+    let done : c.loop-c.c ≡ 0 = omega (arith, c.loop-c-test.false) in
+    sym (walk_ends _ _ _ _ _ done c.requires.1.0 c.loop-c.invariant)
 
-pub repeated-spec : {M : Type 1} → statement M
-repeated-spec =
+pub repeated_spec : {M : Type 1} → statement M
+repeated_spec =
     tie.close
     (tie.spec
     invariant-loop
@@ -105,16 +99,16 @@ repeated-spec =
     loop-holds
     (λ c. search rules)
     (λ c. search rules)
-    (λ c. inside c)
+    (λ c. inside c.before)
     (λ c. search rules)
     (λ c. search rules)
-    (λ c. inside c.before.before)
+    (λ c. inside c.before.before.before.before)
     cast-begins
     begins-requires
     returns
     (λ c. search rules)
     (λ c. search rules)
-    (λ c. inside c.before.before)
+    (λ c. inside c.before.before.before.before)
     cast-c
     loop-less
     loop-again

@@ -16,10 +16,10 @@ use Rattle.keytable.proofs.Matching.{Matched, match-more, match-other, match-end
 use Rattle.keytable.proofs.entries.first_line.Statement.{statement}
 use Rattle.keytable.proofs.entries.first_line.Tie as tie
 
-abbrev invariant-loop : tie.invariant-loop
+abbrev invariant-loop : tie.invariant-loop-i
 invariant-loop table starts identity k at i₀ i = (i ≤ length identity) × Matched table identity at i
 
-abbrev decreases-loop : tie.decreases-loop
+abbrev decreases-loop : tie.decreases-loop-i
 decreases-loop table starts identity k at i₀ i = length table - (at + i)
 
 abbrev invariant-lines : tie.invariant-lines
@@ -32,7 +32,7 @@ below : {i n : ℕ} → i ≤ n → (i ≡ n → ⊥) → i < n
 below h other = omega arith
 
 -- where a start has been read
-module _ (c : tie.After-shared-slice-known4 invariant-loop decreases-loop invariant-lines decreases-lines) where
+module _ (c : tie.After-shared_slice_known-in-lines-1 invariant-loop decreases-loop invariant-lines decreases-lines) where
   abbrev at-lines : tie.At-lines invariant-loop decreases-loop invariant-lines decreases-lines
   at-lines = c.before.before
 
@@ -52,58 +52,54 @@ module _ (c : tie.After-shared-slice-known4 invariant-loop decreases-loop invari
   place = get_or starts at-lines.lines.k 0
 
   small : place < 4294967296
-  small = omega (arith, c.shared-slice-known4.given at-lines.lines.k)
+  small = omega (arith, c.shared_slice_known-in-lines-1.given at-lines.lines.k)
 
   on : key_text identity (line_at table place) ≡ none
       → placed 0 identity table starts ≡ placed (at-lines.lines.k + 1) identity table (drop (at-lines.lines.k + 1) starts)
-  on = search-on _ _ _ _ c.before.if1.false at-lines.lines.inv.1
+  on = search-on _ _ _ _ c.if-k-starts.false at-lines.lines.invariant.1
 
-cast-at : tie.Need-overflow-cast-at invariant-loop decreases-loop invariant-lines decreases-lines
+cast-at : tie.Need-overflow_cast-at invariant-loop decreases-loop invariant-lines decreases-lines
 cast-at c = let b = small c in search rules
 
-loop-holds : tie.Need-loop-init invariant-loop decreases-loop invariant-lines decreases-lines
+loop-holds : tie.Need-loop-i-init invariant-loop decreases-loop invariant-lines decreases-lines
 loop-holds c = (search rules, rw add-zero)
 
-add-loop : tie.Need-overflow-add-loop invariant-loop decreases-loop invariant-lines decreases-lines
+add-loop : tie.Need-overflow_add-at invariant-loop decreases-loop invariant-lines decreases-lines
 add-loop c = let b = small c.before in search rules
 
-loop-again : tie.Need-loop-preserved invariant-loop decreases-loop invariant-lines decreases-lines
+loop-again : tie.Need-loop-i-preserved invariant-loop decreases-loop invariant-lines decreases-lines
 loop-again c =
-    let turn = c.before.before.before.before.before in
-    let more = below turn.before.loop.invariant.0 c.before.before.before.if2.false in
-    (search rules, match-more _ _ _ _ turn.loop-test.true turn.before.loop.invariant.1 more c.before.if4.false c.if5.false)
+    let more = below c.loop-i.invariant.0 c.if-i-identity.false in
+    (search rules, match-more _ _ _ _ c.loop-i-test.true c.loop-i.invariant.1 more c.if-b-identity.false c.if-b-eq10.false)
 
 -- every way out of the comparison but the hit: the line does not match
-missed : (c : tie.Left-loop invariant-loop decreases-loop invariant-lines decreases-lines) → let f = c.before.before in
-    key_text (identity f) (line_at (table f) (place f)) ≡ none
+missed : (c : tie.Left-loop-i invariant-loop decreases-loop invariant-lines decreases-lines) → key_text (identity c.before.before) (line_at (table c.before.before) (place c.before.before)) ≡ none
 missed c =
-    let m = c.before.loop.invariant.1 in
-    let few = c.before.loop.invariant.0 in
+    let m = c.loop-i.invariant.1 in
+    let few = c.loop-i.invariant.0 in
     ⊎_elim (λ o. match-end _ _ _ _ o.left m)
     (⊎_elim (λ o. match-longer _ _ _ _ o.0.taken m o.2.taken o.3.left)
     (⊎_elim (λ o. match-other _ _ _ _ o.0.taken m (below few o.2.left) o.4.taken)
     (λ o. match-ended _ _ _ _ o.0.taken m (below few o.2.left) o.5.taken)))
-    c.loop-test.branch
+    c.loop-i-test.branch
 
 lines-again : tie.Need-lines-preserved invariant-loop decreases-loop invariant-lines decreases-lines
 lines-again c = (search rules, on c.before.before (missed c))
 
-returns : tie.Need-returns invariant-loop decreases-loop invariant-lines decreases-lines
+returns : tie.Need-returns-then-k-starts invariant-loop decreases-loop invariant-lines decreases-lines
 returns c =
-    let a = c.before.before.before.before.before.args in
-    let none_left = ap (λ (l : List ℕ). placed c.before.lines.k a.identity.now a.table.now l) (drop_of_length-le _ c.if1.true) in
-    sym (c.before.lines.invariant.1 ∙ none_left)
+    let a = c.args in
+    let none_left = ap (λ (l : List ℕ). placed c.lines.k a.identity.now a.table.now l) (drop_of_length-le _ c.if-k-starts.true) in
+    sym (c.lines.invariant.1 ∙ none_left)
 
-returns-2 : tie.Need-returns-2 invariant-loop decreases-loop invariant-lines decreases-lines
+returns-2 : tie.Need-returns-then-b-eq58 invariant-loop decreases-loop invariant-lines decreases-lines
 returns-2 c =
-    let turn = c.before.before.before.before in
-    let f = turn.before.before in
-    let whole = c.before.before.if2.true in
-    let text = match-colon _ _ _ _ turn.loop-test.true turn.before.loop.invariant.1 whole c.before.if3.true in
-    search-hit _ _ _ _ f.before.if1.false (at-lines f).lines.invariant.1 _ _ (rw whole) c.line-end.ensures text
+    let whole = c.if-i-identity.true in
+    let text = match-colon _ _ _ _ c.loop-i-test.true c.loop-i.invariant.1 whole c.if-b-eq58.true in
+    search-hit _ _ _ _ c.if-k-starts.false (at-lines c.before.before.before.before.before.before).lines.invariant.1 _ _ (rw whole) c.line_end.ensures text
 
-pub first-line-spec : {M : Type 1} → statement M
-first-line-spec =
+pub first_line_spec : {M : Type 1} → statement M
+first_line_spec =
     tie.close
     (tie.spec
     invariant-loop

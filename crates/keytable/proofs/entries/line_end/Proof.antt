@@ -12,12 +12,11 @@ use Rattle.keytable.proofs.Lines.{found_at}
 use Rattle.keytable.proofs.entries.line_end.Statement.{statement}
 use Rattle.keytable.proofs.entries.line_end.Tie as tie
 
-returns : tie.Need-returns
+returns : tie.Need-returns-else-table-end-ne10
 returns c =
-    let start = c.before.before in
-    let table = start.args.table.now in
-    found_at line_end table start.args.at (length table) _ start.requires (omega arith) c.find.ensures.0
-    ∙ ap (λ (l : List ℕ). start.args.at + length (upto line_end l)) (part_to_end table start.args.at)
+    let table = c.args.table.now in
+    found_at line_end table c.args.at (length table) _ c.requires (omega arith) c.find.ensures.0
+    ∙ ap (λ (l : List ℕ). c.args.at + length (upto line_end l)) (part_to_end table c.args.at)
 
-pub line-end-spec : {M : Type 1} → statement M
-line-end-spec = tie.close (tie.spec (λ c κs. search rules) returns)
+pub line_end_spec : {M : Type 1} → statement M
+line_end_spec = tie.close (tie.spec (λ c κs. search rules) returns)

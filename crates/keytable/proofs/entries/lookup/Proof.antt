@@ -11,16 +11,16 @@ use Rattle.keytable.proofs.Spots.{Found, found, key-listed, key-unlisted, looked
 use Rattle.keytable.proofs.entries.lookup.Statement.{statement}
 use Rattle.keytable.proofs.entries.lookup.Tie as tie
 
-returns : tie.Need-returns
-returns c = rw (looked-past _ _ _ _ c.if1.true) (refuses-answers _ _)
+returns : tie.Need-returns-then-starts-count
+returns c = rw (looked-past _ _ _ _ c.if-starts-count.true) (refuses-answers _ _)
 
-slice-aggregate-first-line : tie.Need-slice-aggregate-first-line
-slice-aggregate-first-line c = sym (length-take-le _ _ c.before.if1.false)
+slice-aggregate-first-line : tie.Need-slice_bounds-first_line-end
+slice-aggregate-first-line c = sym (length-take-le _ _ c.if-starts-count.false)
 
 -- where the list has been searched
-module _ (c : tie.After-first-line) where
+module _ (c : tie.After-first_line-hit) where
   abbrev start : tie.Start
-  start = c.before.before.before.before.before.before.before
+  start = c.before.before.before.before.before.before
 
   abbrev table : List ℕ
   table = start.args.table.now
@@ -32,37 +32,35 @@ module _ (c : tie.After-first-line) where
   identity = start.args.identity.now
 
 -- where the search has found a line
-module _ (c : tie.After-known-told) where
+module _ (c : tie.In-Line) where
   abbrev from : ℕ
-  from = c.before.hit.given.0.1.0
+  from = c.in-Line.from
 
   abbrev to : ℕ
-  to = c.before.hit.given.0.1.1.0
+  to = c.in-Line.to
 
-  abbrev hit : tie.After-first-line
-  hit = c.before.before.before
+  abbrev hit : tie.After-first_line-hit
+  hit = c.before
 
   there : Found (table hit) (identity hit) (starts hit) from to
-  there = found (table hit) (identity hit) 0 (starts hit) _ from to (sym hit.first-line.ensures ∙ c.before.hit.given.1)
+  there = found (table hit) (identity hit) 0 (starts hit) _ from to (sym hit.first_line-hit.ensures ∙ c.in-Line.is)
 
-returns-2 : tie.Need-returns-2
+returns-2 : tie.Need-returns-in-Line
 returns-2 c =
-    let k = c.before.before.before.before.before in
-    let l = hit k in
-    rw (looked-within (table l) _ _ (identity l) l.before.before.if1.left, key-listed (table l) (identity l) (starts l) (from k) (to k) (there k))
-    c.before.before.key-into.ensures
+    let l = hit c.before.before.before.before.before in
+    rw (looked-within (table l) _ _ (identity l) l.if-starts-count.false, key-listed (table l) (identity l) (starts l) (from c.before.before.before.before.before) (to c.before.before.before.before.before) (there c.before.before.before.before.before))
+    c.key_into.ensures
 
-returns-3 : tie.Need-returns-3
+returns-3 : tie.Need-returns-in-Nothing
 returns-3 c =
-    let l = c.before.before in
     rw (
-      looked-within (table l) _ _ (identity l) l.before.before.if1.false,
-      key-unlisted (table l) (identity l) (starts l) (sym l.first-line.ensures ∙ c.enum_told.given.1),
+      looked-within (table c.before) _ _ (identity c.before) c.if-starts-count.false,
+      key-unlisted (table c.before) (identity c.before) (starts c.before) (sym c.first_line-hit.ensures ∙ c.in-Nothing.is),
     )
     (refuses-answers _ _)
 
-pub lookup-spec : {M : Type 1} → statement M
-lookup-spec =
+pub lookup_spec : {M : Type 1} → statement M
+lookup_spec =
     tie.close
     (tie.spec
     returns

@@ -4,14 +4,14 @@ use borrow.Author.Tests.{le-leb, lt-leb}
 use Rattle.keytable.proofs.hex.between.Statement.{statement}
 use Rattle.keytable.proofs.hex.between.Tie as tie
 
-returns : tie.Need-returns
-returns c = simp (lt-leb _ _ c.if1.true)
+returns : tie.Need-returns-then-b-low
+returns c = simp (lt-leb _ _ c.if-b-low.true)
 
-returns-2 : tie.Need-returns-2
-returns-2 c = simp (le-leb _ _ c.before.if1.false, lt-leb _ _ c.if2.true)
+returns-2 : tie.Need-returns-then-b-high
+returns-2 c = simp (le-leb _ _ c.if-b-low.false, lt-leb _ _ c.if-b-high.true)
 
-returns-3 : tie.Need-returns-3
-returns-3 c = simp (le-leb _ _ c.before.if1.false, le-leb _ _ c.if2.false)
+returns-3 : tie.Need-returns
+returns-3 c = simp (le-leb _ _ c.if-b-low.false, le-leb _ _ c.if-b-high.false)
 
-pub between-spec : {M : Type 1} → statement M
-between-spec = tie.close (tie.spec returns returns-2 returns-3)
+pub between_spec : {M : Type 1} → statement M
+between_spec = tie.close (tie.spec returns returns-2 returns-3)

@@ -12,15 +12,15 @@ use Rattle.keytable.proofs.Pairs.{digit-small, length-decoded, decoded-at}
 use Rattle.keytable.proofs.hex.decode.Statement.{statement}
 use Rattle.keytable.proofs.hex.decode.Tie as tie
 
-abbrev invariant-loop : tie.invariant-loop
+abbrev invariant-loop : tie.invariant-loop-i
 invariant-loop text out₀ n i₀ out i = (i ≤ n) × (length out ≡ length out₀) × (out ≡ filled (decoded text) out₀ i)
 
-abbrev decreases-loop : tie.decreases-loop
+abbrev decreases-loop : tie.decreases-loop-i
 decreases-loop text out₀ n i₀ out i = n - i
 
 -- the two digits, where both have been read, and the byte that they stand for
-module _ (c : tie.After-digit2 invariant-loop decreases-loop) where
-  abbrev at-loop : tie.At-loop invariant-loop decreases-loop
+module _ (c : tie.After-digit-low invariant-loop decreases-loop) where
+  abbrev at-loop : tie.At-loop-i invariant-loop decreases-loop
   at-loop = c.before.before.before.before.before
 
   abbrev start : tie.Start invariant-loop decreases-loop
@@ -30,45 +30,45 @@ module _ (c : tie.After-digit2 invariant-loop decreases-loop) where
   digits = start.args.text.now
 
   abbrev place : ℕ
-  place = at-loop.loop.i
+  place = at-loop.loop-i.i
 
-  high : c.before.before.digit.result < 16
-  high = rw c.before.before.digit.ensures (digit-small digits (2 * place) (search rules) start.pre.0)
+  high : c.digit-high.result < 16
+  high = rw c.digit-high.ensures (digit-small digits (2 * place) (search rules) start.requires.0)
 
-  low : c.digit2.result < 16
-  low = rw c.digit2.ensures (digit-small digits (2 * place + 1) (search rules) start.pre.0)
+  low : c.digit-low.result < 16
+  low = rw c.digit-low.ensures (digit-small digits (2 * place + 1) (search rules) start.requires.0)
 
-  value : c.before.before.digit.result * 16 + c.digit2.result ≡ get_or (decoded digits) place 0
+  value : c.digit-high.result * 16 + c.digit-low.result ≡ get_or (decoded digits) place 0
   value =
-      ap₂ (λ (h : ℕ) (l : ℕ). h * 16 + l) c.before.before.digit.ensures c.digit2.ensures
+      ap₂ (λ (h : ℕ) (l : ℕ). h * 16 + l) c.digit-high.ensures c.digit-low.ensures
       ∙ sym (decoded-at digits place (search rules))
 
-mul-out : tie.Need-overflow-mul-out invariant-loop decreases-loop
+mul-out : tie.Need-overflow_mul-out invariant-loop decreases-loop
 mul-out c = let h = high c in search rules
 
-add-out : tie.Need-overflow-add-out invariant-loop decreases-loop
+add-out : tie.Need-overflow_add-out invariant-loop decreases-loop
 add-out c = let h = high c in let l = low c in search rules
 
-slice-write-out : tie.Need-slice-write-out invariant-loop decreases-loop
+slice-write-out : tie.Need-bounds-out-i invariant-loop decreases-loop
 slice-write-out c = omega arith
 
-loop-again : tie.Need-loop-preserved invariant-loop decreases-loop
+loop-again : tie.Need-loop-i-preserved invariant-loop decreases-loop
 loop-again c =
     let t = at-loop c in
     let turn = fill-turn (decoded (digits c)) (start c).args.out.now (place c) (rw length-decoded (search rules)) (search rules) in
-    (search rules, simp length-set t.loop.inv.1, rw t.loop.inv.2 (rw (value c) turn))
+    (search rules, simp length-set t.loop-i.invariant.1, rw t.loop-i.invariant.2 (rw (value c) turn))
 
-same_length : tie.Need-same-length invariant-loop decreases-loop
-same_length c = c.before.loop.invariant.1
+same_length : tie.Need-shape_of-out invariant-loop decreases-loop
+same_length c = c.loop-i.invariant.1
 
 returns : tie.Need-returns invariant-loop decreases-loop
 returns c =
-    let text = c.before.before.before.before.args.text.now in
-    let end : c.before.loop.i ≡ length text / 2 = omega arith in
-    c.before.loop.invariant.2 ∙ filled-all (decoded text) _ _ _ (length-decoded text) end
+    let text = c.args.text.now in
+    let end : c.loop-i.i ≡ length text / 2 = omega arith in
+    c.loop-i.invariant.2 ∙ filled-all (decoded text) _ _ _ (length-decoded text) end
 
-pub decode-spec : {M : Type 1} → statement M
-decode-spec =
+pub decode_spec : {M : Type 1} → statement M
+decode_spec =
     tie.close
     (tie.spec
     invariant-loop

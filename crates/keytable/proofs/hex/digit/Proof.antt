@@ -9,44 +9,40 @@ use Rattle.keytable.proofs.Tests.{between-sound}
 use Rattle.keytable.proofs.hex.digit.Statement.{statement}
 use Rattle.keytable.proofs.hex.digit.Tie as tie
 
-sub-result : tie.Need-overflow-sub-result
-sub-result c = omega (arith, between-sound 48 57 c.before.before.args.b (sym c.before.between.ensures ∙ c.if1.true))
+sub-result : tie.Need-overflow_sub-result
+sub-result c = omega (arith, between-sound 48 57 c.args.b (sym c.between.ensures ∙ c.if-between.true))
 
-returns : tie.Need-returns
-returns c = simp (sym c.before.between.ensures ∙ c.if1.true)
+returns : tie.Need-returns-then-between
+returns c = simp (sym c.between.ensures ∙ c.if-between.true)
 
 -- no digit 0 to 9, and none A to F either
-not_first : (c : tie.Else1) → between 48 57 c.before.before.args.b ≡ false
-not_first c = sym c.before.between.ensures ∙ c.if1.false
+not_first : (c : tie.Else-between) → between 48 57 c.args.b ≡ false
+not_first c = sym c.between.ensures ∙ c.if-between.false
 
-not-second : (c : tie.Else2) → between 65 70 c.before.before.before.before.args.b ≡ false
-not-second c = sym c.before.between2.ensures ∙ c.if2.false
+not-second : (c : tie.Else-between-2) → between 65 70 c.args.b ≡ false
+not-second c = sym c.between-2.ensures ∙ c.if-between-2.false
 
-sub-result-2 : tie.Need-overflow-sub-result-2
+sub-result-2 : tie.Need-overflow_sub-result-then-between-2
 sub-result-2 c =
-    let first = c.before.before in
-    omega (arith, between-sound 65 70 first.before.before.args.b (sym c.before.between2.ensures ∙ c.if2.true))
+    omega (arith, between-sound 65 70 c.args.b (sym c.between-2.ensures ∙ c.if-between-2.true))
 
-returns-2 : tie.Need-returns-2
-returns-2 c = simp (not_first c.before.before, sym c.before.between2.ensures ∙ c.if2.true)
+returns-2 : tie.Need-returns-then-between-2
+returns-2 c = simp (not_first c.before.before, sym c.between-2.ensures ∙ c.if-between-2.true)
 
-sub-result-3 : tie.Need-overflow-sub-result-3
+sub-result-3 : tie.Need-overflow_sub-result-then-between-3
 sub-result-3 c =
-    let first = c.before.before.before.before in
-    omega (arith, between-sound 97 102 first.before.before.args.b (sym c.before.between3.ensures ∙ c.if3.true))
+    omega (arith, between-sound 97 102 c.args.b (sym c.between-3.ensures ∙ c.if-between-3.true))
 
-returns-3 : tie.Need-returns-3
+returns-3 : tie.Need-returns-then-between-3
 returns-3 c =
-    let second = c.before.before in
-    simp (not_first second.before.before, not-second second, sym c.before.between3.ensures ∙ c.if3.true)
+    simp (not_first c.before.before.before.before, not-second c.before.before, sym c.between-3.ensures ∙ c.if-between-3.true)
 
-returns-4 : tie.Need-returns-4
+returns-4 : tie.Need-returns
 returns-4 c =
-    let second = c.before.before in
-    simp (not_first second.before.before, not-second second, sym c.before.between3.ensures ∙ c.if3.false)
+    simp (not_first c.before.before.before.before, not-second c.before.before, sym c.between-3.ensures ∙ c.if-between-3.false)
 
-pub digit-spec : {M : Type 1} → statement M
-digit-spec =
+pub digit_spec : {M : Type 1} → statement M
+digit_spec =
     tie.close
     (tie.spec
     (λ c κs. search rules)

@@ -36,21 +36,21 @@ bit-right (suc n) at d e low high =
         rw same (alike (bit at) (hex_digit (48 + at)) (and_left (cond (bit at) (hex_digit (48 + at)) (not (hex_digit (48 + at)))) (right n (at + 1)) e))
     go (no other) ih = ih (omega arith) (omega arith)
 
-returns : tie.Need-returns
+returns : tie.Need-returns-then-b-lt48
 returns c =
-    let low : (n : ℕ) → 48 ≤ n → c.before.args.b < n = λ n h. omega (arith, c.if1.true) in
+    let low : (n : ℕ) → 48 ≤ n → c.args.b < n = λ n h. omega (arith, c.if-b-lt48.true) in
     simp (lt-leb 48 _ (low 48 (omega arith)), lt-leb 65 _ (low 65 (omega arith)), lt-leb 97 _ (low 97 (omega arith)))
 
-returns-2 : tie.Need-returns-2
+returns-2 : tie.Need-returns-then-b-gt102
 returns-2 c =
-    let high : (n : ℕ) → n ≤ 102 → n < c.before.before.args.b = λ n h. omega (arith, c.if2.true) in
+    let high : (n : ℕ) → n ≤ 102 → n < c.args.b = λ n h. omega (arith, c.if-b-gt102.true) in
     simp (lt-leb _ 57 (high 57 (omega arith)), lt-leb _ 70 (high 70 (omega arith)), lt-leb _ 102 (high 102 (omega arith)), and-false)
 
-returns-3 : tie.Need-returns-3
+returns-3 : tie.Need-returns
 returns-3 c =
-    let b = c.before.before.args.b in
-    let there : 48 + (b - 48) ≡ b = omega (arith, c.before.if1.false) in
-    bit-right 55 0 (b - 48) refl (omega arith) (omega (arith, c.if2.false)) ∙ ap hex_digit there
+    let b = c.args.b in
+    let there : 48 + (b - 48) ≡ b = omega (arith, c.if-b-lt48.false) in
+    bit-right 55 0 (b - 48) refl (omega arith) (omega (arith, c.if-b-gt102.false)) ∙ ap hex_digit there
 
-pub hex-digit-spec : {M : Type 1} → statement M
-hex-digit-spec = tie.close (tie.spec returns returns-2 (λ c. search rules) (λ c. search rules) returns-3)
+pub hex_digit_spec : {M : Type 1} → statement M
+hex_digit_spec = tie.close (tie.spec returns returns-2 (λ c. search rules) (λ c. search rules) returns-3)

@@ -10,40 +10,40 @@ use Rattle.keytable.proofs.Scanned.{unusable-formed, lines-formed, lines-inside,
 use Rattle.keytable.proofs.list.judge.Statement.{statement}
 use Rattle.keytable.proofs.list.judge.Tie as tie
 
-array-share-prefix-own : tie.Need-array-share-prefix-own
-array-share-prefix-own c = lines-inside c.before.before.before.scan.ensures c.before.n.given.1
+array-share-prefix-own : tie.Need-slice_bounds-own-end
+array-share-prefix-own c = lines-inside c.scan.ensures c.in-Lines.is
 
-slice-aggregate-same-list : tie.Need-slice-aggregate-same-list
+slice-aggregate-same-list : tie.Need-slice_bounds-same_list-end
 slice-aggregate-same-list c = sym (length-take-le _ _ (array-share-prefix-own c.before))
 
 -- what the comparison says
-module _ (c : tie.After-same-list) where
-  abbrev found : tie.After-n
-  found = c.before.before.before
+module _ (c : tie.After-same_list) where
+  abbrev found : tie.In-Lines
+  found = c.before.before
 
   abbrev scanned : tie.After-scan
-  scanned = found.before.before
+  scanned = found.before
 
   abbrev start : tie.Start
   start = scanned.before.before.before.before
 
   formed : well_formed start.args.table.now ≡ true
-  formed = lines-formed scanned.scan.ensures found.n.given.1
+  formed = lines-formed scanned.scan.ensures found.in-Lines.is
 
-  listed : is_list start.args.table.now start.args.starts.now start.args.count ≡ c.same-list.result
-  listed = lines-list scanned.scan.ensures found.n.given.1 _ _ ∙ sym c.same-list.ensures
+  listed : is_list start.args.table.now start.args.starts.now start.args.count ≡ c.same_list.result
+  listed = lines-list scanned.scan.ensures found.in-Lines.is _ _ ∙ sym c.same_list.ensures
 
-returns : tie.Need-returns
-returns c = rw (formed c.before, listed c.before ∙ c.if1.true)
+returns : tie.Need-returns-then-same_list
+returns c = rw (formed c.before, listed c.before ∙ c.if-same_list.true)
 
-returns-2 : tie.Need-returns-2
-returns-2 c = rw (formed c.before, listed c.before ∙ c.if1.false)
+returns-2 : tie.Need-returns-else-same_list
+returns-2 c = rw (formed c.before, listed c.before ∙ c.if-same_list.false)
 
-returns-3 : tie.Need-returns-3
-returns-3 c = rw (unusable-formed c.before.before.scan.ensures c.enum_told.given.1)
+returns-3 : tie.Need-returns-in-Unusable
+returns-3 c = rw (unusable-formed c.scan.ensures c.in-Unusable.is)
 
-pub judge-spec : {M : Type 1} → statement M
-judge-spec =
+pub judge_spec : {M : Type 1} → statement M
+judge_spec =
     tie.close
     (tie.spec
     (λ c κs. search rules)

@@ -8,25 +8,22 @@ use Rattle.keytable.proofs.Scanned.{unusable-formed, lines-formed, lines-inside,
 use Rattle.keytable.proofs.list.make_list.Statement.{statement}
 use Rattle.keytable.proofs.list.make_list.Tie as tie
 
-array-share-prefix-own : tie.Need-array-share-prefix-own
-array-share-prefix-own c = lines-inside c.before.before.before.scan.ensures c.before.n.given.1
+array-share-prefix-own : tie.Need-slice_bounds-own-end
+array-share-prefix-own c = lines-inside c.scan.ensures c.in-Lines.is
 
-slice-aggregate-put : tie.Need-slice-aggregate-put
+slice-aggregate-put : tie.Need-slice_bounds-put-end
 slice-aggregate-put c = sym (length-take-le _ _ (array-share-prefix-own c.before))
 
-returns : tie.Need-returns
+returns : tie.Need-returns-in-Lines
 returns c =
-    let written = c.before.before in
-    let found = written.before.before.before.before in
-    let s = found.before.before.scan.ensures in
-    let e = found.n.given.1 in
-    rw (lines-formed s e, ← lines-starts s e) written.put.ensures
+    let s = c.scan.ensures in
+    rw (lines-formed s c.in-Lines.is, ← lines-starts s c.in-Lines.is) c.put.ensures
 
-returns-2 : tie.Need-returns-2
-returns-2 c = rw (unusable-formed c.before.before.scan.ensures c.enum_told.given.1) (refuses-answers _ _)
+returns-2 : tie.Need-returns-in-Unusable
+returns-2 c = rw (unusable-formed c.scan.ensures c.in-Unusable.is) (refuses-answers _ _)
 
-pub make-list-spec : {M : Type 1} → statement M
-make-list-spec =
+pub make_list_spec : {M : Type 1} → statement M
+make_list_spec =
     tie.close
     (tie.spec
     (λ c κs. search rules)

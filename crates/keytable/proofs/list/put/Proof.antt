@@ -10,37 +10,35 @@ use Rattle.refusal.proofs.Laws.{gives-answers, short-answers}
 use Rattle.keytable.proofs.list.put.Statement.{statement}
 use Rattle.keytable.proofs.list.put.Tie as tie
 
-abbrev invariant-loop : tie.invariant-loop
+abbrev invariant-loop : tie.invariant-loop-i
 invariant-loop own starts₀ n i₀ starts i = (i ≤ n) × (length starts ≡ length starts₀) × (starts ≡ filled own starts₀ i)
 
-abbrev decreases-loop : tie.decreases-loop
+abbrev decreases-loop : tie.decreases-loop-i
 decreases-loop own starts₀ n i₀ starts i = n - i
 
-returns : tie.Need-returns invariant-loop decreases-loop
-returns c = short-answers _ _ c.if1.true
+returns : tie.Need-returns-then-starts-n invariant-loop decreases-loop
+returns c = short-answers _ _ c.if-starts-n.true
 
-cast-starts : tie.Need-overflow-cast-starts invariant-loop decreases-loop
-cast-starts c = let small = c.shared-slice-known.given c.before.before.loop.i in omega (arith, small)
+cast-starts : tie.Need-overflow_cast-starts invariant-loop decreases-loop
+cast-starts c = let small = c.shared_slice_known-1.given c.loop-i.i in omega (arith, small)
 
-loop-again : tie.Need-loop-preserved invariant-loop decreases-loop
+loop-again : tie.Need-loop-i-preserved invariant-loop decreases-loop
 loop-again c =
-    let at = c.before.before in
-    let args = at.before.before.args in
-    let turn = fill-turn args.own.now args.starts.now at.loop.i (search rules) (search rules) in
-    (search rules, simp length-set at.loop.invariant.1, rw at.loop.invariant.2 turn)
+    let args = c.args in
+    let turn = fill-turn args.own.now args.starts.now c.loop-i.i (search rules) (search rules) in
+    (search rules, simp length-set c.loop-i.invariant.1, rw c.loop-i.invariant.2 turn)
 
-same_length : tie.Need-same-length invariant-loop decreases-loop
-same_length c = c.before.loop.invariant.1
+same_length : tie.Need-shape_of-starts invariant-loop decreases-loop
+same_length c = c.loop-i.invariant.1
 
-returns-2 : tie.Need-returns-2 invariant-loop decreases-loop
+returns-2 : tie.Need-returns invariant-loop decreases-loop
 returns-2 c =
-    let at = c.before in
-    let args = at.before.before.args in
-    let end : at.loop.i ≡ length args.own.now = omega arith in
+    let args = c.args in
+    let end : c.loop-i.i ≡ length args.own.now = omega arith in
     let given = gives-answers args.own.now args.starts.now (search rules) in
     record {
       told = given.told;
-      left = at.loop.invariant.2 ∙ filled-all args.own.now _ _ _ refl end ∙ given.left;
+      left = c.loop-i.invariant.2 ∙ filled-all args.own.now _ _ _ refl end ∙ given.left;
     }
 
 pub put_spec : {M : Type 1} → statement M

@@ -4,12 +4,12 @@ use borrow.Author.Rules.{rules}
 use Rattle.layout.proofs.place.last16_of.Statement.{statement}
 use Rattle.layout.proofs.place.last16_of.Tie as tie
 
-returns : tie.Need-returns
-returns c = rw (← c.before.before.before.test.ensures, c.before.enum_told.given.1) c.last16.ensures
+returns : tie.Need-returns-in-Accepted
+returns c = rw (← c.test.ensures, c.in-Accepted.is) c.last16.ensures
 
-returns-2 : tie.Need-returns-2
-returns-2 c = rw (← c.before.before.test.ensures, c.enum-told2.given.1)
+returns-2 : tie.Need-returns-in-Refused
+returns-2 c = rw (← c.test.ensures, c.in-Refused.is)
 
-pub last16-of-spec : {M : Type 1} → statement M
-last16-of-spec =
+pub last16_of_spec : {M : Type 1} → statement M
+last16_of_spec =
     tie.close (tie.spec (λ c κs. search rules) (λ c. search rules) (λ c κs. search rules) (λ c. search rules) returns returns-2)

@@ -11,33 +11,33 @@ use Rattle.layout.proofs.Windows.{stated-window}
 use Rattle.layout.proofs.place.part8.Statement.{statement}
 use Rattle.layout.proofs.place.part8.Tie as tie
 
-returns : tie.Need-returns
+returns : tie.Need-returns-then-message-at
 returns c =
-    let a = c.before.args in
+    let a = c.args in
     rw (lt-leb (end_at 1 a.message.now a.at) (length a.message.now) (omega arith))
 
-cast-len : tie.Need-overflow-cast-len
-cast-len c = omega (arith, c.shared-slice-known.given c.before.before.args.at)
+cast-len : tie.Need-overflow_cast-len
+cast-len c = omega (arith, c.shared_slice_known-1.given c.args.at)
 
 -- the byte is the vector's length
-said : (c : tie.After-shared-slice-known) →
-    let a = c.before.before.args in
+said : (c : tie.After-shared_slice_known-1) →
+    let a = c.args in
     stated 1 (drop a.at a.message.now) ≡ get_or a.message.now a.at 0
-said c = let a = c.before.before.args in stated-window 1 a.at a.message.now (omega arith) ∙ (omega arith)
+said c = let a = c.args in stated-window 1 a.at a.message.now (omega arith) ∙ (omega arith)
 
-returns-2 : tie.Need-returns-2
+returns-2 : tie.Need-returns-then-message-start
 returns-2 c =
-    let a = c.before.before.before.args in
+    let a = c.args in
     let e = said c.before in
     rw (lt-leb (end_at 1 a.message.now a.at) (length a.message.now) (omega arith))
 
-returns-3 : tie.Need-returns-3
+returns-3 : tie.Need-returns
 returns-3 c =
-    let a = c.before.before.before.args in
+    let a = c.args in
     let e = said c.before in
     rw (le-leb (end_at 1 a.message.now a.at) (length a.message.now) (omega arith), e)
 
-pub part8-spec : {M : Type 1} → statement M
-part8-spec =
+pub part8_spec : {M : Type 1} → statement M
+part8_spec =
     tie.close
     (tie.spec returns (λ c. search rules) (λ c. search rules) cast-len (λ c. search rules) returns-2 returns-3)

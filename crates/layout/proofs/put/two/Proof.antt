@@ -10,32 +10,29 @@ use Rattle.layout.proofs.Puts.{front, copy-in-front, put-behind, front-answers}
 use Rattle.layout.proofs.put.two.Statement.{statement}
 use Rattle.layout.proofs.put.two.Tie as tie
 
-returns : tie.Need-returns
+returns : tie.Need-returns-then-out-head
 returns c =
-    let a = c.before.before.before.before.args in
+    let a = c.args in
     short-answers (a.head.now ++ a.tail.now) a.out.now (simp length-append (omega arith))
 
-returns-2 : tie.Need-returns-2
+returns-2 : tie.Need-returns-then-out-head-2
 returns-2 c =
-    let a = c.before.before.before.before.before.args in
+    let a = c.args in
     short-answers (a.head.now ++ a.tail.now) a.out.now (simp length-append (omega arith))
 
-returns-3 : tie.Need-returns-3
+returns-3 : tie.Need-returns
 returns-3 c =
-    let after = c.before.before.before.before.before.before in
-    let a = after.before.before.before.before.before.before.before.args in
-    let first = after.copy in
-    let second = c.before.before.copy2 in
+    let a = c.args in
     let head = a.head.now in
     let tail = a.tail.now in
     let out = a.out.now in
-    let one : first.new.1.0 ≡ front head out = copy-in-front head out first.new.1.0 first.ensures.1 in
-    let two = copy-in-front tail _ second.new.1.0 second.ensures.1 in
-    let both = put-behind head tail out first.new.1.0 second.new.1.0 first.result one (omega arith) two in
+    let one : c.copy-next.new.dst ≡ front head out = copy-in-front head out c.copy-next.new.dst c.copy-next.ensures.1 in
+    let two = copy-in-front tail _ c.copy.new.dst c.copy.ensures.1 in
+    let both = put-behind head tail out c.copy-next.new.dst c.copy.new.dst c.copy-next.result one (omega arith) two in
     front-answers (head ++ tail) out _ _ (simp length-append (omega arith)) both (simp length-append (omega arith))
 
-pub two-spec : {M : Type 1} → statement M
-two-spec =
+pub two_spec : {M : Type 1} → statement M
+two_spec =
     tie.close
     (tie.spec
     returns

@@ -7,11 +7,11 @@ use lib.ListN.{length}
 use Rattle.messages.proofs.fixed.body.Statement.{statement}
 use Rattle.messages.proofs.fixed.body.Tie as tie
 
-returns : tie.Need-returns
-returns c = rw (ne_eqb (length c.before.args.message.now) (4 + c.before.args.size) c.if1.true)
+returns : tie.Need-returns-then-message-size
+returns c = rw (ne_eqb (length c.args.message.now) (4 + c.args.size) c.if-message-size.true)
 
-returns-2 : tie.Need-returns-2
-returns-2 c = rw (eq-eqb (length c.before.args.message.now) (4 + c.before.args.size) c.if1.false)
+returns-2 : tie.Need-returns
+returns-2 c = rw (eq-eqb (length c.args.message.now) (4 + c.args.size) c.if-message-size.false)
 
-pub body-spec : {M : Type 1} → statement M
-body-spec = tie.close (tie.spec (λ c. search rules) returns returns-2)
+pub body_spec : {M : Type 1} → statement M
+body_spec = tie.close (tie.spec (λ c. search rules) returns returns-2)

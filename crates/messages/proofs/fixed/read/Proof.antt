@@ -4,11 +4,11 @@ use borrow.Author.Rules.{rules}
 use Rattle.messages.proofs.fixed.read.Statement.{statement}
 use Rattle.messages.proofs.fixed.read.Tie as tie
 
-returns : tie.Need-returns
-returns c = rw (← c.before.before.before.test.ensures, c.before.enum_told.given.1) c.body.ensures
+returns : tie.Need-returns-in-Accepted
+returns c = rw (← c.test.ensures, c.in-Accepted.is) c.body.ensures
 
-returns-2 : tie.Need-returns-2
-returns-2 c = rw (← c.before.before.test.ensures, c.enum-told2.given.1)
+returns-2 : tie.Need-returns-in-Refused
+returns-2 c = rw (← c.test.ensures, c.in-Refused.is)
 
 pub read_spec : {M : Type 1} → statement M
 read_spec =

@@ -13,19 +13,19 @@ use Rattle.messages.proofs.FixedMessages.{fixed-valid}
 use Rattle.messages.proofs.fixed.write_finished.Statement.{statement}
 use Rattle.messages.proofs.fixed.write_finished.Tie as tie
 
-returns : tie.Need-returns
+returns : tie.Need-returns-then-verify_data-ne-VERIFY_DATA_SIZE
 returns c =
-    let a = c.before.before.before.args in
-    writes-none finished a.verify-data.now a.out.now (valid-rules finished a.verify-data.now (ne_eqb _ _ c.if1.true))
+    let a = c.args in
+    writes-none finished a.verify-data.now a.out.now (valid-rules finished a.verify-data.now (ne_eqb _ _ c.if-verify_data-ne-VERIFY_DATA_SIZE.true))
 
-returns-2 : tie.Need-returns-2
+returns-2 : tie.Need-returns
 returns-2 c =
-    let a = c.before.before.before.before.before.before.before.before.args in
+    let a = c.args in
     let xs = a.verify-data.now in
-    let twelve : length xs ≡ 12 = c.before.before.before.before.before.if1.false in
+    let twelve : length xs ≡ 12 = c.if-verify_data-ne-VERIFY_DATA_SIZE.false in
     let all : bytes finished xs ≡ (20 ∷ 0 ∷ 0 ∷ 12 ∷ []) ++ xs = rw twelve in
-    writes finished xs a.out.now _ _ (fixed-valid 20 12 xs twelve (omega arith)) (rw all c.before.before.two.ensures)
+    writes finished xs a.out.now _ _ (fixed-valid 20 12 xs twelve (omega arith)) (rw all c.two.ensures)
 
-pub write-finished-spec : {M : Type 1} → statement M
-write-finished-spec =
+pub write_finished_spec : {M : Type 1} → statement M
+write_finished_spec =
     tie.close (tie.spec returns (λ c. search rules) (λ c. search rules) (λ c κs. search rules) (λ c. search rules) returns-2)

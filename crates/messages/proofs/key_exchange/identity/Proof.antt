@@ -14,32 +14,32 @@ use Rattle.layout.proofs.Places.{last-inside}
 use Rattle.messages.proofs.key_exchange.identity.Statement.{statement}
 use Rattle.messages.proofs.key_exchange.identity.Tie as tie
 
-abbrev message : tie.After-known-told → List ℕ
-message c = c.before.before.before.before.before.args.message.now
+abbrev message : tie.In-At → List ℕ
+message c = c.args.message.now
 
 -- where the identity stands
-found : (c : tie.After-known-told)
-    → vector_place client_key_exchange_type (message c) ≡ At c.before.start.given.0.0 c.before.start.given.0.1.0
-found c = sym c.before.before.before.read-identity.ensures ∙ c.before.start.given.1
+found : (c : tie.In-At)
+    → vector_place client_key_exchange_type (message c) ≡ At c.in-At.start c.in-At.len
+found c = sym c.read_identity.ensures ∙ c.in-At.is
 
 -- it ends where the message does
-inside : (c : tie.After-known-told) → c.before.start.given.0.0 + c.before.start.given.0.1.0 ≡ length (message c)
+inside : (c : tie.In-At) → c.in-At.start + c.in-At.len ≡ length (message c)
 inside c = (last-inside client_key_exchange_type (message c) 4 _ _ (found c)).1
 
-add-result : tie.Need-overflow-add-result
+add-result : tie.Need-overflow_add-result
 add-result c = record { fits = omega (arith, inside c) }
 
-part-result-end : tie.Need-slice-bounds-result-end
+part-result-end : tie.Need-slice_bounds-result-end
 part-result-end c = omega (arith, inside c)
 
-returns : tie.Need-returns
+returns : tie.Need-returns-in-At
 returns c = rw (found c.before, add-sub_cancel_left)
 
-returns-2 : tie.Need-returns-2
-returns-2 c = rw (← c.before.before.before.read-identity.ensures, c.before.enum_told.given.1)
+returns-2 : tie.Need-returns-in-Refused
+returns-2 c = rw (← c.read_identity.ensures, c.in-Refused.is)
 
-pub identity-spec : {M : Type 1} → statement M
-identity-spec =
+pub identity_spec : {M : Type 1} → statement M
+identity_spec =
     tie.close
     (tie.spec
     (λ c κs. search rules)

@@ -23,20 +23,18 @@ head-is : (kind : ℕ) (xs body size : List ℕ) → body ≡ be 3 (length xs + 
     → bytes (vector_message kind) xs ≡ head kind body size ++ xs
 head-is kind xs body size b s = rw (b, s, add-two)
 
-returns : tie.Need-returns
+returns : tie.Need-returns-then-n-gt16378
 returns c =
-    let a = c.before.before.before.args in
+    let a = c.args in
     writes-none (vector_message a.kind) a.contents.now a.out.now (valid-long (vector_message a.kind) a.contents.now (omega arith))
 
-returns-2 : tie.Need-returns-2
+returns-2 : tie.Need-returns
 returns-2 c =
-    let at_size = c.before.before.before.before.before in
-    let at_body = at_size.before in
-    let a = at_body.before.before.before.before.args in
+    let a = c.args in
     let xs = a.contents.now in
-    let all : bytes (vector_message a.kind) xs ≡ head a.kind at_body.bytes24.result at_size.bytes16.result ++ xs =
-    head-is a.kind xs _ _ at_body.bytes24.ensures at_size.bytes16.ensures in
-    writes (vector_message a.kind) xs a.out.now _ _ (vector-valid a.kind xs (omega arith)) (rw all c.before.before.two.ensures)
+    let all : bytes (vector_message a.kind) xs ≡ head a.kind c.bytes24-body.result c.bytes16-size.result ++ xs =
+    head-is a.kind xs _ _ c.bytes24-body.ensures c.bytes16-size.ensures in
+    writes (vector_message a.kind) xs a.out.now _ _ (vector-valid a.kind xs (omega arith)) (rw all c.two.ensures)
 
 pub write_spec : {M : Type 1} → statement M
 write_spec =

@@ -29,27 +29,23 @@ head-is : (hint : ℕ) (xs body hints size : List ℕ) → body ≡ be 3 (length
     → bytes new_session_ticket (fields hint xs) ≡ head body hints size ++ xs
 head-is hint xs body hints size b h s = rw (b, h, s, add_six)
 
-returns : tie.Need-returns
+returns : tie.Need-returns-then-n-gt16374
 returns c =
-    let a = c.before.before.before.args in
+    let a = c.args in
     let f = fields a.lifetime-hint a.ticket.now in
     writes-none new_session_ticket f a.out.now (valid-long new_session_ticket f (omega arith))
 
-returns-2 : tie.Need-returns-2
+returns-2 : tie.Need-returns
 returns-2 c =
-    let at_size = c.before.before.before.before.before in
-    let at-hint = at_size.before in
-    let at_body = at-hint.before in
-    let s = at_body.before.before.before.before in
-    let a = s.args in
+    let a = c.args in
     let xs = a.ticket.now in
     let f = fields a.lifetime-hint xs in
-    let small : a.lifetime-hint < 4294967296 = s.ranges.lifetime-hint.fits in
+    let small : a.lifetime-hint < 4294967296 = c.ranges.lifetime-hint.fits in
     let ok : valid new_session_ticket f ≡ true =
     valid-within new_session_ticket f (rw (lt-ltb a.lifetime-hint 4294967296 small, lt-ltb (length xs) 65536 (omega arith))) (omega arith) in
-    let all : bytes new_session_ticket f ≡ head at_body.bytes24.result at-hint.bytes32.result at_size.bytes16.result ++ xs =
-    head-is a.lifetime-hint xs _ _ _ at_body.bytes24.ensures at-hint.bytes32.ensures at_size.bytes16.ensures in
-    writes new_session_ticket f a.out.now _ _ ok (rw all c.before.before.two.ensures)
+    let all : bytes new_session_ticket f ≡ head c.bytes24-body.result c.bytes32-hint.result c.bytes16-size.result ++ xs =
+    head-is a.lifetime-hint xs _ _ _ c.bytes24-body.ensures c.bytes32-hint.ensures c.bytes16-size.ensures in
+    writes new_session_ticket f a.out.now _ _ ok (rw all c.two.ensures)
 
 pub write_spec : {M : Type 1} → statement M
 write_spec =

@@ -9,30 +9,26 @@ use Rattle.record_server.proofs.closing.alert.Statement.{statement}
 use Rattle.record_server.proofs.closing.alert.Tie as tie
 
 size : (c : tie.Start) → length c.args.c.alert.bytes ≡ 39
-size c = search (rules, c.well-formed.0.1.1.1.1.1.1.1.0)
+size c = search (rules, c.well_formed.0.1.1.1.1.1.1.1.0)
 
-slice-aggregate-put : tie.Need-slice-aggregate-put
+slice-aggregate-put : tie.Need-slice_bounds-put-end
 slice-aggregate-put c = sym (size c.before.before.before.before.before.before)
 
-returns : tie.Need-returns
+returns : tie.Need-returns-then-n-gt39
 returns c =
-    let at-put = c.before.before in
-    let at_test = at-put.before.before.before in
-    let start = at_test.before.before.before.before.before in
-    let alert = start.args.c.alert in
-    rw (take_all alert.length alert.bytes (omega (arith, size start, at_test.if1.true))) at-put.put.ensures
+    let alert = c.args.c.alert in
+    rw (take_all alert.length alert.bytes (omega (arith, size c.before.before.before.before.before.before.before.before.before.before, c.if-n-gt39.true))) c.put.ensures
 
-array-share-prefix-bytes : tie.Need-array-share-prefix-bytes
+array-share-prefix-bytes : tie.Need-slice_bounds-bytes-end
 array-share-prefix-bytes c = omega (arith, size c.before.before.before.before.before)
 
-slice-aggregate-put-2 : tie.Need-slice-aggregate-put-2
+slice-aggregate-put-2 : tie.Need-slice_bounds-put-end-2
 slice-aggregate-put-2 c =
-    let start = c.before.before.before.before.before.before in
-    let alert = start.args.c.alert in
-    sym (length-take-le alert.length alert.bytes (omega (arith, size start)))
+    let alert = c.args.c.alert in
+    sym (length-take-le alert.length alert.bytes (omega (arith, size c.before.before.before.before.before.before)))
 
-pub alert-spec : {M : Type 1} → statement M
-alert-spec =
+pub alert_spec : {M : Type 1} → statement M
+alert_spec =
     tie.close
     (tie.spec
     (λ c. search rules)

@@ -10,25 +10,20 @@ use Rattle.record_server.proofs.closing.close.Statement.{statement}
 use Rattle.record_server.proofs.closing.close.Tie as tie
 
 -- the entry, seen from the first test
-abbrev entry : tie.After-test-over → tie.Start
+abbrev entry : tie.After-test_over → tie.Start
 entry c = c.before.before.before.before
 
-returns : tie.Need-returns
+returns : tie.Need-returns-in-Accepted
 returns c =
-    let at-seal = c.before.before.before in
-    let at_next = at-seal.before.before.before in
-    let told = at_next.before.before in
-    let at-over = told.before.before in
-    let a = (entry at-over).args in
+    let a = (entry c.before.before.before.before.before.before.before.before.before.before).args in
     seal-settles a.c (closed_with no_alert) a.c.writing ContentType.Alert (warning ∷ close_notify ∷ [])
-    (not-over a.c at-over.test-over.ensures _ told.enum_told.given.1) at-seal.seal.ensures
-    (rw (← at_next.before.no-alert.ensures, ← at_next.closed-with.ensures) c.settle.ensures)
+    (not-over a.c c.test_over.ensures _ c.in-Accepted.is) c.seal-said.ensures
+    (rw (← c.no_alert.ensures, ← c.closed_with-next.ensures) c.settle.ensures)
 
-returns-2 : tie.Need-returns-2
+returns-2 : tie.Need-returns-in-Refused
 returns-2 c =
-    let at-over = c.before.before.before.before in
-    let a = (entry at-over).args in
-    over-settles a.c at-over.test-over.ensures _ (closed_with no_alert) c.before.before.r.given.1 c.settle2.ensures
+    let a = (entry c.before.before).args in
+    over-settles a.c c.test_over.ensures _ (closed_with no_alert) c.in-Refused.is c.settle-in-Refused.ensures
 
 pub close_spec : {M : Type 1} → statement M
 close_spec =

@@ -8,35 +8,32 @@ use Rattle.record_server.proofs.Alerts.{alert-wrote, alert-room, alert-kept}
 use Rattle.record_server.proofs.closing.closing_alert.Statement.{statement}
 use Rattle.record_server.proofs.closing.closing_alert.Tie as tie
 
-returns : tie.Need-returns
+returns : tie.Need-returns-then-writing-eq-LAST
 returns c =
-    let a = c.before.before.before.args in
-    rw (c.no-alert.ensures, eq-eqb a.writing.sequence last_sequence c.before.if1.true)
+    let a = c.args in
+    rw (c.no_alert.ensures, eq-eqb a.writing.sequence last_sequence c.if-writing-eq-LAST.true)
 
 -- the test of the sequence number, seen from the record
-abbrev test : tie.After-seal → tie.Else1
+abbrev test : tie.After-seal → tie.Else-writing-eq-LAST
 test c = c.before.before.before
 
-cast-t14 : tie.Need-overflow-cast-t14
+cast-t14 : tie.Need-overflow_cast-result
 cast-t14 c =
-    let at-seal = c.before.before.before.before in
-    let a = (test at-seal).before.before.args in
-    omega (arith, alert-wrote a.writing a.number at-seal.seal.ensures c.before.n.given.1)
+    let a = (test c.before.before).args in
+    omega (arith, alert-wrote a.writing a.number c.seal.ensures c.in-Wrote.is)
 
-returns-2 : tie.Need-returns-2
+returns-2 : tie.Need-returns-in-Wrote
 returns-2 c =
-    let at-seal = c.before.before.before.before in
-    let a = (test at-seal).before.before.args in
-    alert-kept a.writing a.number at-seal.seal.ensures (test at-seal).if1.false c.before.n.given.1
+    let a = (test c.before.before).args in
+    alert-kept a.writing a.number c.seal.ensures (test c.before.before).if-writing-eq-LAST.false c.in-Wrote.is
 
-returns-3 : tie.Need-returns-3
+returns-3 : tie.Need-returns-in-Refused
 returns-3 c =
-    let at-seal = c.before.before.before.before in
-    let a = (test at-seal).before.before.args in
-    absurd (alert-room a.writing a.number at-seal.seal.ensures c.before.enum_told.given.1)
+    let a = (test c.before.before.before).args in
+    absurd (alert-room a.writing a.number c.seal.ensures c.in-Refused.is)
 
-pub closing-alert-spec : {M : Type 1} → statement M
-closing-alert-spec =
+pub closing_alert_spec : {M : Type 1} → statement M
+closing_alert_spec =
     tie.close
     (tie.spec
     (λ c κs. search rules)

@@ -6,18 +6,16 @@ use Rattle.records.specs.Protection.{last_sequence}
 use Rattle.record_server.proofs.closing.test_over.Statement.{statement}
 use Rattle.record_server.proofs.closing.test_over.Tie as tie
 
-returns : tie.Need-returns
-returns c = rw (← c.before.is-closed.ensures, c.if1.true)
+returns : tie.Need-returns-then-is_closed
+returns c = rw (← c.is_closed.ensures, c.if-is_closed.true)
 
-returns-2 : tie.Need-returns-2
+returns-2 : tie.Need-returns-then-sequence-eq-LAST
 returns-2 c =
-    let at-closed = c.before.before in
-    rw (← at-closed.is-closed.ensures, c.before.if1.false, eq-eqb at-closed.before.args.sequence last_sequence c.if2.true)
+    rw (← c.is_closed.ensures, c.if-is_closed.false, eq-eqb c.args.sequence last_sequence c.if-sequence-eq-LAST.true)
 
-returns-3 : tie.Need-returns-3
+returns-3 : tie.Need-returns
 returns-3 c =
-    let at-closed = c.before.before in
-    rw (← at-closed.is-closed.ensures, c.before.if1.false, ne_eqb at-closed.before.args.sequence last_sequence c.if2.false)
+    rw (← c.is_closed.ensures, c.if-is_closed.false, ne_eqb c.args.sequence last_sequence c.if-sequence-eq-LAST.false)
 
-pub test-over-spec : {M : Type 1} → statement M
-test-over-spec = tie.close (tie.spec (λ c κs. search rules) returns returns-2 returns-3)
+pub test_over_spec : {M : Type 1} → statement M
+test_over_spec = tie.close (tie.spec (λ c κs. search rules) returns returns-2 returns-3)

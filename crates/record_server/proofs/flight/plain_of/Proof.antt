@@ -16,8 +16,8 @@ past plain more ns size = (
   rw (drop_of_length-le ns {i = 3} (omega arith), drop_of_length-le ns {i = plain} (omega arith)),
 )
 
-returns : tie.Need-returns
-returns c = (omega arith, past c.before.args.plain c.if1.true)
+returns : tie.Need-returns-then-plain-gt3
+returns c = (omega arith, past c.args.plain c.if-plain-gt3.true)
 
-pub plain-of-spec : {M : Type 1} → statement M
-plain-of-spec = tie.close (tie.spec returns (λ c. search rules))
+pub plain_of_spec : {M : Type 1} → statement M
+plain_of_spec = tie.close (tie.spec returns (λ c. search rules))

@@ -13,53 +13,49 @@ use Rattle.record_server.proofs.Putting.{Begun, counted-within, begin, skip, nex
 use Rattle.record_server.proofs.flight.put_messages.Statement.{statement}
 use Rattle.record_server.proofs.flight.put_messages.Tie as tie
 
-abbrev invariant-loop : tie.invariant-loop
+abbrev invariant-loop : tie.invariant-loop-i
 invariant-loop bytes lengths out₀ writing₀ len₀ used₀ i₀ out writing len used i = Begun writing₀ lengths bytes out₀ out writing len used i
 
-abbrev decreases-loop : tie.decreases-loop
+abbrev decreases-loop : tie.decreases-loop-i
 decreases-loop bytes lengths out₀ writing₀ len₀ used₀ i₀ out writing len used i = length lengths - i
 
-loop-holds : tie.Need-loop-init invariant-loop decreases-loop
-loop-holds c = let start = c.before.before.before in begin start.args.s _ _ _ start.requires.2
+loop-holds : tie.Need-loop-i-init invariant-loop decreases-loop
+loop-holds c = begin c.args.s _ _ _ c.requires.2
 
 -- the entry, seen from the loop
-abbrev entry : tie.At-loop invariant-loop decreases-loop → tie.Start invariant-loop decreases-loop
+abbrev entry : tie.At-loop-i invariant-loop decreases-loop → tie.Start invariant-loop decreases-loop
 entry c = c.before.before.before.before
 
 -- what is left of the lengths
-here : (c : tie.In-loop invariant-loop decreases-loop) →
+here : (c : tie.In-loop-i invariant-loop decreases-loop) →
     let lengths = (entry c.before).args.lengths.now in
-    let i = c.before.loop.i in
+    let i = c.loop-i.i in
     total (drop i lengths) ≡ get_or lengths i 0 + total (drop (i + 1) lengths)
-here c = ap total (left-cons _ _ c.loop-test.true)
+here c = ap total (left-cons _ _ c.loop-i-test.true)
 
-part-seal-end : tie.Need-slice-bounds-seal-end invariant-loop decreases-loop
-part-seal-end c = omega (arith, here c.before.before, (entry c.before.before.before).pre)
+part-seal-end : tie.Need-slice_bounds-seal-end invariant-loop decreases-loop
+part-seal-end c = omega (arith, here c.before.before, (entry c.before.before.before).requires)
 
-add-len : tie.Need-overflow-add-len invariant-loop decreases-loop
+add-len : tie.Need-overflow_add-len invariant-loop decreases-loop
 add-len c =
-    let at-seal = c.before.before.before in
-    let l = at-seal.before.before.before.before.before.before in
-    let lent = length_part l.loop.out l.loop.len (length l.loop.out - l.loop.len) (omega arith) in
-    omega (arith, counted-within _ at-seal.seal.ensures)
+    let lent = length_part c.loop-i.out c.loop-i.len (length c.loop-i.out - c.loop-i.len) (omega arith) in
+    omega (arith, counted-within _ c.seal-said.ensures)
 
-loop-again : tie.Need-loop-preserved invariant-loop decreases-loop
+loop-again : tie.Need-loop-i-preserved invariant-loop decreases-loop
 loop-again c =
-    let turn = c.before.before in
-    let l = turn.before in
-    let left = left-cons (entry l).args.lengths.now l.loop.i turn.loop-test.true in
+    let left = left-cons (entry c.before.before.before).args.lengths.now c.loop-i.i c.loop-i-test.true in
     ⊎_elim
     (λ o.
-    next l.loop.invariant turn.loop-test.true left o.0.taken (entry l).requires.0 (entry l).requires.1 o.3.ensures o.8
+    next c.loop-i.invariant c.loop-i-test.true left o.0.taken (entry c.before.before.before).requires.0 (entry c.before.before.before).requires.1 o.3.ensures o.8
     (o.9 ∙ o.7.ensures) (o.10 ∙ rw o.6.ensures) o.11)
-    (λ o. rw (o.1, o.2, o.3, o.4) (skip l.loop.invariant turn.loop-test.true left o.0.left))
-    c.if1.branch
+    (λ o. rw (o.1, o.2, o.3, o.4) (skip c.loop-i.invariant c.loop-i-test.true left o.0.left))
+    c.if-n-ne0.branch
 
 returns : tie.Need-returns invariant-loop decreases-loop
-returns c = done c.before.loop.invariant c.loop-test.false
+returns c = done c.loop-i.invariant c.loop-i-test.false
 
-pub put-messages-spec : {M : Type 1} → statement M
-put-messages-spec =
+pub put_messages_spec : {M : Type 1} → statement M
+put_messages_spec =
     tie.close
     (tie.spec
     invariant-loop

@@ -4,26 +4,26 @@ use borrow.Author.Rules.{rules}
 use Rattle.record_server.proofs.progress.advance.Statement.{statement}
 use Rattle.record_server.proofs.progress.advance.Tie as tie
 
-returns : tie.Need-returns
-returns c = rw c.before.enum_told.given.1 c.with-answer.ensures
+returns : tie.Need-returns-in-Hello
+returns c = rw c.in-Hello.is c.with_answer.ensures
 
-returns-2 : tie.Need-returns-2
-returns-2 c = rw c.before.enum-told2.given.1 c.with-master.ensures
+returns-2 : tie.Need-returns-in-KeyExchange
+returns-2 c = rw c.in-KeyExchange.is c.with_master.ensures
 
-returns-3 : tie.Need-returns-3
-returns-3 c = rw c.before.enum-told3.given.1 c.with-answer2.ensures
+returns-3 : tie.Need-returns-in-Change
+returns-3 c = rw c.in-Change.is c.with_answer-in-Change.ensures
 
-returns-4 : tie.Need-returns-4
-returns-4 c = rw c.before.enum-told4.given.1 c.with-answer3.ensures
+returns-4 : tie.Need-returns-in-Finished
+returns-4 c = rw c.in-Finished.is c.with_answer-in-Finished.ensures
 
-returns-5 : tie.Need-returns-5
-returns-5 c = rw c.before.enum-told5.given.1 c.with-answer4.ensures
+returns-5 : tie.Need-returns-in-Complete
+returns-5 c = rw c.in-Complete.is c.with_answer-in-Complete.ensures
 
-returns-6 : tie.Need-returns-6
-returns-6 c = rw c.before.enum-told6.given.1 c.with-answer5.ensures
+returns-6 : tie.Need-returns-in-Closed
+returns-6 c = rw c.in-Closed.is c.with_answer-in-Closed.ensures
 
-pub advance-spec : {M : Type 1} → statement M
-advance-spec =
+pub advance_spec : {M : Type 1} → statement M
+advance_spec =
     tie.close
     (tie.spec
     (λ c. search rules)

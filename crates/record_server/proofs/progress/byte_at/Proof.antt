@@ -9,19 +9,19 @@ use borrow.Author.Rules.{rules}
 use Rattle.record_server.proofs.progress.byte_at.Statement.{statement}
 use Rattle.record_server.proofs.progress.byte_at.Tie as tie
 
-returns : tie.Need-returns
+returns : tie.Need-returns-then-i-held
 returns c =
-    let a = c.before.before.args in
-    sym (get_or-append a.held.now a.content.now 0 a.i c.before.if1.true)
+    let a = c.args in
+    sym (get_or-append a.held.now a.content.now 0 a.i c.if-i-held.true)
 
-returns-2 : tie.Need-returns-2
+returns-2 : tie.Need-returns
 returns-2 c =
-    let a = c.before.before.args in
+    let a = c.args in
     let held = a.held.now in
     let place : length held + (a.i - length held) ≡ a.i = omega arith in
     sym (get_or-append-add held a.content.now (a.i - length held) 0) ∙ rw place
 
-pub byte-at-spec : {M : Type 1} → statement M
-byte-at-spec =
+pub byte_at_spec : {M : Type 1} → statement M
+byte_at_spec =
     tie.close
     (tie.spec (λ c. search rules) returns (λ c. search rules) (λ c. search rules) returns-2)

@@ -12,20 +12,17 @@ use Rattle.record_server.proofs.progress.header_at.Tie as tie
 
 returns : tie.Need-returns
 returns c =
-    let at3 = c.before in
-    let at2 = at3.before in
-    let at1 = at2.before in
-    let a = at1.before.before.before.args in
+    let a = c.args in
     let at = a.at in
     let one : at + 1 ≡ suc at = omega arith in
     let two : at + 2 ≡ suc (suc at) = omega arith in
     let three : at + 3 ≡ suc (suc (suc at)) = omega arith in
     let inside : at + 4 ≤ length (a.held.now ++ a.content.now) = simp length-append (omega arith) in
     rw (take-window 4 at (a.held.now ++ a.content.now) inside)
-    (rw (at1.byte_at.ensures, at2.byte-at2.ensures, at3.byte-at3.ensures, c.byte-at4.ensures, one, two, three))
+    (rw (c.byte_at.ensures, c.byte_at-2.ensures, c.byte_at-3.ensures, c.byte_at-4.ensures, one, two, three))
 
-pub header-at-spec : {M : Type 1} → statement M
-header-at-spec =
+pub header_at_spec : {M : Type 1} → statement M
+header_at_spec =
     tie.close
     (tie.spec
     (λ c κs. search rules)

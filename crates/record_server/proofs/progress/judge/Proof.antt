@@ -9,45 +9,41 @@ use borrow.Author.Rules.{rules}
 use Rattle.record_server.proofs.progress.judge.Statement.{statement}
 use Rattle.record_server.proofs.progress.judge.Tie as tie
 
-abbrev invariant-loop : tie.invariant-loop
+abbrev invariant-loop : tie.invariant-loop-going
 invariant-loop table starts count held content p₀ going₀ p going =
     Running (view_of table starts count) (length held) (held ++ content) (judged (view_of table starts count) p₀.connection (held ++ content)) p going
 
-abbrev decreases-loop : tie.decreases-loop
+abbrev decreases-loop : tie.decreases-loop-going
 decreases-loop table starts count held content p₀ going₀ p going = left_over (held ++ content) p going
 
-loop-holds : tie.Need-loop-init invariant-loop decreases-loop
+loop-holds : tie.Need-loop-going-init invariant-loop decreases-loop
 loop-holds c =
-    let a = c.before.before.before.before.before.args in
+    let a = c.args in
     let v = view_of a.table.now a.starts.now a.count in
-    let e = c.begin.ensures in
-    begins v (length a.held.now) (a.held.now ++ a.content.now) c.begin.result e.1 e.2 e.3 e.4 e.5
+    let e = c.begin-p.ensures in
+    begins v (length a.held.now) (a.held.now ++ a.content.now) c.begin-p.result e.1 e.2 e.3 e.4 e.5
 
-judge-first-requires : tie.Need-judge-first-requires invariant-loop decreases-loop
+judge-first-requires : tie.Need-judge_first-p-requires invariant-loop decreases-loop
 judge-first-requires c κs =
-    let start = c.before.before.before.before.before.before.before in
-    (c.before.loop.invariant.sound, start.requires)
+    (c.loop-going.invariant.sound, c.requires)
 
-loop-less : tie.Need-loop-smaller invariant-loop decreases-loop
+loop-less : tie.Need-loop-going-smaller invariant-loop decreases-loop
 loop-less c =
-    let at_first = c.before in
-    let loop = at_first.before.before.loop in
-    less-left _ _ _ loop.p loop.invariant at_first.before.loop-test.true at_first.judge-first.ensures c.is-going.ensures
+    let loop = c.loop-going in
+    less-left _ _ _ loop.p loop.invariant c.loop-going-test.true c.judge_first-p.ensures c.is_going-going.ensures
 
-loop-again : tie.Need-loop-preserved invariant-loop decreases-loop
+loop-again : tie.Need-loop-going-preserved invariant-loop decreases-loop
 loop-again c =
-    let at_first = c.before in
-    let loop = at_first.before.before.loop in
-    goes_further _ _ _ loop.p loop.invariant at_first.before.loop-test.true at_first.judge-first.ensures c.is-going.ensures
+    let loop = c.loop-going in
+    goes_further _ _ _ loop.p loop.invariant c.loop-going-test.true c.judge_first-p.ensures c.is_going-going.ensures
 
 returns : tie.Need-returns invariant-loop decreases-loop
 returns c =
-    let at-begin = c.before.before in
-    let loop = c.before.loop in
-    rw (← at-begin.begin.ensures.0) (ends _ _ _ loop.p loop.invariant c.loop-test.false)
+    let loop = c.loop-going in
+    rw (← c.begin-p.ensures.0) (ends _ _ _ loop.p loop.invariant c.loop-going-test.false)
 
-pub judge-spec : {M : Type 1} → statement M
-judge-spec =
+pub judge_spec : {M : Type 1} → statement M
+judge_spec =
     tie.close
     (tie.spec
     invariant-loop

@@ -22,7 +22,7 @@ use borrow.Author.Rules.{rules}
 use Rattle.record_server.proofs.progress.judge_first.Statement.{statement}
 use Rattle.record_server.proofs.progress.judge_first.Tie as tie
 
-abbrev entry : tie.After-c → tie.Start
+abbrev entry : tie.After-c-1 → tie.Start
 entry c = c.before.before.before.before.before
 
 abbrev view : tie.Start → View
@@ -35,94 +35,87 @@ left-size : (s : tie.Start) → length (drop s.args.p.at (bytes s)) ≡ length s
 left-size s = simp (length-drop, length-append)
 
 -- it is not complete, or nothing is left
-awaits : (c : tie.Joined1) →
+awaits : (c : tie.Joined-left-ne0) →
     let start = entry c.before in
     (is_complete start.args.p.connection.phase && not (is_empty (drop start.args.p.at (bytes start)))) ≡ false
 awaits c =
     let start = entry c.before in
     let left = drop start.args.p.at (bytes start) in
     ⊎_elim (λ w. rw (sym w.1.ensures ∙ w.2.left))
-    (λ w. rw (is-empty left (left-size start ∙ w.left), and-false (is_complete start.args.p.connection.phase))) c.if1.branch
+    (λ w. rw (is-empty left (left-size start ∙ w.left), and-false (is_complete start.args.p.connection.phase))) c.if-left-ne0.branch
 
 -- the verdict on the header is that on the bytes
-early : (c : tie.After-judge-header) {verdict : Verdict} → c.judge-header.result ≡ verdict →
+early : (c : tie.After-judge_header) {verdict : Verdict} → c.judge_header.result ≡ verdict →
     let start = entry c.before.before.before.before in
     early_test (awaited start.args.p.connection.phase) (drop start.args.p.at (bytes start)) ≡ verdict
 early c e =
     let start = entry c.before.before.before.before in
     let kind = awaited start.args.p.connection.phase in
-    sym (header-test kind (drop start.args.p.at (bytes start))) ∙ ap (early_test kind) (sym c.before.header_at.ensures)
-    ∙ sym c.judge-header.ensures ∙ e
+    sym (header-test kind (drop start.args.p.at (bytes start))) ∙ ap (early_test kind) (sym c.header_at-header.ensures)
+    ∙ sym c.judge_header.ensures ∙ e
 
-judged-is : (c : tie.After-judge-header) {verdict : Verdict} → c.judge-header.result ≡ verdict →
+judged-is : (c : tie.After-judge_header) {verdict : Verdict} → c.judge_header.result ≡ verdict →
     let start = entry c.before.before.before.before in
     let left = progress_of (bytes start) start.args.p in
     judge_left (view start) left ≡ after_early verdict (where_whole (view start) (judge_left (view start)) left (message_end left.left))
 judged-is c e =
-    let joined = c.before.before.before in
-    let start = entry joined.before in
+    let start = entry c.before.before.before.before in
     let size = left-size start in
-    left-early (view start) (progress_of (bytes start) start.args.p) (awaits joined) (omega (arith, c.before.before.if3.false)) (early c e)
+    left-early (view start) (progress_of (bytes start) start.args.p) (awaits c.before.before.before) (omega (arith, c.if-left-lt4.false)) (early c e)
 
 -- the header tells the message's size
-size_is : (c : tie.After-message-end) →
-    let start = entry c.before.before.before.before.before.before.before in
-    c.message-end.result ≡ message_end (drop start.args.p.at (bytes start))
+size_is : (c : tie.After-message_end) →
+    let start = entry c.before.before.before.before.before.before in
+    c.message_end.result ≡ message_end (drop start.args.p.at (bytes start))
 size_is c =
-    let start = entry c.before.before.before.before.before.before.before in
-    c.message-end.ensures ∙ ap message_end c.before.before.before.before.header_at.ensures
+    let start = entry c.before.before.before.before.before.before in
+    c.message_end.ensures ∙ ap message_end c.header_at-header.ensures
     ∙ header-end (drop start.args.p.at (bytes start))
 
-sub-left : tie.Need-overflow-sub-left
+sub-left : tie.Need-overflow_sub-left
 sub-left c = rw length-append at (entry c).requires.0.inside
 
-returns : tie.Need-returns
+returns : tie.Need-returns-then-is_complete
 returns c =
-    let at-complete = c.before.before in
-    let start = entry at-complete.before.before in
-    let complete = sym at-complete.is-complete.ensures ∙ c.before.if2.true in
+    let start = entry c.before.before.before.before in
+    let complete = sym c.is_complete.ensures ∙ c.if-is_complete.true in
     let left = left-size start in
-    rw c.on-course.ensures
-    (goes-refused (view start) (length start.args.held.now) (bytes start) start.args.p start.pre.0
-    (left-complete (view start) (progress_of (bytes start) start.args.p) complete (λ none. at-complete.before.if1.true (omega arith))))
+    rw c.on_course.ensures
+    (goes-refused (view start) (length start.args.held.now) (bytes start) start.args.p start.requires.0
+    (left-complete (view start) (progress_of (bytes start) start.args.p) complete (λ none. c.if-left-ne0.true (omega arith))))
 
-returns-2 : tie.Need-returns-2
+returns-2 : tie.Need-returns-then-left-lt4
 returns-2 c =
-    let joined = c.before.before in
-    let start = entry joined.before in
+    let start = entry c.before.before.before in
     let left = left-size start in
-    let few : length (drop start.args.p.at (bytes start)) < 4 = omega (arith, c.before.if3.true) in
-    rw c.on-course2.ensures
-    (goes-waits (view start) (length start.args.held.now) (bytes start) start.args.p start.pre.0
-    (left-few (view start) (progress_of (bytes start) start.args.p) (awaits joined) few) (omega arith))
+    let few : length (drop start.args.p.at (bytes start)) < 4 = omega (arith, c.if-left-lt4.true) in
+    rw c.on_course-then-left-lt4.ensures
+    (goes-waits (view start) (length start.args.held.now) (bytes start) start.args.p start.requires.0
+    (left-few (view start) (progress_of (bytes start) start.args.p) (awaits c.before.before) few) (omega arith))
 
-judge-whole-requires : tie.Need-judge-whole-requires
+judge-whole-requires : tie.Need-judge_whole-requires
 judge-whole-requires c κs =
-    let at-judged = c.before.before.before in
-    let start = entry at-judged.before.before.before.before in
+    let start = entry c.before.before.before.before.before.before in
     let held = start.args.held.now in
     let content = start.args.content.now in
     let size = size_is c in
     let small = within-limit (awaited start.args.p.connection.phase) (drop start.args.p.at (bytes start))
-    (early at-judged c.before.enum_told.given.1) in
-    (start.pre.0, (omega arith, omega arith, held-before-end held content start.args.p.at c.message-end.result start.pre.1.0 size))
+    (early c.before.before c.in-Accepted.is) in
+    (start.requires.0, (omega arith, omega arith, held-before-end held content start.args.p.at c.message_end.result start.requires.1.0 size))
 
-returns-3 : tie.Need-returns-3
+returns-3 : tie.Need-returns-in-Accepted
 returns-3 c =
-    let at-end = c.before in
-    let at-judged = at-end.before.before.before in
-    rw (judged-is at-judged at-end.before.enum_told.given.1, ← size_is at-end) c.judge-whole.ensures
+    rw (judged-is c.before.before.before c.in-Accepted.is, ← size_is c.before) c.judge_whole.ensures
 
-returns-4 : tie.Need-returns-4
+returns-4 : tie.Need-returns-in-Refused
 returns-4 c =
-    let at-judged = c.before.before.before.before in
-    let start = entry at-judged.before.before.before.before in
-    rw c.on-course3.ensures
-    (goes-refused (view start) (length start.args.held.now) (bytes start) start.args.p start.pre.0
-    (judged-is at-judged c.before.before.r.given.1))
+    let start = entry c.before.before.before.before.before.before in
+    rw c.on_course-in-Refused.ensures
+    (goes-refused (view start) (length start.args.held.now) (bytes start) start.args.p start.requires.0
+    (judged-is c.before.before c.in-Refused.is))
 
-pub judge-first-spec : {M : Type 1} → statement M
-judge-first-spec =
+pub judge_first_spec : {M : Type 1} → statement M
+judge_first_spec =
     tie.close
     (tie.spec
     (λ c. search rules)

@@ -14,68 +14,62 @@ use Rattle.record_server.proofs.progress.judge_whole.Statement.{statement}
 use Rattle.record_server.proofs.progress.judge_whole.Tie as tie
 
 -- the entry, seen from where all of the message is there
-abbrev entry : tie.Else1 → tie.Start
+abbrev entry : tie.Else-held-content → tie.Start
 entry c = c.before.before.before.before.before
 
 abbrev view : tie.Start → View
 view s = view_of s.args.table.now s.args.starts.now s.args.count
 
-room : (c : tie.Else1) → let a = (entry c).args in a.size ≤ length (drop a.p.at (a.held.now ++ a.content.now))
-room c = simp (length-drop, length-append) (omega (arith, c.if1.false))
+room : (c : tie.Else-held-content) → let a = (entry c).args in a.size ≤ length (drop a.p.at (a.held.now ++ a.content.now))
+room c = simp (length-drop, length-append) (omega (arith, c.if-held-content.false))
 
 -- the message is the first, and what is held is of it, or it stands behind that
 apart : {at size held : ℕ} → (at ≡ 0 → held ≤ size) → (at ≡ 0) ⊎ (held ≤ at) → ((at ≡ 0) × (held ≤ at + size)) ⊎ (held ≤ at)
 apart over (inl first) = inl (first, omega (arith, over first))
 apart over (inr behind) = inr behind
 
-sub-if1 : tie.Need-overflow-sub-if1
-sub-if1 c = rw length-append at c.before.before.before.before.requires.0.inside
+sub-if1 : tie.Need-overflow_sub-held
+sub-if1 c = rw length-append at c.requires.0.inside
 
-returns : tie.Need-returns
+returns : tie.Need-returns-then-held-content
 returns c =
-    let start = c.before.before.before.before.before.before in
-    let a = start.args in
+    let a = c.args in
     let bytes = a.held.now ++ a.content.now in
-    let short : length (drop a.p.at bytes) < a.size = simp (length-drop, length-append) (omega (arith, c.before.if1.true)) in
-    rw c.on-course.ensures
-    (goes-waits (view start) (length a.held.now) bytes a.p start.requires.0 (rw (lt-ltb _ _ short)) (omega (arith, start.requires.1)))
+    let short : length (drop a.p.at bytes) < a.size = simp (length-drop, length-append) (omega (arith, c.if-held-content.true)) in
+    rw c.on_course.ensures
+    (goes-waits (view c.before.before.before.before.before.before) (length a.held.now) bytes a.p c.requires.0 (rw (lt-ltb _ _ short)) (omega (arith, c.requires.1)))
 
-add-decide-at : tie.Need-overflow-add-decide-at
+add-decide-at : tie.Need-overflow_add-at-in-Accepted
 add-decide-at c = search rules
 
-decide-at-requires : tie.Need-decide-at-requires
+decide-at-requires : tie.Need-decide_at-d-requires
 decide-at-requires c κs =
-    let start = c.before.before.before.before.before.before in
     let rest = room c.before in
-    let a = start.args in (
-      omega (arith, length-append a.held.now a.content.now, length-drop a.p.at (a.held.now ++ a.content.now), start.requires.1),
-      apart start.requires.1.2 start.requires.0.apart,
+    let a = c.args in (
+      omega (arith, length-append a.held.now a.content.now, length-drop a.p.at (a.held.now ++ a.content.now), c.requires.1),
+      apart c.requires.1.2 c.requires.0.apart,
     )
 
-returns-2 : tie.Need-returns-2
+returns-2 : tie.Need-returns-in-Accepted
 returns-2 c =
-    let at-decide = c.before.before.before in
-    let else1 = at-decide.before.before in
-    let start = entry else1 in
+    let start = entry c.before.before.before.before in
     let a = start.args in
     rw c.advance.ensures
-    (goes-accepted (view start) (length a.held.now) (a.held.now ++ a.content.now) a.p start.pre.0 a.size
-    start.pre.1.0 start.pre.1.2 (room else1)
-    at-decide.decide-at.result at-decide.decide-at.ensures c.before.enum_told.given.1)
+    (goes-accepted (view start) (length a.held.now) (a.held.now ++ a.content.now) a.p start.requires.0 a.size
+    start.requires.1.0 start.requires.1.2 (room c.before.before.before.before)
+    c.decide_at-d.result c.decide_at-d.ensures c.in-Accepted.is)
 
-returns-3 : tie.Need-returns-3
+returns-3 : tie.Need-returns-in-Refused
 returns-3 c =
-    let at-decide = c.before.before.before.before in
-    let else1 = at-decide.before.before in
-    let start = entry else1 in
+    let start = entry c.before.before.before.before in
     let a = start.args in
-    rw c.on-course2.ensures
-    (goes-rejected (view start) (length a.held.now) (a.held.now ++ a.content.now) a.p start.pre.0 a.size
-    start.pre.1.0 start.pre.1.2 (room else1)
-    at-decide.decide-at.result at-decide.decide-at.ensures c.before.before.verdict.given.1)
+    rw c.on_course-in-Refused.ensures
+    (goes-rejected (view start) (length a.held.now) (a.held.now ++ a.content.now) a.p start.requires.0 a.size
+    start.requires.1.0 start.requires.1.2 (room c.before.before.before.before)
+    c.decide_at-d.result c.decide_at-d.ensures c.in-Refused.is)
 
-pub judge-whole-spec : {M : Type 1} → statement M
-judge-whole-spec =
+pub judge_whole_spec : {M : Type 1} → statement M
+judge_whole_spec =
     tie.close
     (tie.spec
     (λ c. search rules)
@@ -85,7 +79,7 @@ judge-whole-spec =
     add-decide-at
     decide-at-requires
     (λ c. search rules)
-    (λ c. add-decide-at c.before.before.before)
+    (λ c. add-decide-at c)
     (λ c κs. search rules)
     (λ c. search rules)
     (λ c κs. search rules)

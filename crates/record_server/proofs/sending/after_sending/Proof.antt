@@ -5,7 +5,7 @@ use Rattle.record_server.proofs.sending.after_sending.Statement.{statement}
 use Rattle.record_server.proofs.sending.after_sending.Tie as tie
 
 returns : tie.Need-returns
-returns c = rw c.counted.ensures
+returns c = rw c.counted-counted.ensures
 
-pub after-sending-spec : {M : Type 1} → statement M
-after-sending-spec = tie.close (tie.spec (λ c κs. search rules) returns)
+pub after_sending_spec : {M : Type 1} → statement M
+after_sending_spec = tie.close (tie.spec (λ c κs. search rules) returns)

@@ -1,5 +1,6 @@
 -- `record_server::sending::send` meets its contract: R4, R9, R5 before completion, and then what the record's sealing says.
 -- Assumes nothing.
+use Rattle.std.specs.Prelude.{not}
 use mathlib.Core.Path.{◌≡◌, refl, ap, ◌∙◌}
 use mathlib.Core.Bool.{Bool, cond}
 use borrow.Author.Rules.{rules}
@@ -16,46 +17,40 @@ use Rattle.record_server.proofs.sending.send.Statement.{statement}
 use Rattle.record_server.proofs.sending.send.Tie as tie
 
 -- the entry, seen from the first test
-abbrev entry : tie.After-test-over → tie.Start
+abbrev entry : tie.After-test_over → tie.Start
 entry c = c.before.before.before.before.before
 
 -- what there is to be written once that test has passed
 abbrev written : tie.Start → Bool → Outcome
 written c t = cond t (sealing c.args.c.writing ContentType.ApplicationData c.args.content.now) (refuses BadValue)
 
-meant : (c : tie.After-is-complete) {t : Bool} →
-    let start = entry c.before.before.before in
+meant : (c : tie.After-is_complete) {t : Bool} →
+    let start = entry c.before.before in
     is_complete start.args.c.handshake.phase ≡ t → data_record start.args.c start.args.content.now ≡ written start t
 meant c e =
-    let at-over = c.before.before.before in
-    not-over (entry at-over).args.c at-over.test-over.ensures _ c.before.enum_told.given.1 ∙ ap (written (entry at-over)) e
+    not-over (entry c.before.before).args.c c.test_over.ensures _ c.in-Accepted.is ∙ ap (written (entry c.before.before)) e
 
-returns : tie.Need-returns
+returns : tie.Need-returns-then-not-is_complete
 returns c =
-    let at-complete = c.before.before in
-    let a = (entry at-complete.before.before.before).args in
-    let before = failed at-complete.is-complete.result _ at-complete.is-complete.ensures c.before.if1.true in
-    settles a.c (after_sending a.c) (refuses BadValue) (meant at-complete before) refl (refuses-answers BadValue a.out.now)
+    let a = (entry c.before.before.before.before).args in
+    let before = failed c.is_complete.result _ c.is_complete.ensures (ap not c.if-not-is_complete.true) in
+    settles a.c (after_sending a.c) (refuses BadValue) (meant c.before.before before) refl (refuses-answers BadValue a.out.now)
     c.settle.ensures
 
-returns-2 : tie.Need-returns-2
+returns-2 : tie.Need-returns-else-not-is_complete
 returns-2 c =
-    let at-seal = c.before.before.before in
-    let at_next = at-seal.before.before in
-    let at-complete = at_next.before.before in
-    let a = (entry at-complete.before.before.before).args in
-    let complete = passed at-complete.is-complete.result _ at-complete.is-complete.ensures at_next.before.if1.false in
-    seal-settles a.c (after_sending a.c) a.c.writing ContentType.ApplicationData a.content.now (meant at-complete complete)
-    at-seal.seal.ensures (rw (← at_next.after-sending.ensures) c.settle2.ensures)
+    let a = (entry c.before.before.before.before.before.before.before.before.before).args in
+    let complete = passed c.is_complete.result _ c.is_complete.ensures (ap not c.if-not-is_complete.false) in
+    seal-settles a.c (after_sending a.c) a.c.writing ContentType.ApplicationData a.content.now (meant c.before.before.before.before.before.before.before complete)
+    c.seal-said.ensures (rw (← c.after_sending-next.ensures) c.settle-in-Accepted.ensures)
 
-returns-3 : tie.Need-returns-3
+returns-3 : tie.Need-returns-in-Refused
 returns-3 c =
-    let at-over = c.before.before.before.before in
-    let a = (entry at-over).args in
-    over-settles a.c at-over.test-over.ensures _ (after_sending a.c) c.before.before.r.given.1 c.settle3.ensures
+    let a = (entry c.before.before).args in
+    over-settles a.c c.test_over.ensures _ (after_sending a.c) c.in-Refused.is c.settle-in-Refused.ensures
 
-pub send-spec : {M : Type 1} → statement M
-send-spec =
+pub send_spec : {M : Type 1} → statement M
+send_spec =
     tie.close
     (tie.spec
     (λ c κs. search rules)

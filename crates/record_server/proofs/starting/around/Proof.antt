@@ -5,7 +5,7 @@ use Rattle.record_server.proofs.starting.around.Statement.{statement}
 use Rattle.record_server.proofs.starting.around.Tie as tie
 
 returns : tie.Need-returns
-returns c = rw (c.before.initial.ensures, c.initial2.ensures)
+returns c = rw (c.initial-reading.ensures, c.initial-writing.ensures)
 
-pub around-spec : {M : Type 1} → statement M
-around-spec = tie.close (tie.spec (λ c κs. search rules) (λ c κs. search rules) returns)
+pub around_spec : {M : Type 1} → statement M
+around_spec = tie.close (tie.spec (λ c κs. search rules) (λ c κs. search rules) returns)

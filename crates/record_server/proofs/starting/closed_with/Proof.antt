@@ -5,7 +5,7 @@ use Rattle.record_server.proofs.starting.closed_with.Statement.{statement}
 use Rattle.record_server.proofs.starting.closed_with.Tie as tie
 
 returns : tie.Need-returns
-returns c = rw (c.around.ensures, c.before.ended.ensures)
+returns c = rw (c.around.ensures, c.ended.ensures)
 
-pub closed-with-spec : {M : Type 1} → statement M
-closed-with-spec = tie.close (tie.spec (λ c κs. search rules) (λ c κs. search rules) returns)
+pub closed_with_spec : {M : Type 1} → statement M
+closed_with_spec = tie.close (tie.spec (λ c κs. search rules) (λ c κs. search rules) returns)

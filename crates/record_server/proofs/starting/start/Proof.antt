@@ -5,7 +5,7 @@ use Rattle.record_server.proofs.starting.start.Statement.{statement}
 use Rattle.record_server.proofs.starting.start.Tie as tie
 
 returns : tie.Need-returns
-returns c = rw (c.around.ensures, c.before.no-alert.ensures, c.before.before.before.start-with.ensures)
+returns c = rw (c.around-next.ensures, c.no_alert.ensures, c.start_with-begun.ensures)
 
 pub start_spec : {M : Type 1} → statement M
 start_spec = tie.close (tie.spec (λ c κs. search rules) (λ c κs. search rules) (λ c κs. search rules) returns)

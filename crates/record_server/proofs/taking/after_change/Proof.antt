@@ -5,7 +5,7 @@ use Rattle.record_server.proofs.taking.after_change.Statement.{statement}
 use Rattle.record_server.proofs.taking.after_change.Tie as tie
 
 returns : tie.Need-returns
-returns c = rw c.protected-by.ensures
+returns c = rw c.protected_by-reading.ensures
 
-pub after-change-spec : {M : Type 1} → statement M
-after-change-spec = tie.close (tie.spec (λ c κs. search rules) returns)
+pub after_change_spec : {M : Type 1} → statement M
+after_change_spec = tie.close (tie.spec (λ c κs. search rules) returns)

@@ -3,11 +3,11 @@
 use Rattle.record_server.proofs.taking.answered.Statement.{statement}
 use Rattle.record_server.proofs.taking.answered.Tie as tie
 
-returns : tie.Need-returns
-returns c = rw c.before.if1.true
+returns : tie.Need-returns-then-d
+returns c = rw c.if-d.true
 
-returns-2 : tie.Need-returns-2
-returns-2 c = rw c.if1.false
+returns-2 : tie.Need-returns
+returns-2 c = rw c.if-d.false
 
-pub answered-spec : {M : Type 1} → statement M
-answered-spec = tie.close (tie.spec returns returns-2)
+pub answered_spec : {M : Type 1} → statement M
+answered_spec = tie.close (tie.spec returns returns-2)

@@ -10,26 +10,23 @@ use borrow.Author.Rules.{rules}
 use Rattle.record_server.proofs.taking.application_data.Statement.{statement}
 use Rattle.record_server.proofs.taking.application_data.Tie as tie
 
-returns : tie.Need-returns
+returns : tie.Need-returns-then-received-lt5
 returns c =
-    let holds = c.before.before.before.holds.given in
-    let received = c.before.before.before.before.before.args.received.now in
-    rw (holds.1, drop_of_length-le received {i = 5} (omega arith), take-nil holds.0.0)
+    let received = c.args.received.now in
+    rw (c.in-Bytes.is, drop_of_length-le received {i = 5} (omega arith), take-nil c.in-Bytes.n)
 
-returns-2 : tie.Need-returns-2
+returns-2 : tie.Need-returns-then-received-n
 returns-2 c =
-    let holds = c.before.before.before.before.holds.given in
-    let received = c.before.before.before.before.before.before.args.received.now in
-    rw (holds.1, part_to_end received 5) (sym (take_all holds.0.0 (drop 5 received) (rw (length-drop 5 received) (omega arith))))
+    let received = c.args.received.now in
+    rw (c.in-Bytes.is, part_to_end received 5) (sym (take_all c.in-Bytes.n (drop 5 received) (rw (length-drop 5 received) (omega arith))))
 
-returns-4 : tie.Need-returns-4
+returns-4 : tie.Need-returns-else-received-n
 returns-4 c =
-    let holds = c.before.before.before.before.holds.given in
-    let size : 5 + holds.0.0 - 5 ≡ holds.0.0 = omega arith in
-    rw (holds.1, size)
+    let size : 5 + c.in-Bytes.n - 5 ≡ c.in-Bytes.n = omega arith in
+    rw (c.in-Bytes.is, size)
 
-pub application-data-spec : {M : Type 1} → statement M
-application-data-spec =
+pub application_data_spec : {M : Type 1} → statement M
+application_data_spec =
     tie.close
     (tie.spec
     (λ c. search rules)

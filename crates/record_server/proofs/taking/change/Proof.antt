@@ -6,23 +6,21 @@ use borrow.Author.Rules.{rules}
 use Rattle.record_server.proofs.taking.change.Statement.{statement}
 use Rattle.record_server.proofs.taking.change.Tie as tie
 
-returns : tie.Need-returns
+returns : tie.Need-returns-in-Wrote
 returns c memory held bytes =
-    let call = c.before.before.before.before.before in
-    let conn = call.before.before.args.c in
-    let said = change-said conn held conn.handshake conn.handshake.phase call.change-of-cipher.ensures in
-    same_step (said ∙ rw c.before.before.enum_told.given.1)
-    (rw c.before.after-change.ensures at (c.silent.ensures memory held bytes))
+    let conn = c.args.c in
+    let said = change-said conn held conn.handshake conn.handshake.phase c.change_of_cipher-answer.ensures in
+    same_step (said ∙ rw c.in-Wrote.is)
+    (rw c.after_change.ensures at (c.silent.ensures memory held bytes))
 
-returns-2 : tie.Need-returns-2
+returns-2 : tie.Need-returns-in-Refused
 returns-2 c memory held bytes =
-    let call = c.before.before.before.before.before in
-    let conn = call.before.before.args.c in
-    let said = change-said conn held conn.handshake conn.handshake.phase call.change-of-cipher.ensures in
-    same_step (said ∙ rw c.before.before.said.given.1) (c.refused.ensures memory held bytes)
+    let conn = c.args.c in
+    let said = change-said conn held conn.handshake conn.handshake.phase c.change_of_cipher-answer.ensures in
+    same_step (said ∙ rw c.in-Refused.is) (c.refused.ensures memory held bytes)
 
-pub change-spec : {M : Type 1} → statement M
-change-spec =
+pub change_spec : {M : Type 1} → statement M
+change_spec =
     tie.close
     (tie.spec
     (λ c κs. search rules)

@@ -17,40 +17,38 @@ use Rattle.record_server.proofs.taking.decide.Statement.{statement}
 use Rattle.record_server.proofs.taking.decide.Tie as tie
 
 -- behind the two tests
-behind : (c : tie.After-test-over) {verdict : Verdict} → c.test-over.result ≡ verdict →
-    let args = c.before.before.before.before.before.before.before.args in
+behind : (c : tie.After-test_over) {verdict : Verdict} → c.test_over.result ≡ verdict →
+    let args = c.args in
     let v = view_of args.table.now args.starts.now args.count in
     take_step v args.c args.memory.now args.received.now
     ≡ after_test verdict
     (opened_step v args.c (held_in args.memory.now args.c.held) args.received.now (opened args.c.reading args.received.now))
 behind c e =
-    let args = c.before.before.before.before.before.before.before.args in
+    let args = c.args in
     let memory = args.memory.now in
     let bytes = args.received.now in
     let v = view_of args.table.now args.starts.now args.count in
     let step = opened_step v args.c (held_in memory args.c.held) bytes (opened args.c.reading bytes) in
-    ap (λ (t : Verdict). after_test t step) (sym c.test-over.ensures ∙ e)
+    ap (λ (t : Verdict). after_test t step) (sym c.test_over.ensures ∙ e)
 
-decide-opened-requires : tie.Need-decide-opened-requires
+decide-opened-requires : tie.Need-decide_opened-requires
 decide-opened-requires c κs =
-    let kept = c.held in
-    let args = c.before.before.before.before.before.before.before.before.before.before.before.args in
+    let args = c.args in
     let memory = args.memory.now in
     let n = args.c.held in
-    let size : length (held_in memory n) ≡ kept.result = rw (← kept.ensures.1) (length-take-le kept.result memory kept.ensures.0) in
-    let few : kept.result ≤ 65535 = omega (arith, held-few memory n, c.before.struct_known.given) in
-    (kept.ensures.0, few, rw kept.ensures.1 (held-unfinished memory n))
+    let size : length (held_in memory n) ≡ c.held-kept.result = rw (← c.held-kept.ensures.1) (length-take-le c.held-kept.result memory c.held-kept.ensures.0) in
+    let few : c.held-kept.result ≤ 65535 = omega (arith, held-few memory n, c.struct_known-1.given) in
+    (c.held-kept.ensures.0, few, rw c.held-kept.ensures.1 (held-unfinished memory n))
 
-returns : tie.Need-returns
+returns : tie.Need-returns-in-Accepted
 returns c =
-    let told = c.before.before.before in
-    same_step (behind told.before.before told.enum_told.given.1) (rw c.before.held.ensures.1 at c.decide-opened.ensures)
+    same_step (behind c.before.before.before.before c.in-Accepted.is) (rw c.held-kept.ensures.1 at c.decide_opened.ensures)
 
-returns-2 : tie.Need-returns-2
-returns-2 c = same_step (behind c.before.before.before.before c.before.before.r.given.1) (c.refused.ensures _ _ _)
+returns-2 : tie.Need-returns-in-Refused
+returns-2 c = same_step (behind c.before.before c.in-Refused.is) (c.refused.ensures _ _ _)
 
-pub decide-spec : {M : Type 1} → statement M
-decide-spec =
+pub decide_spec : {M : Type 1} → statement M
+decide_spec =
     tie.close
     (tie.spec
     (λ c κs. search rules)

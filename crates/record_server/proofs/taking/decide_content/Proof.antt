@@ -19,21 +19,21 @@ use Rattle.record_server.proofs.taking.decide_content.Statement.{statement}
 use Rattle.record_server.proofs.taking.decide_content.Tie as tie
 
 -- the entry, seen from where the content was tested
-abbrev entry : tie.After-test-content → tie.Start
+abbrev entry : tie.After-test_content → tie.Start
 entry c = c.before.before.before.before.before.before.before.before
 
-tested : (c : tie.After-test-content) →
+tested : (c : tie.After-test_content) →
     let args = (entry c).args in
-    c.test-content.result
+    c.test_content.result
     ≡ content_test args.kind (is_complete args.c.handshake.phase) (not (is_empty (take args.kept args.memory.now)))
     (part 5 args.n args.received.now)
 tested c =
     let start = entry c in
-    let complete = c.before.before.is-complete.ensures in
-    c.test-content.ensures ∙ same_test start.args.kind start.args.c.handshake.phase start.args.n start.pre complete
+    let complete = c.is_complete-complete.ensures in
+    c.test_content.ensures ∙ same_test start.args.kind start.args.c.handshake.phase start.args.n start.requires complete
 
 -- behind the tests, by the type
-behind : (c : tie.After-test-content) {verdict : Verdict} {kind : ContentType} → c.test-content.result ≡ verdict → (entry c).args.kind ≡ kind →
+behind : (c : tie.After-test_content) {verdict : Verdict} {kind : ContentType} → c.test_content.result ≡ verdict → (entry c).args.kind ≡ kind →
     let args = (entry c).args in
     let v = view_of args.table.now args.starts.now args.count in
     let held = take args.kept args.memory.now in
@@ -47,45 +47,39 @@ behind c {verdict} e k =
 
 hear-requires : tie.Need-hear-requires
 hear-requires c κs =
-    let told = c.before.before.before in
-    let test = told.before.before in
-    rw (as_lent (entry test).args.n) (two_bytes _ _ _ c.before.enum-told3.given.1 (sym (tested test) ∙ told.enum_told.given.1))
+    rw (as_lent (entry c.before.before.before).args.n) (two_bytes _ _ _ c.in-Alert.is (sym (tested c.before.before.before) ∙ c.in-Accepted.is))
 
-returns : tie.Need-returns
+returns : tie.Need-returns-in-ApplicationData
 returns c =
-    let told = c.before.before.before.before in
-    let start = entry told.before.before in
+    let start = entry c.before.before.before.before in
     let conn = start.args.c in
     let memory = start.args.memory.now in
     let held = take start.args.kept memory in
     same_step
-    (behind told.before.before told.enum_told.given.1 c.before.before.enum-told2.given.1
-    ∙ ap (λ (m : ℕ). silently (one_more conn) held (Data.Bytes m)) (length-content start.pre))
-    (rw c.before.one_more.ensures at (c.silent.ensures memory held start.args.received.now))
+    (behind c.before.before.before.before c.in-Accepted.is c.in-ApplicationData.is
+    ∙ ap (λ (m : ℕ). silently (one_more conn) held (Data.Bytes m)) (length-content start.requires))
+    (rw c.one_more.ensures at (c.silent.ensures memory held start.args.received.now))
 
-returns-2 : tie.Need-returns-2
+returns-2 : tie.Need-returns-in-Alert
 returns-2 c =
-    let told = c.before.before.before.before in
-    let args = (entry told.before.before).args in
+    let args = (entry c.before.before.before.before).args in
     let memory = args.memory.now in
-    same_step (behind told.before.before told.enum_told.given.1 c.before.before.enum-told3.given.1)
+    same_step (behind c.before.before.before.before c.in-Accepted.is c.in-Alert.is)
     (rw (as_lent args.n) at (c.hear.ensures memory (take args.kept memory) args.received.now))
 
-returns-3 : tie.Need-returns-3
+returns-3 : tie.Need-returns-in-ChangeCipherSpec
 returns-3 c =
-    let told = c.before.before.before in
-    same_step (behind told.before.before told.enum_told.given.1 c.before.enum-told4.given.1) (c.change.ensures _ _ _)
+    same_step (behind c.before.before.before c.in-Accepted.is c.in-ChangeCipherSpec.is) (c.change.ensures _ _ _)
 
-returns-4 : tie.Need-returns-4
+returns-4 : tie.Need-returns-in-Handshake
 returns-4 c =
-    let told = c.before.before.before in
-    same_step (behind told.before.before told.enum_told.given.1 c.before.enum-told5.given.1) c.shake.ensures
+    same_step (behind c.before.before.before c.in-Accepted.is c.in-Handshake.is) c.shake.ensures
 
-returns-5 : tie.Need-returns-5
-returns-5 c = same_step (behind c.before.before.before.before c.before.before.r.given.1 refl) (c.refused.ensures _ _ _)
+returns-5 : tie.Need-returns-in-Refused
+returns-5 c = same_step (behind c.before.before c.in-Refused.is refl) (c.refused.ensures _ _ _)
 
-pub decide-content-spec : {M : Type 1} → statement M
-decide-content-spec =
+pub decide_content_spec : {M : Type 1} → statement M
+decide_content_spec =
     tie.close
     (tie.spec
     (λ c κs. search rules)

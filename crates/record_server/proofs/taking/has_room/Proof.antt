@@ -8,20 +8,16 @@ use borrow.Author.Rules.{rules}
 use Rattle.record_server.proofs.taking.has_room.Statement.{statement}
 use Rattle.record_server.proofs.taking.has_room.Tie as tie
 
-returns : tie.Need-returns
+returns : tie.Need-returns-then-room-at
 returns c =
-    let keep = c.before.before.keep.given in
-    let at = keep.0.0 in
-    let len = keep.0.1.1.0 in
-    rw (keep.1, lt-leb (at + len) c.before.before.before.before.args.room (omega arith))
+    rw (c.in-Put.is, lt-leb (at + c.in-Put.len) c.args.room (omega arith))
 
-returns-3 : tie.Need-returns-3
+returns-3 : tie.Need-returns-else-room-at
 returns-3 c =
-    let keep = c.before.before.keep.given in
-    rw keep.1 (room-behind keep.0.0 keep.0.1.1.0 c.before.before.before.before.args.room c.if1.false)
+    rw c.in-Put.is (room-behind c.in-Put.at c.in-Put.len c.args.room c.if-room-at.false)
 
-pub has-room-spec : {M : Type 1} → statement M
-has-room-spec =
+pub has_room_spec : {M : Type 1} → statement M
+has_room_spec =
     tie.close
     (tie.spec
     (λ c. search rules)

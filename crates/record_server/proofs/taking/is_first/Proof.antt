@@ -4,8 +4,8 @@ use borrow.Author.Rules.{rules}
 use Rattle.record_server.proofs.taking.is_first.Statement.{statement}
 use Rattle.record_server.proofs.taking.is_first.Tie as tie
 
-returns : tie.Need-returns
-returns c = rw c.before.if1.true
+returns : tie.Need-returns-then-reading
+returns c = rw c.if-reading.true
 
-pub is-first-spec : {M : Type 1} → statement M
-is-first-spec = tie.close (tie.spec returns (λ c. search rules))
+pub is_first_spec : {M : Type 1} → statement M
+is_first_spec = tie.close (tie.spec returns (λ c. search rules))

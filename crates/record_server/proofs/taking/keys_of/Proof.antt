@@ -16,13 +16,13 @@ use Rattle.record_server.proofs.taking.keys_of.Statement.{statement}
 use Rattle.record_server.proofs.taking.keys_of.Tie as tie
 
 -- the connection, seen from where the block was made
-abbrev entry : tie.After-key-block → tie.Start
+abbrev entry : tie.After-key_block → tie.Start
 entry c = c.before.before.before.before.before.before.before.before.before.before.before
 
-abbrev block : tie.After-key-block → List ℕ
-block c = c.key-block.new.1.1.1.1.0
+abbrev block : tie.After-key_block → List ℕ
+block c = c.key_block.new.out
 
-made : (c : tie.After-key-block) →
+made : (c : tie.After-key_block) →
     let conn = (entry c).args.c in
     (length (block c) ≡ 64) × (keys conn.secrets.master conn.setup.random conn.client.random 0x00b0 ≡ gives (block c))
 made c =
@@ -33,11 +33,11 @@ made c =
     let client : length conn.client.random ≡ 32 = search (rules, start.good.0.1.1.1.1.0.1.1.0) in
     let given = key-block-given conn.secrets.master conn.setup.random conn.client.random 0x00b0 master own client (omega arith)
     (omega arith) in
-    let whole = whole-gives given.2 given.1 c.key-block.ensures in
+    let whole = whole-gives given.2 given.1 c.key_block.ensures in
     let same : block c ≡ given.0 = cc in
     (rw same given.1, whole)
 
-slice-aggregate-copy : tie.Need-slice-aggregate-copy
+slice-aggregate-copy : tie.Need-slice_bounds-copy-end
 slice-aggregate-copy c = sym (length-take-le 32 (block c.before.before) (omega (arith, (made c.before.before).0)))
 
 copy-requires : tie.Need-copy-requires
@@ -45,19 +45,16 @@ copy-requires c κs = omega (arith, length-take-le 32 (block c.before.before.bef
 
 returns : tie.Need-returns
 returns c =
-    let second = c.before in
-    let first = second.before.before.before.before.before in
-    let at_block = first.before.before.before.before in
-    let size = (made at_block).0 in
-    let bytes = block at_block in
+    let size = (made c.before.before.before.before.before.before.before.before.before).0 in
+    let bytes = block c.before.before.before.before.before.before.before.before.before in
     rw (
-      (made at_block).1,
-      copied-part bytes first.copy.new.1.0 0 32 32 refl (omega arith) first.copy.ensures.1,
-      copied-part bytes second.copy2.new.1.0 32 32 32 refl (omega arith) second.copy2.ensures.1,
+      (made c.before.before.before.before.before.before.before.before.before).1,
+      copied-part bytes c.copy.new.dst 0 32 32 refl (omega arith) c.copy.ensures.1,
+      copied-part bytes c.copy-2.new.dst 32 32 32 refl (omega arith) c.copy-2.ensures.1,
     )
 
-pub keys-of-spec : {M : Type 1} → statement M
-keys-of-spec =
+pub keys_of_spec : {M : Type 1} → statement M
+keys_of_spec =
     tie.close
     (tie.spec
     (λ c. search rules)

@@ -5,7 +5,7 @@ use Rattle.record_server.proofs.taking.one_more.Statement.{statement}
 use Rattle.record_server.proofs.taking.one_more.Tie as tie
 
 returns : tie.Need-returns
-returns c = rw c.counted.ensures
+returns c = rw c.counted-counted.ensures
 
-pub one-more-spec : {M : Type 1} → statement M
-one-more-spec = tie.close (tie.spec (λ c κs. search rules) returns)
+pub one_more_spec : {M : Type 1} → statement M
+one_more_spec = tie.close (tie.spec (λ c κs. search rules) returns)

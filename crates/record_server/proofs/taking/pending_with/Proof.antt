@@ -4,8 +4,8 @@ use borrow.Author.Rules.{rules}
 use Rattle.record_server.proofs.taking.pending_with.Statement.{statement}
 use Rattle.record_server.proofs.taking.pending_with.Tie as tie
 
-returns : tie.Need-returns
-returns c = rw c.before.before.if1.true c.keys_of.ensures
+returns : tie.Need-returns-then-p
+returns c = rw c.if-p.true c.keys_of.ensures
 
-pub pending-with-spec : {M : Type 1} → statement M
-pending-with-spec = tie.close (tie.spec (λ c κs. search rules) returns (λ c. search rules))
+pub pending_with_spec : {M : Type 1} → statement M
+pending_with_spec = tie.close (tie.spec (λ c κs. search rules) returns (λ c. search rules))

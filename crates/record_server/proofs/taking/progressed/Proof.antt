@@ -10,28 +10,25 @@ use Rattle.record_server.proofs.taking.progressed.Statement.{statement}
 use Rattle.record_server.proofs.taking.progressed.Tie as tie
 
 -- what was put there
-sent : (c : tie.After-put-flight) →
-    let at_key = c.before.before.before.before.before in
-    let args = at_key.before.before.before.before.before.before.args in
-    take c.put-flight.result.len c.put-flight.new.1.1.1.0
-    ≡ flight_records args.c.writing at_key.before.pending-with.result.server (flight_of args.p.outgoing)
-sent c = let sends = c.put-flight.ensures in rw (sends.size, sends.bytes) (take-append_seam _ _)
+sent : (c : tie.After-put_flight-sent) →
+    let args = c.args in
+    take c.put_flight-sent.result.len c.put_flight-sent.new.out
+    ≡ flight_records args.c.writing c.pending_with-pending.result.server (flight_of args.p.outgoing)
+sent c = let sends = c.put_flight-sent.ensures in rw (sends.size, sends.bytes) (take-append_seam _ _)
 
 returns : tie.Need-returns
 returns c =
-    let at-flight = c.before.before.before.before in
-    let sends = at-flight.put-flight.ensures in
-    let made = at-flight.before.before.before.before.before.before.pending-with in
+    let sends = c.put_flight-sent.ensures in
     record {
       is = λ q conn flight master size memory held bytes kept.
-          rw (conn, flight, master, size, kept, c.before.before.counted.ensures, c.pending-after.ensures)
-          (rw (sends.change made.result, sends.state, sent at-flight, made.ensures));
+          rw (conn, flight, master, size, kept, c.counted-counted.ensures, c.pending_after.ensures)
+          (rw (sends.change c.pending_with-pending.result, sends.state, sent c.before.before.before.before, c.pending_with-pending.ensures));
       keeps = refl;
       fits = sends.fits;
     }
 
-pub progressed-spec : {M : Type 1} → statement M
-progressed-spec =
+pub progressed_spec : {M : Type 1} → statement M
+progressed_spec =
     tie.close
     (tie.spec
     (λ c κs. search rules)

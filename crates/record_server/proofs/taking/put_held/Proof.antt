@@ -16,57 +16,47 @@ use Rattle.record_server.proofs.taking.put_held.Statement.{statement}
 use Rattle.record_server.proofs.taking.put_held.Tie as tie
 
 -- where the bytes stand in the record, and where they go
-inside : (c : tie.After-known-told) →
-    let put = c.before.keep.given.0 in
-    let args = c.before.before.before.before.before.args in
-    (put.0 ≤ length args.memory.now) × (put.1.0 + put.1.1.0 ≤ length args.received.now)
-inside c = rw c.before.keep.given.1 at c.before.before.before.before.before.requires.0
+inside : (c : tie.In-Put) →
+    let args = c.args in
+    (c.in-Put.at ≤ length args.memory.now) × (c.in-Put.from + c.in-Put.len ≤ length args.received.now)
+inside c = rw c.in-Put.is at c.requires.0
 
-room : (c : tie.After-known-told) →
-    let put = c.before.keep.given.0 in
-    put.0 + put.1.1.0 ≤ length c.before.before.before.before.before.args.memory.now
-room c = leb-true _ _ (rw c.before.keep.given.1 at c.before.before.before.before.before.requires.1)
+room : (c : tie.In-Put) →
+    c.in-Put.at + c.in-Put.len ≤ length c.args.memory.now
+room c = leb-true _ _ (rw c.in-Put.is at c.requires.1)
 
-add-end : tie.Need-overflow-add-end
+add-end : tie.Need-overflow_add-end
 add-end c = omega (arith, (inside c).1)
 
 -- how many bytes the part has
-size : (c : tie.After-known-told) →
-    let put = c.before.keep.given.0 in
-    length (part put.1.0 (put.1.0 + put.1.1.0 - put.1.0) c.before.before.before.before.before.args.received.now) ≡ put.1.1.0
+size : (c : tie.In-Put) →
+    length (part c.in-Put.from (c.in-Put.from + c.in-Put.len - c.in-Put.from) c.args.received.now) ≡ c.in-Put.len
 size c =
-    let put = c.before.keep.given.0 in
-    let same : put.1.0 + put.1.1.0 - put.1.0 ≡ put.1.1.0 = omega arith in
-    rw same (length_part c.before.before.before.before.before.args.received.now put.1.0 put.1.1.0 (inside c).1)
+    let same : c.in-Put.from + c.in-Put.len - c.in-Put.from ≡ c.in-Put.len = omega arith in
+    rw same (length_part c.args.received.now c.in-Put.from c.in-Put.len (inside c).1)
 
 copy-requires : tie.Need-copy-requires
 copy-requires c κs =
-    let told = c.before.before in
-    let memory = told.before.before.before.before.before.args.memory.now in
-    rw (size told, mid_len told.before.keep.given.0.0 (length memory) memory (omega arith)) (omega (arith, room told))
+    let memory = c.args.memory.now in
+    rw (size c.before.before, mid_len c.in-Put.at (length memory) memory (omega arith)) (omega (arith, room c.before.before))
 
-returns : tie.Need-returns
-returns c held h = rw c.enum_told.given.1 (sym h)
+returns : tie.Need-returns-in-Same
+returns c held h = rw c.in-Same.is (sym h)
 
-returns-2 : tie.Need-returns-2
+returns-2 : tie.Need-returns-in-Put
 returns-2 c held h =
-    let told = c.before.before.before.before.before in
-    let keep = told.before.keep.given in
-    let at = keep.0.0 in
-    let from = keep.0.1.0 in
-    let len = keep.0.1.1.0 in
-    let args = told.before.before.before.before.before.args in
+    let args = c.args in
     let memory = args.memory.now in
-    let same : from + len - from ≡ len = omega arith in
-    let front = length-take-le at memory (inside told).0 in
-    let copied = rw same at c.before.before.copy.ensures.1 in
-    let bytes = part from len args.received.now in
-    rw keep.1
-    (put-behind (take at memory) bytes memory memory c.before.before.copy.new.1.0 at (sym (front-take at memory)) (sym front)
-    (copy-in-front bytes (take (length memory - at) (drop at memory)) _ copied))
+    let same : c.in-Put.from + c.in-Put.len - c.in-Put.from ≡ c.in-Put.len = omega arith in
+    let front = length-take-le at memory (inside c.before.before.before.before.before).0 in
+    let copied = rw same at c.copy.ensures.1 in
+    let bytes = part c.in-Put.from c.in-Put.len args.received.now in
+    rw c.in-Put.is
+    (put-behind (take at memory) bytes memory memory c.copy.new.dst at (sym (front-take at memory)) (sym front)
+    (copy-in-front bytes (take (length memory - c.in-Put.at) (drop at memory)) _ copied))
 
-pub put-held-spec : {M : Type 1} → statement M
-put-held-spec =
+pub put_held_spec : {M : Type 1} → statement M
+put_held_spec =
     tie.close
     (tie.spec
     (λ c. search rules)

@@ -5,18 +5,16 @@ use borrow.Author.Rules.{rules}
 use Rattle.record_server.proofs.taking.refused_as.Statement.{statement}
 use Rattle.record_server.proofs.taking.refused_as.Tie as tie
 
-returns : tie.Need-returns
+returns : tie.Need-returns-then-number-eq20
 returns c =
-    let n = c.before.number in
-    rw (c.before.before.if1.true, ← n.ensures, eq-eqb n.result 20 c.if2.true)
+    rw (c.if-first.true, ← c.number.ensures, eq-eqb c.number.result 20 c.if-number-eq20.true)
 
-returns-2 : tie.Need-returns-2
+returns-2 : tie.Need-returns-else-number-eq20
 returns-2 c =
-    let n = c.before.number in
-    rw (c.before.before.if1.true, ← n.ensures, ne_eqb n.result 20 c.if2.false)
+    rw (c.if-first.true, ← c.number.ensures, ne_eqb c.number.result 20 c.if-number-eq20.false)
 
-returns-3 : tie.Need-returns-3
-returns-3 c = rw c.if1.false
+returns-3 : tie.Need-returns-else-first
+returns-3 c = rw c.if-first.false
 
-pub refused-as-spec : {M : Type 1} → statement M
-refused-as-spec = tie.close (tie.spec (λ c κs. search rules) returns returns-2 returns-3)
+pub refused_as_spec : {M : Type 1} → statement M
+refused_as_spec = tie.close (tie.spec (λ c κs. search rules) returns returns-2 returns-3)

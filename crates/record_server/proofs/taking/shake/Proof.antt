@@ -15,69 +15,61 @@ use borrow.Author.Rules.{rules}
 use Rattle.record_server.proofs.taking.shake.Statement.{statement}
 use Rattle.record_server.proofs.taking.shake.Tie as tie
 
-slice-aggregate-judge : tie.Need-slice-aggregate-judge
-slice-aggregate-judge c = sym (length-held c.before.before.before.before.before.before.requires)
+slice-aggregate-judge : tie.Need-slice_bounds-judge-end
+slice-aggregate-judge c = sym (length-held c.requires)
 
-judge-requires : tie.Need-judge-requires
+judge-requires : tie.Need-judge-p-requires
 judge-requires c κs =
-    let start = c.before.before.before.before.before.before.before in (
-      start.requires.going,
-      rw (length-held start.requires, as_lent start.args.n, length-content start.requires)
-          (omega (arith, start.requires.kept-few, start.requires.few)),
+    (
+      c.requires.going,
+      rw (length-held c.requires, as_lent c.args.n, length-content c.requires)
+          (omega (arith, c.requires.kept-few, c.requires.few)),
     )
 
 -- the entry, seen from where the bytes were judged
-abbrev entry : tie.After-judge → tie.Start
-entry c = c.before.before.before.before.before.before.before.before
+abbrev entry : tie.After-judge-p → tie.Start
+entry c = c.before.before.before.before.before.before.before
 
-ends : (c : tie.After-judge) →
+ends : (c : tie.After-judge-p) →
     let args = (entry c).args in
     let all = take args.kept args.memory.now ++ part 5 args.n args.received.now in
-    Ends args.kept all (judged (view_of args.table.now args.starts.now args.count) args.c.handshake all) c.judge.result
-ends c = rw (length-held (entry c).requires, as_lent (entry c).args.n) at c.judge.ensures
+    Ends args.kept all (judged (view_of args.table.now args.starts.now args.count) args.c.handshake all) c.judge-p.result
+ends c = rw (length-held (entry c).requires, as_lent (entry c).args.n) at c.judge-p.ensures
 
 progressed-requires : tie.Need-progressed-requires
 progressed-requires c κs =
-    let judge = c.before.before.before in
-    ((ends judge).sound.ranges, omega (arith, all-few (entry judge).requires (ends judge) c.before.enum-told2.given.1 c.if1.true))
+    ((ends c.before.before).sound.ranges, omega (arith, all-few (entry c.before.before).requires (ends c.before.before) c.in-Waits.is c.if-at-kept.true))
 
-returns : tie.Need-returns
+returns : tie.Need-returns-then-at-kept
 returns c =
-    let then = c.before in
-    let judge = then.before.before.before in
-    all-decides (entry judge).requires (ends judge) then.before.enum-told2.given.1 then.if1.true c.progressed.ensures
+    all-decides (entry c.before.before.before).requires (ends c.before.before.before) c.in-Waits.is c.if-at-kept.true c.progressed.ensures
 
 -- a message was judged
-add-t27 : tie.Need-overflow-add-t27
+add-t27 : tie.Need-overflow_add-from
 add-t27 c =
-    let judge = c.before.before.before in
-    omega (arith, from-few (entry judge).requires (ends judge) c.if1.false, (entry judge).requires.few)
+    omega (arith, from-few (entry c.before.before).requires (ends c.before.before) c.if-at-kept.false, (entry c.before.before).requires.few)
 
-sub-t28 : tie.Need-overflow-sub-t28
-sub-t28 c = let judge = c.before.before.before in from-few (entry judge).requires (ends judge) c.if1.false
+sub-t28 : tie.Need-overflow_sub-n-in-Waits
+sub-t28 c = from-few (entry c.before.before).requires (ends c.before.before) c.if-at-kept.false
 
-progressed-requires-2 : tie.Need-progressed-requires-2
+progressed-requires-2 : tie.Need-progressed-requires-in-Waits
 progressed-requires-2 c κs =
-    let judge = c.before.before.before in
-    ((ends judge).sound.ranges, omega (arith, (entry judge).requires.few))
+    ((ends c.before.before).sound.ranges, omega (arith, (entry c.before.before).requires.few))
 
-returns-2 : tie.Need-returns-2
-returns-2 c = let judge = c.before.before.before in absurd (not_going (entry judge).requires (ends judge) c.before.enum_told.given.1)
+returns-2 : tie.Need-returns-in-Going
+returns-2 c = absurd (not_going (entry c.before.before).requires (ends c.before.before) c.in-Going.is)
 
-returns-3 : tie.Need-returns-3
+returns-3 : tie.Need-returns-else-at-kept
 returns-3 c =
-    let else = c.before in
-    let judge = else.before.before.before in
-    rest-decides (entry judge).requires (ends judge) else.if1.false else.before.enum-told2.given.1 c.progressed2.ensures
+    rest-decides (entry c.before.before.before).requires (ends c.before.before.before) c.if-at-kept.false c.in-Waits.is c.progressed-in-Waits.ensures
 
-returns-4 : tie.Need-returns-4
+returns-4 : tie.Need-returns-in-Refused
 returns-4 c =
-    let judge = c.before.before.before.before in
-    same_step (refused-means (entry judge).requires (ends judge) (entry judge).args.c c.before.before.course.given.1)
-    (c.refused2.ensures _ _ _)
+    same_step (refused-means (entry c.before.before).requires (ends c.before.before) (entry c.before.before).args.c c.in-Refused.is)
+    (c.refused-in-Refused.ensures _ _ _)
 
-pub shake-spec : {M : Type 1} → statement M
-shake-spec =
+pub shake_spec : {M : Type 1} → statement M
+shake_spec =
     tie.close
     (tie.spec
     slice-aggregate-judge

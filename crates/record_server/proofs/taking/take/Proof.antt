@@ -9,14 +9,12 @@ use Rattle.record_server.proofs.taking.take.Tie as tie
 
 returns : tie.Need-returns
 returns c =
-    let settled = c.before.before.before.before in
-    let decided = settled.before.before.before in
-    let args = decided.before.before.before.before.before.before.before.args in
+    let args = c.args in
     let memory = args.memory.now in
     let held = held_in memory args.c.held in
-    let does = settled.settle.ensures held (held-front memory args.c.held) in (
-      rw (← decided.decide.ensures.means) does.takes,
-      brief args.c decided.decide.result held args.received.now args.out.now memory decided.decide.ensures.fits does,
+    let does = c.settle.ensures held (held-front memory args.c.held) in (
+      rw (← c.decide-d.ensures.means) does.takes,
+      brief args.c c.decide-d.result held args.received.now args.out.now memory c.decide-d.ensures.fits does,
     )
 
 pub take_spec : {M : Type 1} → statement M

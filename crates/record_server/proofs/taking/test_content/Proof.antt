@@ -10,33 +10,33 @@ use borrow.Author.Rules.{rules}
 use Rattle.record_server.proofs.taking.test_content.Statement.{statement}
 use Rattle.record_server.proofs.taking.test_content.Tie as tie
 
-returns-2 : tie.Need-returns-2
-returns-2 c = rw (c.before.enum-told2.given.1, is-empty c.before.before.before.before.args.content.now c.if2.true)
+returns-2 : tie.Need-returns-then-content-eq0
+returns-2 c = rw (c.in-Handshake.is, is-empty c.args.content.now c.if-content-eq0.true)
 
 -- handshake bytes behind their first test
-some_bytes : (c : tie.Else2) → is_empty c.before.before.before.before.args.content.now ≡ false
-some_bytes c = not-empty c.before.before.before.before.args.content.now c.if2.false
+some_bytes : (c : tie.Else-content-eq0) → is_empty c.args.content.now ≡ false
+some_bytes c = not-empty c.args.content.now c.if-content-eq0.false
 
-returns-3 : tie.Need-returns-3
-returns-3 c = rw (c.before.before.enum-told2.given.1, some_bytes c.before, c.if3.true)
+returns-3 : tie.Need-returns-then-complete-2
+returns-3 c = rw (c.in-Handshake.is, some_bytes c.before, c.if-complete-2.true)
 
-returns-4 : tie.Need-returns-4
-returns-4 c = rw (c.before.enum-told4.given.1, eq-eqb (length c.before.before.before.before.args.content.now) 2 c.if4.true)
+returns-4 : tie.Need-returns-then-content-eq2
+returns-4 c = rw (c.in-Alert.is, eq-eqb (length c.args.content.now) 2 c.if-content-eq2.true)
 
-returns-5 : tie.Need-returns-5
-returns-5 c = rw (c.before.enum_told.given.1, c.if1.false)
+returns-5 : tie.Need-returns-else-complete
+returns-5 c = rw (c.in-ApplicationData.is, c.if-complete.false)
 
-returns-6 : tie.Need-returns-6
-returns-6 c = rw (c.before.before.enum-told2.given.1, some_bytes c.before, c.if3.false)
+returns-6 : tie.Need-returns-else-complete-2
+returns-6 c = rw (c.in-Handshake.is, some_bytes c.before, c.if-complete-2.false)
 
-returns-7 : tie.Need-returns-7
-returns-7 c = rw c.before.enum-told3.given.1 c.test-change.ensures
+returns-7 : tie.Need-returns-in-ChangeCipherSpec
+returns-7 c = rw c.in-ChangeCipherSpec.is c.test_change.ensures
 
-returns-8 : tie.Need-returns-8
-returns-8 c = rw (c.before.enum-told4.given.1, ne_eqb (length c.before.before.before.before.args.content.now) 2 c.if4.false)
+returns-8 : tie.Need-returns-else-content-eq2
+returns-8 c = rw (c.in-Alert.is, ne_eqb (length c.args.content.now) 2 c.if-content-eq2.false)
 
-pub test-content-spec : {M : Type 1} → statement M
-test-content-spec =
+pub test_content_spec : {M : Type 1} → statement M
+test_content_spec =
     tie.close
     (tie.spec
     (λ c. search rules)

@@ -5,7 +5,7 @@ use Rattle.records.proofs.header.made.Statement.{statement}
 use Rattle.records.proofs.header.made.Tie as tie
 
 returns : tie.Need-returns
-returns c = rw (c.type-number.ensures, c.before.bytes16.ensures)
+returns c = rw (c.type_number.ensures, c.bytes16-size.ensures)
 
-pub made-spec : {M : Type 1} → statement M
-made-spec = tie.close (tie.spec (λ c κs. search rules) (λ c κs. search rules) (λ c. search rules) (λ c. search rules) returns)
+pub made_spec : {M : Type 1} → statement M
+made_spec = tie.close (tie.spec (λ c κs. search rules) (λ c κs. search rules) (λ c. search rules) (λ c. search rules) returns)

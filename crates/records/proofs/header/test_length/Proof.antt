@@ -7,14 +7,14 @@ use native.Mathlib.Omega.{arith}
 use Rattle.records.proofs.header.test_length.Statement.{statement}
 use Rattle.records.proofs.header.test_length.Tie as tie
 
-returns : tie.Need-returns
-returns c = let a = c.before.before.args in rw (lt-leb a.n (16384 + a.added) (omega arith))
+returns : tie.Need-returns-then-added-n
+returns c = let a = c.args in rw (lt-leb a.n (16384 + a.added) (omega arith))
 
-returns-2 : tie.Need-returns-2
-returns-2 c = let a = c.before.before.args in rw (le-leb a.n (16384 + a.added) (omega arith))
+returns-2 : tie.Need-returns-else-added-n
+returns-2 c = let a = c.args in rw (le-leb a.n (16384 + a.added) (omega arith))
 
-returns-3 : tie.Need-returns-3
-returns-3 c = let a = c.before.args in rw (le-leb a.n (16384 + a.added) (omega arith))
+returns-3 : tie.Need-returns-else-n-gt16384
+returns-3 c = let a = c.args in rw (le-leb a.n (16384 + a.added) (omega arith))
 
-pub test-length-spec : {M : Type 1} → statement M
-test-length-spec = tie.close (tie.spec (λ c. search rules) returns returns-2 returns-3)
+pub test_length_spec : {M : Type 1} → statement M
+test_length_spec = tie.close (tie.spec (λ c. search rules) returns returns-2 returns-3)

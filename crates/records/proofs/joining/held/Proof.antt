@@ -28,33 +28,32 @@ end-in memory kept inside some =
     rw (stated-window 3 1 (take kept memory) (rw (length-take-le kept memory inside) some))
     (rw (get_or-take kept memory 1 0 (omega arith), get_or-take kept memory 2 0 (omega arith), get_or-take kept memory 3 0 (omega arith)))
 
-abbrev at-within : tie.After-message-end → tie.After-within
+abbrev at-within : tie.After-message_end → tie.After-within-kept
 at-within c = c.before.before.before.before.before.before
 
 -- the header is in, and message_end gave the end
-header-in : (c : tie.After-message-end) →
-    let kept = (at-within c).within.result in
-    let a = (at-within c).before.before.args in
-    held_in a.memory.now a.n ≡ cond (ltb kept c.message-end.result) (take kept a.memory.now) []
+header-in : (c : tie.After-message_end) →
+    let kept = (at-within c).within-kept.result in
+    let a = (at-within c).args in
+    held_in a.memory.now a.n ≡ cond (ltb kept c.message_end.result) (take kept a.memory.now) []
 header-in c =
-    let w = (at-within c).within in
-    let a = (at-within c).before.before.args in
+    let w = (at-within c).within-kept in
+    let a = (at-within c).args in
     let some : 4 ≤ w.result = omega arith in
-    let end : message_end (take w.result a.memory.now) ≡ c.message-end.result =
-    end-in a.memory.now w.result w.ensures.0 some ∙ sym c.message-end.ensures in
+    let end : message_end (take w.result a.memory.now) ≡ c.message_end.result =
+    end-in a.memory.now w.result w.ensures.0 some ∙ sym c.message_end.ensures in
     kept_in a.memory.now a.n w.result w.ensures.0 w.ensures.1 ∙ rw (end, le-ltb _ _ some)
 
-returns : tie.Need-returns
+returns : tie.Need-returns-then-kept-lt4
 returns c =
-    let w = c.before.within in
-    let a = c.before.before.before.args in
-    (w.ensures.0, sym (kept_in a.memory.now a.n w.result w.ensures.0 w.ensures.1 ∙ rw (lt-ltb _ _ c.if1.true)))
+    let a = c.args in
+    (c.within-kept.ensures.0, sym (kept_in a.memory.now a.n c.within-kept.result c.within-kept.ensures.0 c.within-kept.ensures.1 ∙ rw (lt-ltb _ _ c.if-kept-lt4.true)))
 
-returns-2 : tie.Need-returns-2
-returns-2 c = (omega arith, sym (header-in c.before ∙ rw (le-ltb _ _ c.if2.true)))
+returns-2 : tie.Need-returns-then-message_end-kept
+returns-2 c = (omega arith, sym (header-in c.before ∙ rw (le-ltb _ _ c.if-message_end-kept.true)))
 
-returns-3 : tie.Need-returns-3
-returns-3 c = ((at-within c.before).within.ensures.0, sym (header-in c.before ∙ rw (lt-ltb _ _ c.if2.false)))
+returns-3 : tie.Need-returns
+returns-3 c = ((at-within c.before).within-kept.ensures.0, sym (header-in c.before ∙ rw (lt-ltb _ _ c.if-message_end-kept.false)))
 
 pub held_spec : {M : Type 1} → statement M
 held_spec =

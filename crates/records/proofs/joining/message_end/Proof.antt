@@ -10,21 +10,21 @@ use Rattle.layout.proofs.Windows.{stated-window}
 use Rattle.records.proofs.joining.message_end.Statement.{statement}
 use Rattle.records.proofs.joining.message_end.Tie as tie
 
-add-result : tie.Need-overflow-add-result
+add-result : tie.Need-overflow_add-result
 add-result c =
-    let header = c.before.args.t1 in
-    let high : Fits w8 (get_or header 1 0) = search (rules, c.before.well-formed) in
-    let middle : Fits w8 (get_or header 2 0) = search (rules, c.before.well-formed) in
-    let low : Fits w8 (get_or header 3 0) = search (rules, c.before.well-formed) in
+    let header = c.args.header in
+    let high : Fits w8 (get_or header 1 0) = search (rules, c.well_formed) in
+    let middle : Fits w8 (get_or header 2 0) = search (rules, c.well_formed) in
+    let low : Fits w8 (get_or header 3 0) = search (rules, c.well_formed) in
     record { fits = omega (arith, c.number24.ensures) }
 
 returns : tie.Need-returns
 returns c =
-    let header = c.before.args.t1 in
-    let size : length header ≡ 4 = search (rules, c.before.well-formed) in
+    let header = c.args.header in
+    let size : length header ≡ 4 = search (rules, c.well_formed) in
     rw (c.number24.ensures, stated-window 3 1 header (omega arith))
 
-pub message-end-spec : {M : Type 1} → statement M
-message-end-spec =
+pub message_end_spec : {M : Type 1} → statement M
+message_end_spec =
     tie.close
     (tie.spec (λ c. search rules) (λ c. search rules) (λ c. search rules) (λ c κs. search rules) add-result returns)

@@ -7,11 +7,11 @@ use lib.Seq.{take_all}
 use Rattle.records.proofs.joining.within.Statement.{statement}
 use Rattle.records.proofs.joining.within.Tie as tie
 
-returns : tie.Need-returns
+returns : tie.Need-returns-then-memory-n
 returns c =
-    let a = c.before.args in
+    let a = c.args in
     let memory = a.memory.now in
     (omega arith, rw (take_all (length memory) memory (omega arith), take_all a.n memory (omega arith)))
 
-pub within-spec : {M : Type 1} → statement M
-within-spec = tie.close (tie.spec returns (λ c. search rules))
+pub within_spec : {M : Type 1} → statement M
+within_spec = tie.close (tie.spec returns (λ c. search rules))

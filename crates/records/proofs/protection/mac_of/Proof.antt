@@ -9,17 +9,14 @@ use Rattle.records.proofs.protection.mac_of.Tie as tie
 
 returns : tie.Need-returns
 returns c =
-    let at_size = c.before.before.before.before.before in
-    let at-number = at_size.before in
-    let start = at-number.before.before in
-    let a = start.args in
-    let key : length a.t1 ≡ 32 = search (rules, start.well-formed) in
-    let front : length a.t3 ≡ 3 = search (rules, start.well-formed) in
-    mac-given a.t1 a.sequence a.t3 a.content.now key front start.requires at-number.bytes64.ensures at_size.bytes16.ensures
-    c.before.hmac-of-two.ensures
+    let a = c.args in
+    let key : length a.key ≡ 32 = search (rules, c.well_formed) in
+    let front : length a.front ≡ 3 = search (rules, c.well_formed) in
+    mac-given a.key a.sequence a.front a.content.now key front c.requires c.bytes64-number.ensures c.bytes16-size.ensures
+    c.hmac_of_two.ensures
 
-pub mac-of-spec : {M : Type 1} → statement M
-mac-of-spec =
+pub mac_of_spec : {M : Type 1} → statement M
+mac_of_spec =
     tie.close
     (tie.spec
     (λ c κs. search rules)

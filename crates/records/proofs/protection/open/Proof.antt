@@ -1,5 +1,6 @@
 -- `records::protection::open` meets its contract: the tests on the layout, and then the MAC's where there is protection.
 -- Assumes nothing.
+use Rattle.std.specs.Prelude.{not}
 use borrow.Author.Rules.{rules}
 use borrow.Author.Tests.{leb-true}
 use Prim.Native.Nat.{ℕ, ◌+◌, ◌-◌, ◌≤◌}
@@ -29,43 +30,41 @@ plain_fits s b p = rw p (omega arith)
 
 -- the entry, from where read gave its answer
 abbrev state : tie.After-read → State
-state c = c.before.before.before.args.s
+state c = c.args.s
 
 abbrev bytes : tie.After-read → List ℕ
-bytes c = c.before.before.before.args.received.now
+bytes c = c.args.received.now
 
 -- read was asked with what the protection may add
 read_is : (c : tie.After-read) → record_read (added (state c)) (bytes c) ≡ c.read.result
-read_is c = ap (λ (n : ℕ). record_read n (bytes c)) (sym c.before.added.ensures) ∙ sym c.read.ensures
+read_is c = ap (λ (n : ℕ). record_read n (bytes c)) (sym c.added-extra.ensures) ∙ sym c.read.ensures
 
-abbrev at_read : tie.After-known-told → tie.After-read
-at_read c = c.before.before.before
+abbrev at_read : tie.In-Record → tie.After-read
+at_read c = c.before
 
 -- the layout passed
-layout-passed : (c : tie.After-known-told) → record_read (added (state (at_read c))) (bytes (at_read c)) ≡ Read.Record c.before.kind.given.0.0
-layout-passed c = read_is (at_read c) ∙ c.before.kind.given.1
+layout-passed : (c : tie.In-Record) → record_read (added (state (at_read c))) (bytes (at_read c)) ≡ Read.Record c.in-Record.kind
+layout-passed c = read_is (at_read c) ∙ c.in-Record.is
 
-inside : (c : tie.After-known-told) → (5 ≤ length (bytes (at_read c))) × (length (fragment_of (bytes (at_read c))) ≤ 16384 + added (state (at_read c)))
+inside : (c : tie.In-Record) → (5 ≤ length (bytes (at_read c))) × (length (fragment_of (bytes (at_read c))) ≤ 16384 + added (state (at_read c)))
 inside c = record-inside (added (state (at_read c))) (bytes (at_read c)) (layout-passed c)
 
-right-mac-requires : tie.Need-right-mac-requires
+right-mac-requires : tie.Need-right_mac-requires
 right-mac-requires c κs =
     let i = inside c.before in
     let size = length-drop 5 (bytes (at_read c.before)) in
-    (c.if1.true, omega (arith, few-added (state (at_read c.before))))
+    (c.if-s.true, omega (arith, few-added (state (at_read c.before))))
 
-returns : tie.Need-returns
+returns : tie.Need-returns-then-not-right_mac
 returns c =
-    let m = c.before.right-mac in
-    let l = c.before.before.before in
-    let bad = failed m.result _ m.ensures c.if2.true in
-    sym (opened-bad (state (at_read l)) (bytes (at_read l)) (layout-passed l) c.before.before.if1.true bad)
+    let bad = failed c.right_mac.result _ c.right_mac.ensures (ap not c.if-not-right_mac.true) in
+    sym (opened-bad (state (at_read c.before.before.before)) (bytes (at_read c.before.before.before)) (layout-passed c.before.before.before) c.if-s.true bad)
 
 -- the MAC's test passed or was not asked for
-mac-passed : (c : tie.Joined1) →
+mac-passed : (c : tie.Joined-s) →
     let s = state (at_read c.before) in
     let b = bytes (at_read c.before) in
-    (opened s b ≡ Opened.Content c.before.before.kind.given.0.0 (content_length s b)) × (added s ≤ length (fragment_of b))
+    (opened s b ≡ Opened.Content c.in-Record.kind (content_length s b)) × (added s ≤ length (fragment_of b))
 mac-passed c =
     let s = state (at_read c.before) in
     let b = bytes (at_read c.before) in
@@ -74,25 +73,24 @@ mac-passed c =
     let right : right_mac s b ≡ true = passed w.1.result _ w.1.ensures w.2.left in
     (opened-right s b (layout-passed c.before) right, right-fits s b right))
     (λ w. (opened-plain s b (layout-passed c.before) w.left, plain_fits s b w.left))
-    c.if1.branch
+    c.if-s.branch
 
-sub-t13 : tie.Need-overflow-sub-t13
+sub-t13 : tie.Need-overflow_sub-result
 sub-t13 c = omega (arith, (inside c.before).0)
 
-sub-t14 : tie.Need-overflow-sub-t14
-sub-t14 c = omega (arith, (mac-passed c).1, length-drop 5 (bytes (at_read c.before)), (at_read c.before).before.added.ensures)
+sub-t14 : tie.Need-overflow_sub-result-in-Record
+sub-t14 c = omega (arith, (mac-passed c).1, length-drop 5 (bytes (at_read c.before)), (at_read c.before).added-extra.ensures)
 
-returns-2 : tie.Need-returns-2
+returns-2 : tie.Need-returns-after-s
 returns-2 c =
     let r = at_read c.before in
-    let long : content_length (state r) (bytes r) ≡ length (bytes r) - 5 - r.before.added.result =
-    omega (arith, length-drop 5 (bytes r), r.before.added.ensures) in
-    sym ((mac-passed c).0 ∙ ap (λ (n : ℕ). Opened.Content c.before.before.kind.given.0.0 n) long)
+    let long : content_length (state r) (bytes r) ≡ length (bytes r) - 5 - r.added-extra.result =
+    omega (arith, length-drop 5 (bytes r), r.added-extra.ensures) in
+    sym ((mac-passed c).0 ∙ ap (λ (n : ℕ). Opened.Content c.in-Record.kind n) long)
 
-returns-3 : tie.Need-returns-3
+returns-3 : tie.Need-returns-in-Refused
 returns-3 c =
-    let r = c.before.before.before in
-    sym (ap (mac_read (state r) (bytes r)) (read_is r ∙ c.before.r.given.1))
+    sym (ap (mac_read (state c.before) (bytes c.before)) (read_is c.before ∙ c.in-Refused.is))
 
 pub open_spec : {M : Type 1} → statement M
 open_spec =

@@ -10,21 +10,19 @@ use Rattle.records.proofs.Macs.{right-mac}
 use Rattle.records.proofs.protection.right_mac.Statement.{statement}
 use Rattle.records.proofs.protection.right_mac.Tie as tie
 
-returns : tie.Need-returns
+returns : tie.Need-returns-then-received-lt37
 returns c =
-    let b = c.before.before.args.received.now in
+    let b = c.args.received.now in
     let short : length (drop 5 b) < 32 = rw (length-drop 5 b) (omega arith) in
     rw (lt-leb 32 (length (drop 5 b)) short)
 
-returns-2 : tie.Need-returns-2
+returns-2 : tie.Need-returns
 returns-2 c =
-    let at-mac = c.before.before.before in
-    let start = at-mac.before.before.before.before.before.before.before.before in
-    let b = start.args.received.now in
-    c.same.ensures ∙ right-mac start.args.s b start.requires.0 (omega arith) at-mac.mac-of.ensures
+    let b = c.args.received.now in
+    c.same.ensures ∙ right-mac c.args.s b c.requires.0 (omega arith) c.mac_of-value.ensures
 
-pub right-mac-spec : {M : Type 1} → statement M
-right-mac-spec =
+pub right_mac_spec : {M : Type 1} → statement M
+right_mac_spec =
     tie.close
     (tie.spec
     returns

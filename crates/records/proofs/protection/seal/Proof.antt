@@ -1,5 +1,7 @@
 -- `records::protection::seal` meets its contract: R5 past the limit, then R1; else header, content and, where there is protection, the MAC behind them.
 -- Assumes nothing.
+use Rattle.std.specs.Prelude.{not}
+use Rattle.std.proofs.Common.{ap}
 use borrow.Author.Rules.{rules}
 use borrow.Author.Tests.{le-leb, lt-leb, not-true, not-false}
 use Prim.Native.Nat.{ℕ, ◌+◌, ◌-◌, ◌≤◌, ◌<◌}
@@ -62,35 +64,28 @@ module _ (s : State) (kind : ContentType) (content : List ℕ) (few : length con
         (copy-in-front value _ back copied))
         (sym long))
 
-returns : tie.Need-returns
-returns c = simp (lt-leb _ _ c.if1.true) (refuses-answers _ _)
+returns : tie.Need-returns-then-n-gt16384
+returns c = simp (lt-leb _ _ c.if-n-gt16384.true) (refuses-answers _ _)
 
-returns-2 : tie.Need-returns-2
+returns-2 : tie.Need-returns-then-not-s
 returns-2 c =
-    let at-two = c.before.before in
-    let at-made = at-two.before.before.before in
-    let a = at-made.before.before.before.before.before.before.args in
-    let plain = not-true a.s.protected at-made.before.if2.true in
-    plain-put a.s a.kind a.content.now (omega arith) plain at-made.made.ensures at-two.two.ensures
+    let a = c.args in
+    let plain = not-true a.s.protected (ap not c.if-not-s.true) in
+    plain-put a.s a.kind a.content.now (omega arith) plain c.made-head.ensures c.two.ensures
 
-returns-3 : tie.Need-returns-3
+returns-3 : tie.Need-returns-then-out-n
 returns-3 c =
-    let a = c.before.before.before.before.before.before.args in
-    no_room a.s a.kind a.content.now (omega arith) (not-false a.s.protected c.before.if2.false) c.if3.true
+    let a = c.args in
+    no_room a.s a.kind a.content.now (omega arith) (not-false a.s.protected (ap not c.if-not-s.false)) c.if-out-n.true
 
-returns-4 : tie.Need-returns-4
+returns-4 : tie.Need-returns
 returns-4 c =
-    let at_copy = c.before.before in
-    let at-two = at_copy.before.before.before.before.before in
-    let at-mac = at-two.before.before.before in
-    let at-made = at-mac.before in
-    let tests = at-made.before.before.before in
-    let a = tests.before.before.before.before.before.args in
-    put-parts a.s a.kind a.content.now (omega arith) (not-false a.s.protected tests.if2.false) at-made.made2.ensures
-    at-mac.mac-of.ensures a.out.now _ _ (omega arith) at-two.two2.ensures at_copy.copy.ensures.1
+    let a = c.args in
+    put-parts a.s a.kind a.content.now (omega arith) (not-false a.s.protected (ap not c.if-not-s.false)) c.made-head-2.ensures
+    c.mac_of-value.ensures a.out.now _ _ (omega arith) c.two-2.ensures c.copy.ensures.1
 
-pub seal-spec : {M : Type 1} → statement M
-seal-spec =
+pub seal_spec : {M : Type 1} → statement M
+seal_spec =
     tie.close
     (tie.spec
     returns

@@ -4,17 +4,17 @@ use borrow.Author.Rules.{rules}
 use Rattle.server.proofs.calls.awaited_in.Statement.{statement}
 use Rattle.server.proofs.calls.awaited_in.Tie as tie
 
-returns : tie.Need-returns
-returns c = rw c.enum_told.given.1
+returns : tie.Need-returns-in-Hello
+returns c = rw c.in-Hello.is
 
-returns-2 : tie.Need-returns-2
-returns-2 c = rw c.enum-told2.given.1
+returns-2 : tie.Need-returns-in-KeyExchange
+returns-2 c = rw c.in-KeyExchange.is
 
-returns-4 : tie.Need-returns-4
-returns-4 c = rw c.enum-told4.given.1
+returns-4 : tie.Need-returns-in-Finished
+returns-4 c = rw c.in-Finished.is
 
-pub awaited-in-spec : {M : Type 1} → statement M
-awaited-in-spec =
+pub awaited_in_spec : {M : Type 1} → statement M
+awaited_in_spec =
     tie.close
     (tie.spec
     (λ c. search rules)

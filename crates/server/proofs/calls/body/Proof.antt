@@ -12,10 +12,9 @@ use borrow.Author.Rules.{rules}
 use Rattle.server.proofs.calls.body.Statement.{statement}
 use Rattle.server.proofs.calls.body.Tie as tie
 
-body-requires-2 : tie.Need-body-requires-2
+body-requires-2 : tie.Need-body-requires-in-KeyExchange
 body-requires-2 c κs =
-    let start = c.before.before.before.before.before in
-    subst (λ (p : Phase). header_test (awaited p) start.args.m.now ≡ Accepted) c.enum-told2.given.1 start.requires
+    subst (λ (p : Phase). header_test (awaited p) c.args.m.now ≡ Accepted) c.in-KeyExchange.is c.requires
 
 -- what is decided in the phase that was found
 abbrev In : tie.Start → Decision → Phase → Type 0
@@ -26,26 +25,26 @@ In c d p =
 in-phase : (c : tie.Start) {d : Decision} {p : Phase} → c.args.c.phase ≡ p → In c d p → In c d c.args.c.phase
 in-phase c {d} e h = subst (In c d) (sym e) h
 
-returns : tie.Need-returns
-returns c = in-phase c.before.before.before.before.before.before c.before.enum_told.given.1 c.body.ensures
+returns : tie.Need-returns-in-Hello
+returns c = in-phase c.before.before.before.before.before c.in-Hello.is c.body.ensures
 
-returns-2 : tie.Need-returns-2
-returns-2 c = in-phase c.before.before.before.before.before.before c.before.enum-told2.given.1 c.body2.ensures
+returns-2 : tie.Need-returns-in-KeyExchange
+returns-2 c = in-phase c.before.before.before.before.before c.in-KeyExchange.is c.body-in-KeyExchange.ensures
 
-returns-3 : tie.Need-returns-3
-returns-3 c = in-phase c.before.before.before.before.before.before c.before.enum-told3.given.1 c.refused.ensures
+returns-3 : tie.Need-returns-in-Change
+returns-3 c = in-phase c.before.before.before.before.before c.in-Change.is c.refused.ensures
 
-returns-4 : tie.Need-returns-4
-returns-4 c = in-phase c.before.before.before.before.before.before c.before.enum-told4.given.1 c.body3.ensures
+returns-4 : tie.Need-returns-in-Finished
+returns-4 c = in-phase c.before.before.before.before.before c.in-Finished.is c.body-in-Finished.ensures
 
-returns-5 : tie.Need-returns-5
-returns-5 c = in-phase c.before.before.before.before.before.before c.before.enum-told5.given.1 c.refused2.ensures
+returns-5 : tie.Need-returns-in-Complete
+returns-5 c = in-phase c.before.before.before.before.before c.in-Complete.is c.refused-in-Complete.ensures
 
-returns-6 : tie.Need-returns-6
-returns-6 c = in-phase c.before.before.before.before.before.before c.before.enum-told6.given.1 c.refused3.ensures
+returns-6 : tie.Need-returns-in-Closed
+returns-6 c = in-phase c.before.before.before.before.before c.in-Closed.is c.refused-in-Closed.ensures
 
-pub body-spec : {M : Type 1} → statement M
-body-spec =
+pub body_spec : {M : Type 1} → statement M
+body_spec =
     tie.close
     (tie.spec
     (λ c. search rules)

@@ -5,7 +5,7 @@ use Rattle.server.proofs.calls.judge_header.Statement.{statement}
 use Rattle.server.proofs.calls.judge_header.Tie as tie
 
 returns : tie.Need-returns
-returns c = rw (← c.before.awaited-in.ensures) c.judge-header.ensures
+returns c = rw (← c.awaited_in.ensures) c.judge_header.ensures
 
-pub judge-header-spec : {M : Type 1} → statement M
-judge-header-spec = tie.close (tie.spec (λ c κs. search rules) (λ c κs. search rules) returns)
+pub judge_header_spec : {M : Type 1} → statement M
+judge_header_spec = tie.close (tie.spec (λ c κs. search rules) (λ c κs. search rules) returns)

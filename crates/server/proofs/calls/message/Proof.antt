@@ -34,18 +34,16 @@ handed-as Phase.Closed step n = refl
 
 returns : tie.Need-returns
 returns c =
-    let at-settle = c.before.before.before in
-    let at-decide = at-settle.before.before in
-    let args = at-decide.before.before.before.before.before.args in
-    let does = at-settle.settle.ensures in
-    let decides = at-decide.decide.ensures in
+    let args = c.args in
+    let does = c.settle-a.ensures in
+    let decides = c.decide-d.ensures in
     let step = decides.means in
     let out = args.out.now in
     let v = view_of args.table.now args.starts.now args.count in
     let wanted = message_step v args.c args.m.now args.c.phase in
     let n = blocks_in v args.c args.m.now args.c.phase in
     let said = ap (λ (a : Reply). counted a.said) c.reply.ensures in
-    let d = at-decide.decide.result in
+    let d = c.decide-d.result in
     let phase = args.c.phase in (
       (
         rw does.answers at c.reply.ensures
@@ -54,9 +52,9 @@ returns c =
             ∙ ap (with_master (answered (settled args.c out wanted))) (handed-as phase wanted n),
         does.leaves ∙ ap (λ (s : Step). (settled args.c out s).out) step,
       ),
-      rw (said, said-kept at-settle.settle.result _) does.brief,
+      rw (said, said-kept c.settle-a.result _) does.brief,
     )
 
-pub message-spec : {M : Type 1} → statement M
-message-spec =
+pub message_spec : {M : Type 1} → statement M
+message_spec =
     tie.close (tie.spec (λ c κs. search rules) (λ c κs. search rules) (λ c κs. search rules) (λ c. search rules) returns)

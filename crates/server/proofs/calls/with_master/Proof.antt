@@ -10,14 +10,14 @@ use borrow.Author.Rules.{rules}
 use Rattle.server.proofs.calls.with_master.Statement.{statement}
 use Rattle.server.proofs.calls.with_master.Tie as tie
 
-returns : tie.Need-returns
-returns c = rw c.before.before.before.enum_told.given.1
+returns : tie.Need-returns-in-Accepted
+returns c = rw c.in-Accepted.is
 
-returns-2 : tie.Need-returns-2
+returns-2 : tie.Need-returns-in-Refused
 returns-2 c =
-    let args = c.before.before.before.args in
-    c.without-master.ensures
-    ∙ ap (λ (v : Verdict). with_master args.a (derived (handed_over Phase.KeyExchange (decided_by v args.d)) args.d.blocks)) (sym c.before.enum-told2.given.1)
+    let args = c.args in
+    c.without_master.ensures
+    ∙ ap (λ (v : Verdict). with_master args.a (derived (handed_over Phase.KeyExchange (decided_by v args.d)) args.d.blocks)) (sym c.in-Refused.is)
 
-pub with-master-spec : {M : Type 1} → statement M
-with-master-spec = tie.close (tie.spec (λ c. search rules) (λ c. search rules) (λ c κs. search rules) returns returns-2)
+pub with_master_spec : {M : Type 1} → statement M
+with_master_spec = tie.close (tie.spec (λ c. search rules) (λ c. search rules) (λ c κs. search rules) returns returns-2)

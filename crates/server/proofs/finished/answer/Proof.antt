@@ -13,12 +13,10 @@ use Rattle.server.proofs.finished.answer.Tie as tie
 
 returns : tie.Need-returns
 returns c =
-    let start = c.before.before.before.before in
-    let value = start.args.value.now in
-    let size : length value ≡ 12 = search (rules, start.well-formed) in
-    let write = c.before.write-finished in
+    let value = c.args.value.now in
+    let size : length value ≡ 12 = search (rules, c.well_formed) in
     finished-sent value _ _ size
-    (at_front Fixed.finished value (fixed-valid 20 12 value size (omega arith)) (omega arith) write.ensures)
+    (at_front Fixed.finished value (fixed-valid 20 12 value size (omega arith)) (omega arith) c.write_finished.ensures)
 
-pub answer-spec : {M : Type 1} → statement M
-answer-spec = tie.close (tie.spec (λ c. search rules) (λ c κs. search rules) returns)
+pub answer_spec : {M : Type 1} → statement M
+answer_spec = tie.close (tie.spec (λ c. search rules) (λ c κs. search rules) returns)

@@ -1,5 +1,7 @@
 -- `server::finished::body` meets its contract: the twelve bytes of the body are judged.
 -- Assumes nothing.
+use Rattle.std.specs.Prelude.{not}
+use Rattle.std.proofs.Common.{ap}
 use mathlib.Core.Path.{◌≡◌, sym, ◌∙◌}
 use Prim.Native.Nat.{ℕ}
 use native.Mathlib.Omega.{arith}
@@ -15,50 +17,47 @@ use Rattle.server.proofs.finished.body.Statement.{statement}
 use Rattle.server.proofs.finished.body.Tie as tie
 
 -- where the body has twelve bytes
-module _ (c : tie.After-known-told) where
+module _ (c : tie.In-At) where
   abbrev m : List ℕ
-  m = c.before.before.before.before.before.args.m.now
+  m = c.args.m.now
 
   abbrev from : ℕ
-  from = c.before.start.given.0.0
+  from = c.in-At.start
 
   abbrev size : ℕ
-  size = c.before.start.given.0.1.0
+  size = c.in-At.len
 
   here : filled_by 12 m ≡ At from size
-  here = sym c.before.before.before.read-finished-body.ensures ∙ c.before.start.given.1
+  here = sym c.read_finished_body.ensures ∙ c.in-At.is
 
   there : (length m ≡ 16) × (from ≡ 4) × (size ≡ 12)
   there = filled-there 12 m from size here
 
-add_right : tie.Need-overflow-add-right
+add_right : tie.Need-overflow_add-start
 add_right c = let at = there c in omega arith
 
-part-right-end : tie.Need-slice-bounds-right-end
+part-right-end : tie.Need-slice_bounds-right-end
 part-right-end c = let at = there c in omega arith
 
-returns : tie.Need-returns
+returns : tie.Need-returns-then-not-right
 returns c =
-    let args = c.before.before.before.before.before.before.before.before.before.args in
-    let right = c.before.before.right in
+    let args = c.args in
     let there = here c.before.before.before.before in
-    rw (judged-right args.c args.m.now there right.ensures, not-true right.result c.before.if1.true)
+    rw (judged-right args.c args.m.now there c.right.ensures, not-true c.right.result (ap not c.if-not-right.true))
     c.refused.ensures
 
-returns-2 : tie.Need-returns-2
+returns-2 : tie.Need-returns-else-not-right
 returns-2 c =
-    let at_right = c.before.before in
-    let args = at_right.before.before.before.before.before.before.before.args in
-    let right = at_right.right in
-    let there = here at_right.before.before in
-    rw (judged-right args.c args.m.now there right.ensures, not-false right.result c.before.if1.false)
+    let args = c.args in
+    let there = here c.before.before.before.before in
+    rw (judged-right args.c args.m.now there c.right.ensures, not-false c.right.result (ap not c.if-not-right.false))
     c.complete.ensures
 
-returns-3 : tie.Need-returns-3
-returns-3 c = rw (← c.before.before.before.read-finished-body.ensures, c.before.enum_told.given.1) c.refused2.ensures
+returns-3 : tie.Need-returns-in-Refused
+returns-3 c = rw (← c.read_finished_body.ensures, c.in-Refused.is) c.refused-in-Refused.ensures
 
-pub body-spec : {M : Type 1} → statement M
-body-spec =
+pub body_spec : {M : Type 1} → statement M
+body_spec =
     tie.close
     (tie.spec
     (λ c κs. search rules)

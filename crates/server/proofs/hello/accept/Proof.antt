@@ -12,33 +12,30 @@ use borrow.Author.Rules.{rules}
 use Rattle.server.proofs.hello.accept.Statement.{statement}
 use Rattle.server.proofs.hello.accept.Tie as tie
 
-array : (c : tie.After-answer) → length c.answer.result.bytes ≡ longest
-array c = search (rules, c.answer.type-inv)
+array : (c : tie.After-answer-outgoing) → length c.answer-outgoing.result.bytes ≡ longest
+array c = search (rules, c.answer-outgoing.type_inv)
 
-within : tie.Need-array-share-prefix-bytes
+within : tie.Need-slice_bounds-bytes-end
 within c =
-    let at-answer = c.before.before in
-    omega (arith, c.size.ensures, size-most at-answer.answer.result, array at-answer)
+    omega (arith, c.size-n.ensures, size-most c.answer-outgoing.result, array c.before.before)
 
-slice-aggregate-after-hello : tie.Need-slice-aggregate-after-hello
+slice-aggregate-after-hello : tie.Need-slice_bounds-after_hello-end
 slice-aggregate-after-hello c =
-    sym (length-take-le c.before.size.result c.before.before.before.answer.result.bytes (within c.before))
+    sym (length-take-le c.size-n.result c.answer-outgoing.result.bytes (within c.before))
 
 returns : tie.Need-returns
 returns c =
-    let at_size = c.before.before in
-    let at-answer = at_size.before.before in
-    let args = at-answer.before.before.before.args in
-    let outgoing = at-answer.answer.result in
-    let sent = at-answer.answer.ensures in
-    let all : take at_size.size.result outgoing.bytes ≡ flight_bytes (flight_for args.c args.suite) =
-    rw at_size.size.ensures (size-taken outgoing (array at-answer) ∙ sym (flight-bytes outgoing)) ∙ ap flight_bytes sent.means in
-    let next : c.after-hello.result ≡ after_hello_with args.c args.m.now args.suite (flight_bytes (flight_for args.c args.suite)) =
-    c.after-hello.ensures ∙ ap (after_hello_with args.c args.m.now args.suite) all in
+    let args = c.args in
+    let outgoing = c.answer-outgoing.result in
+    let sent = c.answer-outgoing.ensures in
+    let all : take c.size-n.result outgoing.bytes ≡ flight_bytes (flight_for args.c args.suite) =
+    rw c.size-n.ensures (size-taken outgoing (array c.before.before.before.before) ∙ sym (flight-bytes outgoing)) ∙ ap flight_bytes sent.means in
+    let next : c.after_hello-next.result ≡ after_hello_with args.c args.m.now args.suite (flight_bytes (flight_for args.c args.suite)) =
+    c.after_hello-next.ensures ∙ ap (after_hello_with args.c args.m.now args.suite) all in
     record { means = rw (sent.means, next); fits = sent.fits; counts = refl }
 
-pub accept-spec : {M : Type 1} → statement M
-accept-spec =
+pub accept_spec : {M : Type 1} → statement M
+accept_spec =
     tie.close
     (tie.spec
     (λ c κs. search rules)

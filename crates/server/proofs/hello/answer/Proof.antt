@@ -13,44 +13,39 @@ use Rattle.server.proofs.hello.answer.Tie as tie
 
 -- the hint's field has 128 bytes, and the random 32
 field : (c : tie.Start) → length c.args.setup.hint ≡ 128
-field c = search (rules, c.well-formed)
+field c = search (rules, c.well_formed)
 
 random : (c : tie.Start) → length c.args.setup.random ≡ 32
-random c = search (rules, c.well-formed)
+random c = search (rules, c.well_formed)
 
 -- the hint is as long as it is counted
-counted : (c : tie.After-in-field) → length (take c.in_field.result c.before.before.before.args.setup.hint) ≡ c.in_field.result
-counted c = length-take-le c.in_field.result c.before.before.before.args.setup.hint (omega (arith, field c.before.before.before))
+counted : (c : tie.After-in_field-n) → length (take c.in_field-n.result c.args.setup.hint) ≡ c.in_field-n.result
+counted c = length-take-le c.in_field-n.result c.args.setup.hint (omega (arith, field c.before.before.before))
 
-array-share-prefix-hint : tie.Need-array-share-prefix-hint
+array-share-prefix-hint : tie.Need-slice_bounds-hint-end
 array-share-prefix-hint c = omega (arith, field c.before.before.before.before)
 
-slice-aggregate-put-flight-2 : tie.Need-slice-aggregate-put-flight-2
+slice-aggregate-put-flight-2 : tie.Need-slice_bounds-put_flight-end-2
 slice-aggregate-put-flight-2 c = sym (counted c.before.before)
 
-put-flight-requires : tie.Need-put-flight-requires
+put-flight-requires : tie.Need-put_flight-requires
 put-flight-requires c κs =
-    let at_field = c.before.before.before in
-    let start = at_field.before.before.before in
-    let few : length (take at_field.in_field.result start.args.setup.hint) ≤ 128 = omega (arith, counted at_field) in
-    (random start, few, omega (arith, hint-most (take at_field.in_field.result start.args.setup.hint) few))
+    let few : length (take c.in_field-n.result c.args.setup.hint) ≤ 128 = omega (arith, counted c.before.before.before) in
+    (random c.before.before.before.before.before.before, few, omega (arith, hint-most (take c.in_field-n.result c.args.setup.hint) few))
 
 returns : tie.Need-returns
 returns c =
-    let at_field = c.before.before.before.before.before.before in
-    let start = at_field.before.before.before in
-    let setup = start.args.setup in
-    let size = counted at_field in
-    let put = c.before.before.put-flight in
-    let message : c.hint-message-length.result ≡ hint_message_length (length (take at_field.in_field.result setup.hint)) =
-    c.hint-message-length.ensures ∙ ap hint_message_length (sym size) in
-    let all = flight-sent setup.random (take at_field.in_field.result setup.hint) start.args.suite put.new.1.1.1.0 _
-    (random start)
-    (omega (arith, size)) put.ensures in
-    rw (message, ← at_field.in_field.ensures.1 setup.hint (field start)) all
+    let setup = c.args.setup in
+    let size = counted c.before.before.before.before.before.before in
+    let message : c.hint_message_length.result ≡ hint_message_length (length (take c.in_field-n.result setup.hint)) =
+    c.hint_message_length.ensures ∙ ap hint_message_length (sym size) in
+    let all = flight-sent setup.random (take c.in_field-n.result setup.hint) c.args.suite c.put_flight.new.out _
+    (random c.before.before.before.before.before.before.before.before.before)
+    (omega (arith, size)) c.put_flight.ensures in
+    rw (message, ← c.in_field-n.ensures.1 setup.hint (field c.before.before.before.before.before.before.before.before.before)) all
 
-pub answer-spec : {M : Type 1} → statement M
-answer-spec =
+pub answer_spec : {M : Type 1} → statement M
+answer_spec =
     tie.close
     (tie.spec
     (λ c κs. search rules)

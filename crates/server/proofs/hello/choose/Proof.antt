@@ -10,33 +10,33 @@ use borrow.Author.Rules.{rules}
 use Rattle.server.proofs.hello.choose.Statement.{statement}
 use Rattle.server.proofs.hello.choose.Tie as tie
 
-abbrev invariant-loop : tie.invariant-loop
+abbrev invariant-loop : tie.invariant-loop-i
 invariant-loop ours offered i₀ i = (i ≤ length ours) × (chosen (drop i ours) offered ≡ chosen ours offered)
 
-abbrev decreases-loop : tie.decreases-loop
+abbrev decreases-loop : tie.decreases-loop-i
 decreases-loop ours offered i₀ i = length ours - i
 
-loop-holds : tie.Need-loop-init invariant-loop decreases-loop
+loop-holds : tie.Need-loop-i-init invariant-loop decreases-loop
 loop-holds c = (zero-le, refl)
 
-returns : tie.Need-returns invariant-loop decreases-loop
+returns : tie.Need-returns-then-offers invariant-loop decreases-loop
 returns c =
-    let l = c.before.before.before.before.loop in
-    let a = c.before.before.before.before.before.before.before.args in
-    let one = chosen-one a.ours.now l.i a.offered.now c.before.before.before.loop-test.true in
-    rw (← l.invariant.1, one, ← c.before.offers.ensures, c.if1.true)
+    let l = c.loop-i in
+    let a = c.args in
+    let one = chosen-one a.ours.now l.i a.offered.now c.loop-i-test.true in
+    rw (← l.invariant.1, one, ← c.offers.ensures, c.if-offers.true)
 
-loop-again : tie.Need-loop-preserved invariant-loop decreases-loop
+loop-again : tie.Need-loop-i-preserved invariant-loop decreases-loop
 loop-again c =
-    let l = c.before.before.before.before.loop in
-    let a = c.before.before.before.before.before.before.before.args in
-    let one = chosen-one a.ours.now l.i a.offered.now c.before.before.before.loop-test.true in
-    (omega arith, rw (← l.invariant.1, one, ← c.before.offers.ensures, c.if1.false))
+    let l = c.loop-i in
+    let a = c.args in
+    let one = chosen-one a.ours.now l.i a.offered.now c.loop-i-test.true in
+    (omega arith, rw (← l.invariant.1, one, ← c.offers.ensures, c.if-offers.false))
 
-returns-2 : tie.Need-returns-2 invariant-loop decreases-loop
+returns-2 : tie.Need-returns invariant-loop decreases-loop
 returns-2 c =
-    let l = c.before.loop in
-    rw (← l.invariant.1, drop_of_length-le c.before.before.before.before.args.ours.now {i = l.i} c.loop-test.false)
+    let l = c.loop-i in
+    rw (← l.invariant.1, drop_of_length-le c.args.ours.now {i = l.i} c.loop-i-test.false)
 
 pub choose_spec : {M : Type 1} → statement M
 choose_spec =

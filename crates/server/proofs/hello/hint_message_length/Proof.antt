@@ -5,11 +5,11 @@ use borrow.Author.Rules.{rules}
 use Rattle.server.proofs.hello.hint_message_length.Statement.{statement}
 use Rattle.server.proofs.hello.hint_message_length.Tie as tie
 
-returns : tie.Need-returns
-returns c = rw c.if1.true
+returns : tie.Need-returns-then-hint-eq0
+returns c = rw c.if-hint-eq0.true
 
-returns-2 : tie.Need-returns-2
-returns-2 c = rw (ne_eqb c.before.args.hint 0 c.if1.false)
+returns-2 : tie.Need-returns
+returns-2 c = rw (ne_eqb c.args.hint 0 c.if-hint-eq0.false)
 
-pub hint-message-length-spec : {M : Type 1} → statement M
-hint-message-length-spec = tie.close (tie.spec returns (λ c. search rules) returns-2)
+pub hint_message_length_spec : {M : Type 1} → statement M
+hint_message_length_spec = tie.close (tie.spec returns (λ c. search rules) returns-2)

@@ -6,11 +6,11 @@ use lib.Seq.{take_all}
 use Rattle.server.proofs.hello.in_field.Statement.{statement}
 use Rattle.server.proofs.hello.in_field.Tie as tie
 
-returns : tie.Need-returns
-returns c = (omega arith, λ field h. take_all 128 field (omega arith) ∙ sym (take_all c.before.args.hint-length field (omega arith)))
+returns : tie.Need-returns-then-n-gt128
+returns c = (omega arith, λ field h. take_all 128 field (omega arith) ∙ sym (take_all c.args.hint-length field (omega arith)))
 
-returns-2 : tie.Need-returns-2
+returns-2 : tie.Need-returns
 returns-2 c = (omega arith, λ field h. refl)
 
-pub in-field-spec : {M : Type 1} → statement M
-in-field-spec = tie.close (tie.spec returns returns-2)
+pub in_field_spec : {M : Type 1} → statement M
+in_field_spec = tie.close (tie.spec returns returns-2)

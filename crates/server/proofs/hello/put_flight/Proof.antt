@@ -16,23 +16,19 @@ use Rattle.server.proofs.hello.put_flight.Tie as tie
 
 returns : tie.Need-returns
 returns c =
-    let at-write = c.before.before.before.before.before.before in
-    let start = at-write.before.before.before.before.before.before in
-    let a = start.args in
+    let a = c.args in
     let random = a.random.now in
     let out = a.out.now in
-    let size = length-hello random a.suite start.requires.0 in
-    let first = at-write.write in
-    let second = c.before.before.put_rest in
-    let valid = hello-valid random a.suite start.requires.0 (omega arith) in
-    let one : first.new.1.1.1.1.1.1.1.0 ≡ front (bytes server_hello (hello random a.suite)) out =
-    at_front server_hello (hello random a.suite) valid (omega (arith, size)) first.ensures in
-    put-behind (bytes server_hello (hello random a.suite)) (rest_of a.hint.now) out _ second.new.1.0 42 one
-    (sym size) second.ensures
+    let size = length-hello random a.suite c.requires.0 in
+    let valid = hello-valid random a.suite c.requires.0 (omega arith) in
+    let one : c.write.new.out ≡ front (bytes server_hello (hello random a.suite)) out =
+    at_front server_hello (hello random a.suite) valid (omega (arith, size)) c.write.ensures in
+    put-behind (bytes server_hello (hello random a.suite)) (rest_of a.hint.now) out _ c.put_rest.new.out 42 one
+    (sym size) c.put_rest.ensures
     ∙ sym (ap (λ (l : List ℕ). front l out) (flight-parts random a.hint.now a.suite))
 
-pub put-flight-spec : {M : Type 1} → statement M
-put-flight-spec =
+pub put_flight_spec : {M : Type 1} → statement M
+put_flight_spec =
     tie.close
     (tie.spec
     (λ c. search rules)

@@ -20,48 +20,44 @@ use borrow.Author.Rules.{rules}
 use Rattle.server.proofs.hello.put_rest.Statement.{statement}
 use Rattle.server.proofs.hello.put_rest.Tie as tie
 
-returns : tie.Need-returns
+returns : tie.Need-returns-then-hint-eq0
 returns c =
-    let start = c.before.before.before.before.before.before.before in
-    rw (hint-absent start.args.hint.now c.before.before.before.before.if1.true)
-    (at_front server_hello_done [] refl (omega arith) c.before.before.write_done.ensures)
+    rw (hint-absent c.args.hint.now c.if-hint-eq0.true)
+    (at_front server_hello_done [] refl (omega arith) c.write_done.ensures)
 
 -- the entry, seen from where there is a hint
-abbrev entry : tie.Else1 → tie.Start
+abbrev entry : tie.Else-hint-eq0 → tie.Start
 entry c = c.before.before.before
 
-present : (c : tie.Else1) → hint_message (entry c).args.hint.now ≡ bytes server_key_exchange (entry c).args.hint.now ∷ []
-present c = hint-present (entry c).args.hint.now c.if1.false
+present : (c : tie.Else-hint-eq0) → hint_message (entry c).args.hint.now ≡ bytes server_key_exchange (entry c).args.hint.now ∷ []
+present c = hint-present (entry c).args.hint.now c.if-hint-eq0.false
 
-size : (c : tie.Else1) → length (joined (hint_message (entry c).args.hint.now)) ≡ 6 + length (entry c).args.hint.now
-size c = hint-size (entry c).args.hint.now c.if1.false
+size : (c : tie.Else-hint-eq0) → length (joined (hint_message (entry c).args.hint.now)) ≡ 6 + length (entry c).args.hint.now
+size c = hint-size (entry c).args.hint.now c.if-hint-eq0.false
 
-sub-write-done : tie.Need-overflow-sub-write-done
+sub-write-done : tie.Need-slice_bounds-write_done-count
 sub-write-done c = search (rules, size c.before.before.before.before)
 
-part-write-done-start : tie.Need-slice-bounds-write-done-start
+part-write-done-start : tie.Need-slice_bounds-write_done-start
 part-write-done-start c = search (rules, size c.before.before.before.before)
 
-returns-2 : tie.Need-returns-2
+returns-2 : tie.Need-returns
 returns-2 c =
-    let at_test = c.before.before.before.before.before.before.before.before in
-    let start = entry at_test in
+    let start = entry c.before.before.before.before.before.before.before.before in
     let hint = start.args.hint.now in
     let out = start.args.out.now in
-    let sized = size at_test in
-    let first = c.before.before.before.before.before.before.write-hint in
-    let second = c.before.before.write-done2 in
-    let one : first.new.1.0 ≡ front (bytes server_key_exchange hint) out =
-    at_front server_key_exchange hint (vector-valid 12 hint (omega arith)) (omega arith) first.ensures in
-    let mid = first.new.1.0 in
+    let sized = size c.before.before.before.before.before.before.before.before in
+    let one : c.write_hint.new.out ≡ front (bytes server_key_exchange hint) out =
+    at_front server_key_exchange hint (vector-valid 12 hint (omega arith)) (omega arith) c.write_hint.ensures in
+    let mid = c.write_hint.new.out in
     let room : 4 ≤ length (take (length mid - (6 + length hint)) (drop (6 + length hint) mid)) =
     rw (part_to_end mid (6 + length hint)) (simp length-drop (omega arith)) in
-    rw (present at_test)
-    (put-behind (bytes server_key_exchange hint) (bytes server_hello_done []) out mid second.new.0 (6 + length hint) one (omega arith)
-    (at_front server_hello_done [] refl room second.ensures))
+    rw (present c.before.before.before.before.before.before.before.before)
+    (put-behind (bytes server_key_exchange hint) (bytes server_hello_done []) out mid c.write_done-2.new.out (6 + length hint) one (omega arith)
+    (at_front server_hello_done [] refl room c.write_done-2.ensures))
 
-pub put-rest-spec : {M : Type 1} → statement M
-put-rest-spec =
+pub put_rest_spec : {M : Type 1} → statement M
+put_rest_spec =
     tie.close
     (tie.spec
     (λ c κs. search rules)

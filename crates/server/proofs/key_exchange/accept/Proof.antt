@@ -5,7 +5,7 @@ use Rattle.server.proofs.key_exchange.accept.Statement.{statement}
 use Rattle.server.proofs.key_exchange.accept.Tie as tie
 
 returns : tie.Need-returns
-returns c = rw (← c.before.after-keys.ensures) c.silent.ensures
+returns c = rw (← c.after_keys.ensures) c.silent.ensures
 
-pub accept-spec : {M : Type 1} → statement M
-accept-spec = tie.close (tie.spec (λ c κs. search rules) (λ c κs. search rules) returns)
+pub accept_spec : {M : Type 1} → statement M
+accept_spec = tie.close (tie.spec (λ c κs. search rules) (λ c κs. search rules) returns)

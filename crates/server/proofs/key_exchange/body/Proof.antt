@@ -13,26 +13,25 @@ use Rattle.server.proofs.key_exchange.body.Tie as tie
 
 abbrev refusal : tie.After-judge → Option Refusal
 refusal c =
-    let args = c.before.before.before.before.args in
+    let args = c.args in
     list_refusal args.table.now args.starts.now args.count
 
-good : (c : tie.After-enum-told) → refusal c.before.before ≡ none
-good c = not-refused (refusal c.before.before) (sym c.before.before.judge.ensures ∙ c.enum_told.given.1)
+good : (c : tie.In-Good) → refusal c.before ≡ none
+good c = not-refused (refusal c.before) (sym c.judge.ensures ∙ c.in-Good.is)
 
 identified-requires : tie.Need-identified-requires
-identified-requires c κs = (c.before.before.before.before.before.before.requires, (passed-both _ _ _ (good c)).1)
+identified-requires c κs = (c.requires, (passed-both _ _ _ (good c)).1)
 
-returns : tie.Need-returns
+returns : tie.Need-returns-in-Good
 returns c = rw (good c.before) c.identified.ensures
 
-returns-2 : tie.Need-returns-2
+returns-2 : tie.Need-returns-in-Refused
 returns-2 c =
-    let at-judge = c.before.before.before.before in
-    let found = sym at-judge.judge.ensures ∙ c.before.before.r.given.1 in
-    rw (refused-itself (refusal at-judge) c.before.before.r.given.0.0 found) (refusing c.refused.ensures _)
+    let found = sym c.judge.ensures ∙ c.in-Refused.is in
+    rw (refused-itself (refusal c.before.before) c.in-Refused.r found) (refusing c.refused.ensures _)
 
-pub body-spec : {M : Type 1} → statement M
-body-spec =
+pub body_spec : {M : Type 1} → statement M
+body_spec =
     tie.close
     (tie.spec
     (λ c κs. search rules)

@@ -7,18 +7,16 @@ use borrow.Author.Rules.{rules}
 use Rattle.server.proofs.key_exchange.identified.Statement.{statement}
 use Rattle.server.proofs.key_exchange.identified.Tie as tie
 
-returns : tie.Need-returns
+returns : tie.Need-returns-in-At
 returns c =
-    let read = c.before.before.before.before in
-    let start = read.before.before.before.before in
-    let there = sym read.read-identity-body.ensures ∙ c.before.before.enum_told.given.1 in
-    rw (identity-there start.args.m.now start.requires.0 there, ← c.before.identity.ensures) c.look_up.ensures
+    let there = sym c.read_identity_body.ensures ∙ c.in-At.is in
+    rw (identity-there c.args.m.now c.requires.0 there, ← c.identity.ensures) c.look_up.ensures
 
-returns-2 : tie.Need-returns-2
-returns-2 c = rw (← c.before.before.before.read-identity-body.ensures, c.before.enum-told2.given.1) (refusing c.refused.ensures _)
+returns-2 : tie.Need-returns-in-Refused
+returns-2 c = rw (← c.read_identity_body.ensures, c.in-Refused.is) (refusing c.refused.ensures _)
 
-pub identified-spec : {M : Type 1} → statement M
-identified-spec =
+pub identified_spec : {M : Type 1} → statement M
+identified_spec =
     tie.close
     (tie.spec
     (λ c κs. search rules)

@@ -27,49 +27,48 @@ module _ (c : tie.After-lookup) where
   identity = entry.args.identity.now
 
   by-own : looked_up table entry.args.starts.now entry.args.count identity ≡ found (key_of table identity)
-  by-own = looked-up-own table _ _ entry.pre identity
+  by-own = looked-up-own table _ _ entry.requires identity
 
 -- where the lookup has found a key
-module _ (c : tie.After-known-told) where
+module _ (c : tie.In-Wrote) where
   abbrev look : tie.After-lookup
-  look = c.before.before.before.before
+  look = c.before.before
 
   abbrev n : ℕ
-  n = c.before.n.given.0.0
+  n = c.in-Wrote.n
 
   abbrev buffer : List ℕ
-  buffer = look.lookup.last.1.1.1.1.0
+  buffer = look.lookup.new.out
 
   put : (n ≤ 64) × (key_of (table look) (identity look) ≡ some (take n buffer))
-  put = key-put (table look) (identity look) _ (rw (by-own look) at look.lookup.ensures) c.before.n.given.1
+  put = key-put (table look) (identity look) _ (rw (by-own look) at look.lookup.ensures) c.in-Wrote.is
 
   fits : n ≤ length buffer
   fits =
       let size : length buffer ≡ 64 = search rules in
       omega (arith, put.0)
 
-array-share-prefix-key : tie.Need-array-share-prefix-key
+array-share-prefix-key : tie.Need-slice_bounds-key-end
 array-share-prefix-key c = fits c
 
-slice-aggregate-master-under : tie.Need-slice-aggregate-master-under
+slice-aggregate-master-under : tie.Need-slice_bounds-master_under-end
 slice-aggregate-master-under c = sym (length-take-le (n c.before) (buffer c.before) (fits c.before))
 
-master-under-requires : tie.Need-master-under-requires
+master-under-requires : tie.Need-master_under-requires
 master-under-requires c κs = key-size (table (look c.before)) (identity (look c.before)) _ (put c.before).1
 
-returns : tie.Need-returns
+returns : tie.Need-returns-in-Wrote
 returns c =
-    let made = c.before.master-under.ensures in
+    let made = c.master_under.ensures in
     rw ((put c.before.before.before).1, ← made.0, ← made.1) c.accept.ensures
 
-returns-2 : tie.Need-returns-2
+returns-2 : tie.Need-returns-in-Refused
 returns-2 c =
-    let l = c.before.before.before.before in
-    let said = rw (by-own l) at l.lookup.ensures in
-    rw (key-missing (table l) (identity l) _ refl said c.before.enum_told.given.1) c.unlisted.ensures
+    let said = rw (by-own c.before.before.before) at c.lookup.ensures in
+    rw (key-missing (table c.before.before.before) (identity c.before.before.before) _ refl said c.in-Refused.is) c.unlisted.ensures
 
-pub look-up-spec : {M : Type 1} → statement M
-look-up-spec =
+pub look_up_spec : {M : Type 1} → statement M
+look_up_spec =
     tie.close
     (tie.spec
     (λ c. search rules)

@@ -10,25 +10,23 @@ use borrow.Author.Rules.{rules}
 use Rattle.server.proofs.key_exchange.unlisted.Statement.{statement}
 use Rattle.server.proofs.key_exchange.unlisted.Tie as tie
 
-master-under-requires : tie.Need-master-under-requires
+master-under-requires : tie.Need-master_under-requires
 master-under-requires c κs =
-    let start = c.before.before.before.before.before.before in
-    let fields = start.well-formed.0.1.1.1.0.1.1 in
-    let size : length start.args.c.setup.stand_in ≡ 32 = search (rules, fields.1.1.1.1.0) in
+    let fields = c.well_formed.0.1.1.1.0.1.1 in
+    let size : length c.args.c.setup.stand_in ≡ 32 = search (rules, fields.1.1.1.1.0) in
     (omega arith, omega arith)
 
-returns : tie.Need-returns
-returns c = rw c.before.enum_told.given.1 (refusing c.refused.ensures _)
+returns : tie.Need-returns-in-Tell
+returns c = rw c.in-Tell.is (refusing c.refused.ensures _)
 
-returns-2 : tie.Need-returns-2
+returns-2 : tie.Need-returns-in-Hide
 returns-2 c =
-    let told = c.before.before.before.before in
-    let args = told.before.before.before.before.args in
-    let made = c.before.master-under.ensures in
-    same_step (ap (λ (r : Rule). unlisted r args.c args.m.now) told.enum-told2.given.1) (rw (made.0, made.1) at c.accept.ensures)
+    let args = c.args in
+    let made = c.master_under.ensures in
+    same_step (ap (λ (r : Rule). unlisted r args.c args.m.now) c.in-Hide.is) (rw (made.0, made.1) at c.accept.ensures)
 
-pub unlisted-spec : {M : Type 1} → statement M
-unlisted-spec =
+pub unlisted_spec : {M : Type 1} → statement M
+unlisted_spec =
     tie.close
     (tie.spec
     (λ c. search rules)

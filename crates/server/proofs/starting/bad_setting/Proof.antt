@@ -5,7 +5,7 @@ use Rattle.server.proofs.starting.bad_setting.Statement.{statement}
 use Rattle.server.proofs.starting.bad_setting.Tie as tie
 
 returns : tie.Need-returns
-returns c = rw c.ended.ensures
+returns c = rw c.ended-next.ensures
 
-pub bad-setting-spec : {M : Type 1} → statement M
-bad-setting-spec = tie.close (tie.spec (λ c κs. search rules) returns)
+pub bad_setting_spec : {M : Type 1} → statement M
+bad_setting_spec = tie.close (tie.spec (λ c κs. search rules) returns)

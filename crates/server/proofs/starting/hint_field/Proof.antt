@@ -10,8 +10,8 @@ use Rattle.server.proofs.starting.hint_field.Tie as tie
 
 returns : tie.Need-returns
 returns c =
-    let hint = c.before.before.before.before.args.hint.now in
-    c.before.copy.ensures.1 ∙ rw (take-length hint, drop-replicate 128 (length hint) 0)
+    let hint = c.args.hint.now in
+    c.copy.ensures.1 ∙ rw (take-length hint, drop-replicate 128 (length hint) 0)
 
-pub hint-field-spec : {M : Type 1} → statement M
-hint-field-spec = tie.close (tie.spec (λ c. search rules) (λ c κs. search rules) returns)
+pub hint_field_spec : {M : Type 1} → statement M
+hint_field_spec = tie.close (tie.spec (λ c. search rules) (λ c κs. search rules) returns)

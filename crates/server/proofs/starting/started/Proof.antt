@@ -5,7 +5,7 @@ use Rattle.server.proofs.starting.started.Statement.{statement}
 use Rattle.server.proofs.starting.started.Tie as tie
 
 returns : tie.Need-returns
-returns c = rw (c.new.ensures, c.before.nothing_said.ensures)
+returns c = rw (c.new-transcript.ensures, c.nothing_said-client.ensures)
 
-pub started-spec : {M : Type 1} → statement M
-started-spec = tie.close (tie.spec (λ c κs. search rules) (λ c κs. search rules) returns)
+pub started_spec : {M : Type 1} → statement M
+started_spec = tie.close (tie.spec (λ c κs. search rules) (λ c κs. search rules) returns)

@@ -11,42 +11,41 @@ use borrow.Author.Rules.{rules}
 use Rattle.sha256.proofs.Sha256.complete_first.Statement.{statement}
 use Rattle.sha256.proofs.Sha256.complete_first.Tie as tie
 
-slice-aggregate-complete : tie.Need-slice-aggregate-complete
+slice-aggregate-complete : tie.Need-slice_bounds-complete-end
 slice-aggregate-complete c = sym (length-take-le _ _ (omega arith))
 
-complete-requires : tie.Need-complete-requires
+complete-requires : tie.Need-complete-next-requires
 complete-requires c κs =
-    let args = c.before.before.before.args in
+    let args = c.args in
     let room = 64 - args.self.count % 64 in
     let size : length (take room args.«data».now) ≡ room = length-take-le room args.«data».now (omega arith) in
     omega arith
 
 straight-requires : tie.Need-straight-requires
 straight-requires c κs =
-    let start = c.before.before.before.before.before in
-    let xs = start.args.«data».now in
-    let room = 64 - start.args.self.count % 64 in
+    let xs = c.args.«data».now in
+    let room = 64 - c.args.self.count % 64 in
     let size : length (take room xs) ≡ room = length-take-le room xs (omega arith) in
     let left : length (drop room xs) ≡ length xs - room = length-drop room xs in
-    let count : c.before.complete.result.count ≡ start.args.self.count + room =
-    rw (c.before.complete.ensures, absorb-count start.args.self (take room xs) (omega arith), size) in
+    let count : c.complete-next.result.count ≡ c.args.self.count + room =
+    rw (c.complete-next.ensures, absorb-count c.args.self (take room xs) (omega arith), size) in
     rw (part_to_end xs room) (omega arith)
 
 returns : tie.Need-returns
 returns c =
-    let args = c.before.before.before.before.before.before.args in
+    let args = c.args in
     let xs = args.«data».now in
     let room = 64 - args.self.count % 64 in
     rw (
       c.straight.ensures,
       part_to_end xs room,
-      c.before.before.complete.ensures,
+      c.complete-next.ensures,
       ← absorb-append args.self (take room xs) (drop room xs),
       take-append-drop room xs,
     )
 
-pub complete-first-spec : {M : Type 1} → statement M
-complete-first-spec =
+pub complete_first_spec : {M : Type 1} → statement M
+complete_first_spec =
     tie.close
     (tie.spec
     (λ c. search rules)

@@ -9,21 +9,19 @@ use borrow.Author.Rules.{rules}
 use Rattle.sha256.proofs.Sha256.filled.Statement.{statement}
 use Rattle.sha256.proofs.Sha256.filled.Tie as tie
 
-part-block-end : tie.Need-slice-bounds-block-end
+part-block-end : tie.Need-slice_bounds-block-end
 part-block-end c =
-    let start = c.before.before.before in
-    let size : length start.args.self.block ≡ 64 = search (rules, start.well-formed) in
+    let size : length c.args.self.block ≡ 64 = search (rules, c.well_formed) in
     omega arith
 
 returns : tie.Need-returns
 returns c =
-    let start = c.before.before.before.before.before.before in
-    let s = start.args.self in
-    let xs = start.args.«data».now in
+    let s = c.args.self in
+    let xs = c.args.«data».now in
     let at = s.count % 64 in
-    let size : length s.block ≡ 64 = search (rules, start.well-formed) in
-    copied-in s.block xs c.before.copy.new.1.0 at (at + length xs) refl (omega arith) c.before.copy.ensures.1
+    let size : length s.block ≡ 64 = search (rules, c.well_formed) in
+    copied-in s.block xs c.copy.new.dst at (at + length xs) refl (omega arith) c.copy.ensures.1
 
-pub filled-spec : {M : Type 1} → statement M
-filled-spec =
+pub filled_spec : {M : Type 1} → statement M
+filled_spec =
     tie.close (tie.spec (λ c. search rules) (λ c. search rules) (λ c. search rules) part-block-end (λ c κs. search rules) returns)

@@ -21,28 +21,25 @@ reported-most : (said : Written) (blocks : ℕ) → blocks ≤ 2 ^ 55 + 1 → re
 reported-most (Wrote n) blocks h = h
 reported-most (Refused r) blocks h = omega arith
 
-returns : tie.Need-returns
+returns : tie.Need-returns-then-self-gt-LIMIT
 unfolding finished
-returns c = (rw (lt-leb _ _ c.if1.true) (refuses-answers BadValue _), (refl, omega arith))
+returns c = (rw (lt-leb _ _ c.if-self-gt-LIMIT.true) (refuses-answers BadValue _), (refl, omega arith))
 
-returns-2 : tie.Need-returns-2
+returns-2 : tie.Need-returns
 unfolding finished
 returns-2 c =
-    let at-put = c.before.before.before in
-    let at-concatenation = at-put.before.before.before in
-    let at-padded = at-concatenation.before.before in
-    let s = at-padded.before.before.before.before.args.self in
-    let done = at-padded.padded.ensures in
-    let within : s.count ≤ limit = at-padded.before.if1.false in
-    let given : gives at-concatenation.concatenation.result ≡ finished s =
-    rw (le-leb _ _ within, at-concatenation.concatenation.ensures, done.0) in
+    let s = c.args.self in
+    let done = c.padded-last.ensures in
+    let within : s.count ≤ limit = c.if-self-gt-LIMIT.false in
+    let given : gives c.concatenation-bytes.result ≡ finished s =
+    rw (le-leb _ _ within, c.concatenation-bytes.ensures, done.0) in
     let blocks = c.report.ensures.1 in (
-      rw (given, ← c.report.ensures.0) at at-put.put.ensures,
-      (blocks ∙ rw (c.report.ensures.0, done.1.0), rw blocks (reported-most at-put.put.result _ done.1.1)),
+      rw (given, ← c.report.ensures.0) at c.put.ensures,
+      (blocks ∙ rw (c.report.ensures.0, done.1.0), rw blocks (reported-most c.put.result _ done.1.1)),
     )
 
-pub finish-counted-spec : {M : Type 1} → statement M
-finish-counted-spec =
+pub finish_counted_spec : {M : Type 1} → statement M
+finish_counted_spec =
     tie.close
     (tie.spec
     returns

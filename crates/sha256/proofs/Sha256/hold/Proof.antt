@@ -10,9 +10,8 @@ use Rattle.sha256.proofs.Sha256.hold.Tie as tie
 returns : tie.Need-returns
 unfolding filled
 returns c =
-    let start = c.before.before.before.before in
-    let size : length start.args.self.block ≡ 64 = search (rules, start.well-formed) in
-    rw (c.filled.ensures, absorb-held start.args.self start.args.«data».now start.requires.0 start.requires.1 size)
+    let size : length c.args.self.block ≡ 64 = search (rules, c.well_formed) in
+    rw (c.filled-block.ensures, absorb-held c.args.self c.args.«data».now c.requires.0 c.requires.1 size)
 
-pub hold-spec : {M : Type 1} → statement M
-hold-spec = tie.close (tie.spec (λ c. search rules) (λ c κs. search rules) returns)
+pub hold_spec : {M : Type 1} → statement M
+hold_spec = tie.close (tie.spec (λ c. search rules) (λ c κs. search rules) returns)

@@ -24,45 +24,39 @@ block_held c =
 counted : (c : tie.Start) → compressed c.args.self ≡ (c.args.self.count + 72) / 64
 counted c = compressed-count c.args.self (search rules)
 
-returns : tie.Need-returns
+returns : tie.Need-returns-then-held-lt56
 returns c =
-    let at-marked = c.before.before.before.before in
-    let start = at-marked.before.before.before.before.before in
-    let s = start.args.self in
+    let s = c.args.self in
     let front = take (s.count % 64) s.block in (
       rw (
-        c.all_blocks.ensures,
-        c.before.before.with-length.ensures,
-        at-marked.marked.ensures,
-        padding-one front s.count (block_held start) (omega arith),
+        c.all_blocks-value.ensures,
+        c.with_length-last.ensures,
+        c.marked-block.ensures,
+        padding-one front s.count (block_held c.before.before.before.before.before.before.before.before.before) (omega arith),
       ),
-      (rw (counted start) (omega arith), omega arith),
+      (rw (counted c.before.before.before.before.before.before.before.before.before) (omega arith), omega arith),
     )
 
-returns-2 : tie.Need-returns-2
+returns-2 : tie.Need-returns
 returns-2 c =
-    let at_second = c.before.before in
-    let at_first = at_second.before in
-    let at-marked = at_first.before.before.before in
-    let start = at-marked.before.before.before.before.before in
-    let s = start.args.self in
+    let s = c.args.self in
     let front = take (s.count % 64) s.block in
     let first = front ++ (0x80 ∷ replicate (63 - s.count % 64) 0) in
-    let size : length first ≡ 64 = rw (length_marked front (63 - s.count % 64), block_held start) (omega arith) in
+    let size : length first ≡ 64 = rw (length_marked front (63 - s.count % 64), block_held c.before.before.before.before.before.before.before.before.before.before.before) (omega arith) in
     let second = take 56 (replicate 64 0) ++ be 8 (8 * s.count) in (
       rw (
-        c.all-blocks3.ensures,
-        at_second.with-length2.ensures,
-        at_first.all-blocks2.ensures,
-        at-marked.marked.ensures,
-        padding-two front s.count (block_held start) (omega arith),
+        c.all_blocks-value-2.ensures,
+        c.with_length-last-2.ensures,
+        c.all_blocks-next.ensures,
+        c.marked-block.ensures,
+        padding-two front s.count (block_held c.before.before.before.before.before.before.before.before.before.before.before) (omega arith),
         hash-first s.words first second size,
       ),
-      (rw (counted start) (omega arith), omega arith),
+      (rw (counted c.before.before.before.before.before.before.before.before.before.before.before) (omega arith), omega arith),
     )
 
-pub padded-spec : {M : Type 1} → statement M
-padded-spec =
+pub padded_spec : {M : Type 1} → statement M
+padded_spec =
     tie.close
     (tie.spec
     (λ c κs. search rules)

@@ -10,5 +10,5 @@ returns : tie.Need-returns
 unfolding over
 returns c = refl
 
-pub past-limit-spec : {M : Type 1} → statement M
-past-limit-spec = tie.close (tie.spec (λ c. search rules) returns)
+pub past_limit_spec : {M : Type 1} → statement M
+past_limit_spec = tie.close (tie.spec (λ c. search rules) returns)

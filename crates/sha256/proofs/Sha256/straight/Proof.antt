@@ -11,25 +11,24 @@ use borrow.Author.Rules.{rules}
 use Rattle.sha256.proofs.Sha256.straight.Statement.{statement}
 use Rattle.sha256.proofs.Sha256.straight.Tie as tie
 
-slice-aggregate-all-blocks : tie.Need-slice-aggregate-all-blocks
+slice-aggregate-all-blocks : tie.Need-slice_bounds-all_blocks-end
 slice-aggregate-all-blocks c = sym (length-take-le _ _ (omega arith))
 
-returns-2 : tie.Need-returns-2
+returns-2 : tie.Need-returns
 returns-2 c =
-    let start = c.before.before.before.before.before.before.before in
-    let s = start.args.self in
-    let xs = start.args.«data».now in
+    let s = c.args.self in
+    let xs = c.args.«data».now in
     let n = length xs - length xs % 64 in
-    let size : length s.block ≡ 64 = search (rules, start.well-formed) in
+    let size : length s.block ≡ 64 = search (rules, c.well_formed) in
     rw (
-      c.hold2.ensures,
+      c.hold-2.ensures,
       part_to_end xs n,
-      c.before.before.before.all_blocks.ensures,
-      absorb-straight s xs n start.requires.0 start.requires.1 size (omega arith) (omega arith) (omega arith),
+      c.all_blocks-words.ensures,
+      absorb-straight s xs n c.requires.0 c.requires.1 size (omega arith) (omega arith) (omega arith),
     )
 
-pub straight-spec : {M : Type 1} → statement M
-straight-spec =
+pub straight_spec : {M : Type 1} → statement M
+straight_spec =
     tie.close
     (tie.spec
     (λ c κs. search rules)

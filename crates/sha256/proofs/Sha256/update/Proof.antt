@@ -7,21 +7,21 @@ use borrow.Author.Rules.{rules}
 use Rattle.sha256.proofs.Sha256.update.Statement.{statement}
 use Rattle.sha256.proofs.Sha256.update.Tie as tie
 
-returns : tie.Need-returns
-returns c = sym (absorb-none _ _ c.if1.true)
+returns : tie.Need-returns-then-data-eq0
+returns c = sym (absorb-none _ _ c.if-data-eq0.true)
 
-returns-2 : tie.Need-returns-2
+returns-2 : tie.Need-returns-then-count-gt-LIMIT
 returns-2 c =
-    let args = c.before.before.before.before.args in
-    c.past-limit.ensures ∙ sym (absorb-past args.self args.«data».now (omega arith) (omega arith))
+    let args = c.args in
+    c.past_limit.ensures ∙ sym (absorb-past args.self args.«data».now (omega arith) (omega arith))
 
-returns-3 : tie.Need-returns-3
+returns-3 : tie.Need-returns-then-count-data
 returns-3 c =
-    let args = c.before.before.before.before.before.args in
-    c.past-limit2.ensures ∙ sym (absorb-past args.self args.«data».now (omega arith) (omega arith))
+    let args = c.args in
+    c.past_limit-then-count-data.ensures ∙ sym (absorb-past args.self args.«data».now (omega arith) (omega arith))
 
-pub update-spec : {M : Type 1} → statement M
-update-spec =
+pub update_spec : {M : Type 1} → statement M
+update_spec =
     tie.close
     (tie.spec
     returns

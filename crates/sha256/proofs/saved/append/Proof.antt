@@ -10,12 +10,10 @@ use Rattle.sha256.proofs.saved.append.Tie as tie
 
 returns : tie.Need-returns
 returns c =
-    let start = c.before.before.before.before in
-    let args = start.args in
-    let copy = c.before.copy in
-    let size : length args.bytes ≡ 104 = search (rules, start.well-formed) in
-    copied_behind args.bytes args.part.now copy.new.1.0 args.at (omega arith) copy.ensures.1
+    let args = c.args in
+    let size : length args.bytes ≡ 104 = search (rules, c.well_formed) in
+    copied_behind args.bytes args.part.now c.copy.new.dst args.at (omega arith) c.copy.ensures.1
 
-pub append-spec : {M : Type 1} → statement M
-append-spec =
+pub append_spec : {M : Type 1} → statement M
+append_spec =
     tie.close (tie.spec (λ c. search rules) (λ c. search rules) (λ c. search rules) (λ c. search rules) (λ c κs. search rules) returns)

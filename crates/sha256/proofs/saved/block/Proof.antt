@@ -10,10 +10,9 @@ use Rattle.sha256.proofs.saved.block.Tie as tie
 
 returns : tie.Need-returns
 returns c =
-    let start = c.before.before.before.before.before in
-    let bytes = start.args.t1 in
-    let size : length bytes ≡ 104 = search (rules, start.well-formed) in
-    copied-part bytes c.before.copy.new.1.0 32 64 64 refl (omega arith) c.before.copy.ensures.1
+    let bytes = c.args.bytes in
+    let size : length bytes ≡ 104 = search (rules, c.well_formed) in
+    copied-part bytes c.copy.new.dst 32 64 64 refl (omega arith) c.copy.ensures.1
 
 pub block_spec : {M : Type 1} → statement M
 block_spec =

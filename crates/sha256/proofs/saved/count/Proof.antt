@@ -10,9 +10,8 @@ use Rattle.sha256.proofs.saved.count.Tie as tie
 
 returns : tie.Need-returns
 returns c =
-    let start = c.before.before in
-    let size : length start.args.bytes ≡ 104 = search (rules, start.well-formed) in
-    omega (arith, count-there start.args.bytes size)
+    let size : length c.args.bytes ≡ 104 = search (rules, c.well_formed) in
+    omega (arith, count-there c.args.bytes size)
 
 pub count_spec : {M : Type 1} → statement M
 count_spec =

@@ -7,7 +7,7 @@ use Rattle.sha256.proofs.saved.restore.Tie as tie
 
 returns : tie.Need-returns
 unfolding restored
-returns c = rw (c.count.ensures, c.before.block.ensures, c.before.before.words.ensures)
+returns c = rw (c.count.ensures, c.block-block.ensures, c.words-words.ensures)
 
-pub restore-spec : {M : Type 1} → statement M
-restore-spec = tie.close (tie.spec (λ c κs. search rules) (λ c κs. search rules) (λ c κs. search rules) returns)
+pub restore_spec : {M : Type 1} → statement M
+restore_spec = tie.close (tie.spec (λ c κs. search rules) (λ c κs. search rules) (λ c κs. search rules) returns)

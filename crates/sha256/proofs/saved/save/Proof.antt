@@ -28,33 +28,23 @@ fits c =
       count = search rules;
     }
 
-append-requires-2 : tie.Need-append-requires-2
-append-requires-2 c κs = rw (fits c.before.before.before.before.before.before).size (omega arith)
+append-requires-2 : tie.Need-append-held-requires
+append-requires-2 c κs = rw (fits c.before.before.before.before.before.before.before).size (omega arith)
 
 returns : tie.Need-returns
 unfolding saved concatenated
 returns c =
-    let at_held = c.before.before in
-    let at_front = at_held.before.before in
-    let at_count = at_front.before.before in
-    let at_words = at_count.before.before in
-    let start = at_words.before in
-    let state = start.args.state in
-    let r = c.append3.result in
-    let size : length r ≡ 104 = search (rules, c.append3.type-inv) in
-    let words = at_words.concatenation in
-    let first = at_front.append in
-    let second = at_held.append2 in
-    let third = c.append3 in
-    let count = at_count.bytes64 in
-    let front = copy-behind (replicate 104 0) words.result first.result 0 32 first.ensures refl words.ensures refl in
-    let held = copy-behind first.result state.block second.result 32 64 second.ensures front refl (fits start).size in
-    let all = copy-behind second.result count.result r 96 8 third.ensures held count.ensures refl in
+    let state = c.args.state in
+    let r = c.append.result in
+    let size : length r ≡ 104 = search (rules, c.append.type_inv) in
+    let front = copy-behind (replicate 104 0) c.concatenation-words.result c.append-front.result 0 32 c.append-front.ensures refl c.concatenation-words.ensures refl in
+    let held = copy-behind c.append-front.result state.block c.append-held.result 32 64 c.append-held.ensures front refl (fits c.before.before.before.before.before.before.before.before.before.before).size in
+    let all = copy-behind c.append-held.result c.bytes64-count.result r 96 8 c.append.ensures held c.bytes64-count.ensures refl in
     let whole : r ≡ saved state = sym (take_all 104 r (omega arith)) ∙ all in
-    (whole, ap restored whole ∙ restored-saved state (fits start))
+    (whole, ap restored whole ∙ restored-saved state (fits c.before.before.before.before.before.before.before.before.before.before))
 
-pub save-spec : {M : Type 1} → statement M
-save-spec =
+pub save_spec : {M : Type 1} → statement M
+save_spec =
     tie.close
     (tie.spec
     (λ c κs. search rules)

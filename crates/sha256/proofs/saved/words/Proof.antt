@@ -8,20 +8,19 @@ use Rattle.sha256.proofs.saved.words.Tie as tie
 returns : tie.Need-returns
 unfolding restored
 returns c =
-    let c4 = c.before.before.before.before in
     rw (
-      c.word8.ensures,
-      c.before.word7.ensures,
-      c.before.before.word6.ensures,
-      c.before.before.before.word5.ensures,
-      c4.word4.ensures,
-      c4.before.word3.ensures,
-      c4.before.before.word2.ensures,
-      c4.before.before.before.word.ensures,
+      c.word-8.ensures,
+      c.word-7.ensures,
+      c.word-6.ensures,
+      c.word-5.ensures,
+      c.word-4.ensures,
+      c.word-3.ensures,
+      c.word-2.ensures,
+      c.word.ensures,
     )
 
-pub words-spec : {M : Type 1} → statement M
-words-spec =
+pub words_spec : {M : Type 1} → statement M
+words_spec =
     tie.close
     (tie.spec
     (λ c κs. search rules)

@@ -19,26 +19,26 @@ at_least (suc k) n h = past (at_least k n h.0) h.1
 exactly : (k n : ℕ) → k ≤ n → n < k + 1 → n ≡ k
 exactly k n l h = omega arith
 
-last_row : tie.Need-returns-16
-last_row c = rw (exactly 15 c.before.args.n (at_least 15 c.before.args.n c.match.rest) c.before.requires)
+last_row : tie.Need-returns-in_default
+last_row c = rw (exactly 15 c.args.n (at_least 15 c.args.n c.in_default.in_default-own.rest) c.requires)
 
-pub constants-spec : {M : Type 1} → statement M
-constants-spec =
+pub constants_spec : {M : Type 1} → statement M
+constants_spec =
     tie.close
     (tie.spec
-    (λ c. rw c.match.keys1)
-    (λ c. rw c.match.keys2)
-    (λ c. rw c.match.keys3)
-    (λ c. rw c.match.keys4)
-    (λ c. rw c.match.keys5)
-    (λ c. rw c.match.keys6)
-    (λ c. rw c.match.keys7)
-    (λ c. rw c.match.keys8)
-    (λ c. rw c.match.keys9)
-    (λ c. rw c.match.keys10)
-    (λ c. rw c.match.keys11)
-    (λ c. rw c.match.keys12)
-    (λ c. rw c.match.keys13)
-    (λ c. rw c.match.keys14)
-    (λ c. rw c.match.keys15)
+    (λ c. rw c.in-0.is)
+    (λ c. rw c.in-1.is)
+    (λ c. rw c.in-2.is)
+    (λ c. rw c.in-3.is)
+    (λ c. rw c.in-4.is)
+    (λ c. rw c.in-5.is)
+    (λ c. rw c.in-6.is)
+    (λ c. rw c.in-7.is)
+    (λ c. rw c.in-8.is)
+    (λ c. rw c.in-9.is)
+    (λ c. rw c.in-10.is)
+    (λ c. rw c.in-11.is)
+    (λ c. rw c.in-12.is)
+    (λ c. rw c.in-13.is)
+    (λ c. rw c.in-14.is)
     last_row)

@@ -8,5 +8,5 @@ use Rattle.sha256_block.proofs.functions.ch.Tie as tie
 returns : tie.Need-returns
 returns c = ch-by-choice c.args.x c.args.y c.args.z (omega arith) (omega arith)
 
-pub ch-spec : {M : Type 1} → statement M
-ch-spec = tie.close (tie.spec returns)
+pub ch_spec : {M : Type 1} → statement M
+ch_spec = tie.close (tie.spec returns)

@@ -9,5 +9,5 @@ use Rattle.sha256_block.proofs.functions.small_sigma0.Tie as tie
 returns : tie.Need-returns
 returns c = ap (λ (y : ℕ). bit_xor y (c.args.x / 2 ^ 3)) (rotation-nested 14 7 11 c.args.x (omega arith))
 
-pub small-sigma0-spec : {M : Type 1} → statement M
-small-sigma0-spec = tie.close (tie.spec returns)
+pub small_sigma0_spec : {M : Type 1} → statement M
+small_sigma0_spec = tie.close (tie.spec returns)

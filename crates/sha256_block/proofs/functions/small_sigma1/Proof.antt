@@ -9,5 +9,5 @@ use Rattle.sha256_block.proofs.functions.small_sigma1.Tie as tie
 returns : tie.Need-returns
 returns c = ap (λ (y : ℕ). bit_xor y (c.args.x / 2 ^ 10)) (rotation-nested 13 17 2 c.args.x (omega arith))
 
-pub small-sigma1-spec : {M : Type 1} → statement M
-small-sigma1-spec = tie.close (tie.spec returns)
+pub small_sigma1_spec : {M : Type 1} → statement M
+small_sigma1_spec = tie.close (tie.spec returns)

@@ -7,8 +7,8 @@ use Rattle.sha256_block.proofs.rounds.four_rounds.Tie as tie
 returns : tie.Need-returns
 returns c = cc
 
-pub four-rounds-spec : {M : Type 1} → statement M
-four-rounds-spec =
+pub four_rounds_spec : {M : Type 1} → statement M
+four_rounds_spec =
     tie.close
     (tie.spec
     (λ c κs. search rules)

@@ -9,8 +9,8 @@ returns : tie.Need-returns
 unfolding round
 returns c = cc
 
-pub one-round-spec : {M : Type 1} → statement M
-one-round-spec =
+pub one_round_spec : {M : Type 1} → statement M
+one_round_spec =
     tie.close
     (tie.spec
     (λ c κs. search rules)

@@ -7,8 +7,8 @@ use Rattle.sha256_block.proofs.schedule.later.Tie as tie
 returns : tie.Need-returns
 returns c = cc
 
-pub later-spec : {M : Type 1} → statement M
-later-spec =
+pub later_spec : {M : Type 1} → statement M
+later_spec =
     tie.close
     (tie.spec
     (λ c κs. search rules)

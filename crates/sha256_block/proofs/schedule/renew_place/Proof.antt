@@ -7,13 +7,12 @@ use Rattle.sha256_block.proofs.schedule.renew_place.Tie as tie
 
 returns : tie.Need-returns
 returns c n M sixteen holds =
-    let at-start = c.before.before.before.before.before in
-    let i = at-start.args.i in
+    let i = c.args.i in
     let next : n + (i + 1) ≡ suc (n + i) = omega arith in
-    rw (next, add-one i) (ring-next i (n + i) c.later.result at-start.args.w.now M sixteen (omega arith) holds c.later.ensures)
+    rw (next, add-one i) (ring-next i (n + i) c.later.result c.args.w.now M sixteen (omega arith) holds c.later.ensures)
 
-pub renew-place-spec : {M : Type 1} → statement M
-renew-place-spec =
+pub renew_place_spec : {M : Type 1} → statement M
+renew_place_spec =
     tie.close
     (tie.spec
     (λ c. search rules)

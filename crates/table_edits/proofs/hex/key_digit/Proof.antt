@@ -8,20 +8,18 @@ use borrow.Author.Rules.{rules}
 use Rattle.table_edits.proofs.hex.key_digit.Statement.{statement}
 use Rattle.table_edits.proofs.hex.key_digit.Tie as tie
 
-lower-digit-requires : tie.Need-lower-digit-requires
-lower-digit-requires c κs = let byte = c.before.shared-slice-known2.given (c.before.before.before.args.i / 2) in omega arith
+lower-digit-requires : tie.Need-lower_digit-requires
+lower-digit-requires c κs = let byte = c.shared_slice_known-2-1.given (c.args.i / 2) in omega arith
 
-returns : tie.Need-returns
+returns : tie.Need-returns-then-i-eq0
 returns c =
-    let s = c.before.before.before.before in
-    c.lower-digit.ensures ∙ sym (high_digit s.args.key.now s.args.i s.requires c.before.if1.true)
+    c.lower_digit.ensures ∙ sym (high_digit c.args.key.now c.args.i c.requires c.if-i-eq0.true)
 
-returns-2 : tie.Need-returns-2
+returns-2 : tie.Need-returns
 returns-2 c =
-    let s = c.before.before.before.before in
-    c.lower-digit2.ensures ∙ sym (low_digit s.args.key.now s.args.i s.requires c.before.if1.false)
+    c.lower_digit-2.ensures ∙ sym (low_digit c.args.key.now c.args.i c.requires c.if-i-eq0.false)
 
-pub key-digit-spec : {M : Type 1} → statement M
-key-digit-spec =
+pub key_digit_spec : {M : Type 1} → statement M
+key_digit_spec =
     tie.close
     (tie.spec (λ c. search rules) lower-digit-requires returns (λ c κs. search rules) returns-2)

@@ -12,33 +12,31 @@ use borrow.Author.Rules.{rules}
 use Rattle.table_edits.proofs.hex.put_key.Statement.{statement}
 use Rattle.table_edits.proofs.hex.put_key.Tie as tie
 
-abbrev invariant-loop : tie.invariant-loop
+abbrev invariant-loop : tie.invariant-loop-i
 invariant-loop key out₀ i₀ out i = (i ≤ length out₀) × (length out ≡ length out₀) × (out ≡ filled (lower_hex key) out₀ i)
 
-abbrev decreases-loop : tie.decreases-loop
+abbrev decreases-loop : tie.decreases-loop-i
 decreases-loop key out₀ i₀ out i = length out₀ - i
 
-loop-again : tie.Need-loop-preserved invariant-loop decreases-loop
+loop-again : tie.Need-loop-i-preserved invariant-loop decreases-loop
 loop-again c =
-    let t = c.before.before in
-    let s = t.before.before.before in (
+    (
       search rules,
-      simp length-set t.loop.invariant.1,
-      rw t.loop.invariant.2 (rw c.key-digit.ensures (fill-turn (lower_hex s.args.key.now) s.args.out.now t.loop.i
+      simp length-set c.loop-i.invariant.1,
+      rw c.loop-i.invariant.2 (rw c.key_digit.ensures (fill-turn (lower_hex c.args.key.now) c.args.out.now c.loop-i.i
           (rw length-hex (omega arith)) (omega arith))),
     )
 
 returns : tie.Need-returns invariant-loop decreases-loop
 returns c =
-    let s = c.before.before.before.before in
-    let key = s.args.key.now in
-    let out = s.args.out.now in
-    let end : c.before.loop.i ≡ 2 * length key = omega arith in
-    c.before.loop.invariant.2 ∙ filled-all (lower_hex key) out _ _ (length-hex key) end
+    let key = c.args.key.now in
+    let out = c.args.out.now in
+    let end : c.loop-i.i ≡ 2 * length key = omega arith in
+    c.loop-i.invariant.2 ∙ filled-all (lower_hex key) out _ _ (length-hex key) end
     ∙ rw (drop_of_length-le out {i = 2 * length key} (omega arith)) (append-nil (lower_hex key))
 
-pub put-key-spec : {M : Type 1} → statement M
-put-key-spec =
+pub put_key_spec : {M : Type 1} → statement M
+put_key_spec =
     tie.close
     (tie.spec
     invariant-loop

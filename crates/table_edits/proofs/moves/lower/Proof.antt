@@ -12,43 +12,42 @@ use borrow.Author.Rules.{rules}
 use Rattle.table_edits.proofs.moves.lower.Statement.{statement}
 use Rattle.table_edits.proofs.moves.lower.Tie as tie
 
-abbrev invariant-loop : tie.invariant-loop
+abbrev invariant-loop : tie.invariant-loop-i
 invariant-loop memory₀ from end to n i₀ memory i =
     (i ≤ n) × (length memory ≡ length memory₀) × (memory ≡ paste memory₀ to (drop from memory₀) i)
 
-abbrev decreases-loop : tie.decreases-loop
+abbrev decreases-loop : tie.decreases-loop-i
 decreases-loop memory₀ from end to n i₀ memory i = n - i
 
-loop-holds : tie.Need-loop-init invariant-loop decreases-loop
+loop-holds : tie.Need-loop-i-init invariant-loop decreases-loop
 loop-holds c =
     let s = c.args.memory.now in
     (search rules, refl, paste-zero s c.args.to (drop c.args.from s))
 
-loop-again : tie.Need-loop-preserved invariant-loop decreases-loop
+loop-again : tie.Need-loop-i-preserved invariant-loop decreases-loop
 loop-again c =
-    let t = c.before.before in
-    let a = t.before.args in
+    let a = c.args in
     let s = a.memory.now in
-    let i = t.loop.i in
-    let copied : t.loop.memory ≡ paste s a.to (drop a.from s) i = t.loop.invariant.2 in
-    let read : get_or t.loop.memory (a.from + i) 0 ≡ get_or (drop a.from s) i 0 =
+    let i = c.loop-i.i in
+    let copied : c.loop-i.memory ≡ paste s a.to (drop a.from s) i = c.loop-i.invariant.2 in
+    let read : get_or c.loop-i.memory (a.from + i) 0 ≡ get_or (drop a.from s) i 0 =
     ap (λ (m : List ℕ). get_or m (a.from + i) 0) copied
     ∙ lower-read s (drop a.from s) a.from a.to i (omega arith) (omega arith) (rw length-drop (omega arith))
     ∙ sym (get_or-drop a.from s i 0) in (
       search rules,
-      simp length-set t.loop.invariant.1,
+      simp length-set c.loop-i.invariant.1,
       rw read (rw copied (paste-suc s a.to (drop a.from s) i 0 (omega arith) (rw length-drop (omega arith)))
           ∙ ap (paste s a.to (drop a.from s)) (sym (add-one i))),
     )
 
-same_length : tie.Need-same-length invariant-loop decreases-loop
-same_length c = c.before.loop.invariant.1
+same_length : tie.Need-shape_of-memory invariant-loop decreases-loop
+same_length c = c.loop-i.invariant.1
 
 returns : tie.Need-returns invariant-loop decreases-loop
 returns c =
-    let a = c.before.before.args in
-    let all : c.before.loop.i ≡ a.end - a.from = omega arith in
-    rw all at c.before.loop.invariant.2
+    let a = c.args in
+    let all : c.loop-i.i ≡ a.end - a.from = omega arith in
+    rw all at c.loop-i.invariant.2
 
 pub lower_spec : {M : Type 1} → statement M
 lower_spec =

@@ -11,42 +11,41 @@ use borrow.Author.Rules.{rules}
 use Rattle.table_edits.proofs.moves.raise.Statement.{statement}
 use Rattle.table_edits.proofs.moves.raise.Tie as tie
 
-abbrev invariant-loop : tie.invariant-loop
+abbrev invariant-loop : tie.invariant-loop-i
 invariant-loop memory₀ from end to i₀ memory i =
     (i ≤ end - from) × (length memory ≡ length memory₀) × (memory ≡ paste memory₀ (to + i) (drop (from + i) memory₀) (end - from - i))
 
-abbrev decreases-loop : tie.decreases-loop
+abbrev decreases-loop : tie.decreases-loop-i
 decreases-loop memory₀ from end to i₀ memory i = i
 
-loop-holds : tie.Need-loop-init invariant-loop decreases-loop
+loop-holds : tie.Need-loop-i-init invariant-loop decreases-loop
 loop-holds c =
     let s = c.args.memory.now in
     let n = c.args.end - c.args.from in
     let none : n - n ≡ 0 = omega arith in
     (search rules, refl, rw none (paste-zero s (c.args.to + n) (drop (c.args.from + n) s)))
 
-loop-again : tie.Need-loop-preserved invariant-loop decreases-loop
+loop-again : tie.Need-loop-i-preserved invariant-loop decreases-loop
 loop-again c =
-    let t = c.before.before in
-    let a = t.before.args in (
+    let a = c.args in (
       omega arith,
-      simp length-set t.loop.invariant.1,
-      raise-turn a.memory.now t.loop.memory a.from a.to (a.end - a.from) t.loop.i (omega arith) (omega arith) (omega arith)
-          (omega arith) t.loop.invariant.2,
+      simp length-set c.loop-i.invariant.1,
+      raise-turn a.memory.now c.loop-i.memory a.from a.to (a.end - a.from) c.loop-i.i (omega arith) (omega arith) (omega arith)
+          (omega arith) c.loop-i.invariant.2,
     )
 
-same_length : tie.Need-same-length invariant-loop decreases-loop
-same_length c = c.before.loop.invariant.1
+same_length : tie.Need-shape_of-memory invariant-loop decreases-loop
+same_length c = c.loop-i.invariant.1
 
 returns : tie.Need-returns invariant-loop decreases-loop
 returns c =
-    let a = c.before.before.args in
-    let done : c.before.loop.i ≡ 0 = omega arith in
+    let a = c.args in
+    let done : c.loop-i.i ≡ 0 = omega arith in
     let whole : a.end - a.from - 0 ≡ a.end - a.from = omega arith in
-    rw (add-zero a.to, add-zero a.from, whole) at (rw done at c.before.loop.invariant.2)
+    rw (add-zero a.to, add-zero a.from, whole) at (rw done at c.loop-i.invariant.2)
 
-pub raise-spec : {M : Type 1} → statement M
-raise-spec =
+pub raise_spec : {M : Type 1} → statement M
+raise_spec =
     tie.close
     (tie.spec
     invariant-loop
