@@ -1,9 +1,5 @@
 // The transcript of one connection: the running hash of its handshake messages, each added to it
 // where it stands (document 01, "Secrets").
-//
-// A function over a lent transcript is proved by a walk of its code, by hand, and so is the one above
-// it that lends it a transcript of its own. That one takes and gives plain values, and whoever calls it
-// needs no such proof. proofs/Walk.antt has what the walks share.
 #![tactic(auto)]
 
 ghost use Rattle.std.specs.Prelude.{◌≡◌};
@@ -30,6 +26,7 @@ pub fn start() -> Transcript
 }
 
 // The transcript where it stands, with one more message.
+#[tactic(auto, unfolding(crate::specs::Transcript::added))]
 pub fn add(t: &mut Transcript, message: &[u8])
     ensures { t.new ≡ added t.old message.now }
 {
@@ -46,6 +43,7 @@ pub fn handshake_hash(t: &Transcript, out: &mut [u8]) -> Written
 }
 
 // The running hash with one more message: `add` for a caller that keeps the hash by value.
+#[tactic(auto, unfolding(crate::specs::Transcript::added))]
 pub fn with_message(state: Sha256, message: &[u8]) -> Sha256
     ensures { result ≡ absorb state message.now }
 {

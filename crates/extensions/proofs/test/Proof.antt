@@ -23,17 +23,14 @@ loop-holds : tie.Need-loop-part-init invariant-loop decreases-loop
 loop-holds c = (zero-le, λ p h. absurd (omega arith))
 
 -- a turn's start, its block, and what the pass of its part says
-abbrev Turn : Type 0
-Turn = tie.At-loop-part invariant-loop decreases-loop
+abbrev block : tie.At-loop-part invariant-loop decreases-loop → List ℕ
+block l = l.args.block.now
 
-abbrev block : Turn → List ℕ
-block l = l.before.before.args.block.now
-
-abbrev turn : tie.In-Holds invariant-loop decreases-loop → Turn
-turn c = c.before.before.before.before.before
+abbrev turn : tie.In-Holds invariant-loop decreases-loop → tie.At-loop-part invariant-loop decreases-loop
+turn c = c.before.before.before
 
 passed : (c : tie.In-Holds invariant-loop decreases-loop)
-    → Passed (turn c).loop.part c.in-Holds.nearest (extensions_in (block (turn c)))
+    → Passed (turn c).loop-part.part c.in-Holds.nearest (extensions_in (block (turn c)))
 passed c =
     pass-holds _ _ _ (omega arith) (sym c.test_part.ensures ∙ c.in-Holds.is)
 
@@ -43,20 +40,20 @@ loop-less c = omega (arith, passed c)
 loop-again : tie.Need-loop-part-preserved invariant-loop decreases-loop
 loop-again c = (
   (passed c).inside,
-  λ p h. elim (dec_lt p (turn c).loop.part) [
-    | yes before ↦ (turn c).loop.invariant.1 p before
+  λ p h. elim (dec_lt p (turn c).loop-part.part) [
+    | yes before ↦ (turn c).loop-part.invariant.1 p before
     | no from ↦ (passed c).holds p (omega arith) h
   ],
 )
 
 returns : tie.Need-returns-in-Fails invariant-loop decreases-loop
 returns c =
-    sym (pass-fails c.loop-part.part (extensions_in (block c)) (sym c.test_part.ensures ∙ c.in-Fails.is))
+    sym (pass-fails c.loop-part.part (extensions_in (block c.before.before.before)) (sym c.test_part.ensures ∙ c.in-Fails.is))
 
 returns-2 : tie.Need-returns invariant-loop decreases-loop
 returns-2 c =
-    let bytes : Bytes (block c) = λ i. omega (arith, c.shared_slice_known-1.given i) in
-    sym (parts-ruled (block c) (extensions_in (block c)) bytes refl (λ p h. c.loop-part.invariant.1 p (omega arith)))
+    let bytes : Bytes (block c.before) = λ i. omega (arith, c.shared_slice_known-1.given i) in
+    sym (parts-ruled (block c.before) (extensions_in (block c.before)) bytes refl (λ p h. c.loop-part.invariant.1 p (omega arith)))
 
 pub test_spec : {M : Type 1} → statement M
 test_spec =

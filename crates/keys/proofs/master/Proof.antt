@@ -16,8 +16,7 @@ returns-2 c = (simp (ne_eqb _ _ c.if-server-ne32.true, and-false) (refused-answe
 
 returns-3 : tie.Need-returns
 returns-3 c =
-    let made = c.derive.ensures in
-    (
+    let made = c.derive.ensures in (
       simp (eq-eqb _ _ c.if-client-ne32.false, eq-eqb _ _ c.if-server-ne32.false) (rw c.joined-seed.ensures at made.0),
       made.1 ∙ rw c.joined-seed.ensures,
     )

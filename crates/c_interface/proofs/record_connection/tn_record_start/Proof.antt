@@ -26,13 +26,13 @@ keep-requires : tie.Need-keep-requires
 keep-requires c κs =
     let a = c.args in
     let settings : Settings =
-    record { random = a.random.now; hint = a.hint.now; stand_in = a.stand-in.now; named = c.named.result; suites = offered } in
+    record { random = a.random.now; hint = a.hint.now; stand_in = a.stand_in.now; named = c.named.result; suites = offered } in
     record-start-count settings c.start-answer.ensures
 
 returns-2 : tie.Need-returns
 returns-2 c =
     let a = c.args in
-    let answer : c.start-answer.result ≡ record_start_call a.random.now a.hint.now a.stand-in.now a.rule =
+    let answer : c.start-answer.result ≡ record_start_call a.random.now a.hint.now a.stand_in.now a.rule =
     c.start-answer.ensures ∙ rw (c.named.ensures, le-leb a.rule 2 c.if-rule-gt2.false) in
     start-keeps (ap (λ (y : Answer). y.said) answer) (ap (λ (y : Answer). y.next) answer) c.keep.type_inv c.keep.ensures.0 c.keep.ensures.1
 

@@ -10,7 +10,7 @@ use Rattle.c_interface.proofs.writing.tn_write_client_hello.Tie as tie
 of-answer-requires : tie.Need-of_answer-requires
 of-answer-requires c κs =
     let a = c.args in
-    let fields = client_given a.version a.random.now a.session-id.now a.suites.now a.methods.now a.present a.block.now in
+    let fields = client_given a.version a.random.now a.session_id.now a.suites.now a.methods.now a.present a.block.now in
     answer-count-small c.write.ensures (written_small client_hello fields)
 
 returns : tie.Need-returns

@@ -10,7 +10,7 @@ use Rattle.c_interface.proofs.writing.tn_write_finished.Tie as tie
 of-answer-requires : tie.Need-of_answer-requires
 of-answer-requires c κs =
     let a = c.args in
-    answer-count-small c.write_finished.ensures (written_small finished a.verify-data.now)
+    answer-count-small c.write_finished.ensures (written_small finished a.verify_data.now)
 
 returns : tie.Need-returns
 returns c = codes-answer c.write_finished.ensures c.of_answer.type_inv c.of_answer.ensures

@@ -11,7 +11,7 @@ of-answer-requires : tie.Need-of_answer-requires
 of-answer-requires c κs =
     let a = c.args in
     answer-count-small c.write.ensures
-    (written_small new_session_ticket (record { lifetime_hint = a.lifetime-hint; ticket = a.ticket.now }))
+    (written_small new_session_ticket (record { lifetime_hint = a.lifetime_hint; ticket = a.ticket.now }))
 
 returns : tie.Need-returns
 returns c = codes-answer c.write.ensures c.of_answer.type_inv c.of_answer.ensures

@@ -10,7 +10,7 @@ use Rattle.c_interface.proofs.writing.tn_write_server_hello.Tie as tie
 of-answer-requires : tie.Need-of_answer-requires
 of-answer-requires c κs =
     let a = c.args in
-    let fields = server_given a.version a.random.now a.session-id.now a.suite a.compression a.present a.block.now in
+    let fields = server_given a.version a.random.now a.session_id.now a.suite a.compression a.present a.block.now in
     answer-count-small c.write.ensures (written_small server_hello fields)
 
 returns : tie.Need-returns

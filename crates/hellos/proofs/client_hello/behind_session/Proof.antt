@@ -13,7 +13,7 @@ behind-suites-requires : tie.Need-behind_suites-requires
 behind-suites-requires c κs =
     let a = c.args in
     let found = sym c.suites.ensures ∙ c.in-At.is in
-    let i = ruled-inside suites_length 2 a.message.now (a.start + a.session-len) _ _ found in
+    let i = ruled-inside suites_length 2 a.message.now (a.start + a.session_len) _ _ found in
     (omega arith, i.1)
 
 returns : tie.Need-returns-in-At

@@ -14,7 +14,7 @@ use Rattle.hellos.proofs.client_hello.behind_suites.Tie as tie
 -- where the compression methods stand
 inside : (c : tie.In-At) →
     let a = c.args in
-    (c.in-At.start ≡ a.suites-start + a.suites-len + 1) × (c.in-At.start + c.in-At.len ≤ length a.message.now)
+    (c.in-At.start ≡ a.suites_start + a.suites_len + 1) × (c.in-At.start + c.in-At.len ≤ length a.message.now)
 inside c =
     let m = c.args.message.now in
     ruled-inside methods_length 1 m _ _ _ (sym c.methods.ensures ∙ c.in-At.is)

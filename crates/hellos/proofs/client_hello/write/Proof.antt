@@ -23,10 +23,10 @@ use Rattle.hellos.proofs.client_hello.write.Tie as tie
 abbrev fields : tie.Start → ClientHello
 fields s =
     let a = s.args in
-    client_given a.version a.random.now a.session-id.now a.suites.now a.methods.now a.present a.block.now
+    client_given a.version a.random.now a.session_id.now a.suites.now a.methods.now a.present a.block.now
 
 abbrev front : tie.Start → Bool
-front s = front_rules s.args.version s.args.random.now s.args.session-id.now
+front s = front_rules s.args.version s.args.random.now s.args.session_id.now
 
 abbrev suites : tie.Start → Bool
 suites s = writable 2 s.args.suites.now && suites_length (length s.args.suites.now)
@@ -90,9 +90,9 @@ returns-2 c =
     let parts = four-parts a.suites.now a.methods.now tail size c.bytes16-suites_size.ensures (lists-ok c.before.before.before.before.before.before.before).1 in
     let same = same-written client_hello (fields s)
     (hello_with 1 (between size a.suites.now (length a.methods.now ∷ []) a.methods.now))
-    (front_given a.version a.random.now a.session-id.now a.present a.block.now) refl
+    (front_given a.version a.random.now a.session_id.now a.present a.block.now) refl
     (rules-by s ∙ rw (lists-true c.before.before.before.before.before.before.before))
-    (ap (front_bytes a.version a.random.now a.session-id.now) parts) in
+    (ap (front_bytes a.version a.random.now a.session_id.now) parts) in
     rw same c.write.ensures
 
 pub write_spec : {M : Type 1} → statement M

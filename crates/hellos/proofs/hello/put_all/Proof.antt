@@ -14,7 +14,7 @@ use Rattle.hellos.proofs.hello.put_all.Statement.{statement}
 use Rattle.hellos.proofs.hello.put_all.Tie as tie
 
 abbrev head : tie.Start → List ℕ
-head s = let a = s.args in fronted a.kind a.body-len a.version a.random.now a.session-id.now
+head s = let a = s.args in fronted a.kind a.body_len a.version a.random.now a.session_id.now
 
 abbrev middle : tie.Start → List ℕ
 middle s = let a = s.args in between a.a.now a.b.now a.c.now a.d.now
@@ -25,14 +25,14 @@ tail s = let a = s.args in tail_bytes (given a.present a.block.now)
 -- the parts one behind the other are the message
 parts-are-message : (s : tie.Start) →
     let a = s.args in
-    (head s ++ middle s) ++ tail s ≡ message a.kind (front_bytes a.version a.random.now a.session-id.now (middle s ++ tail s))
+    (head s ++ middle s) ++ tail s ≡ message a.kind (front_bytes a.version a.random.now a.session_id.now (middle s ++ tail s))
 parts-are-message s =
     let a = s.args in
     let rest : List ℕ = middle s ++ tail s in
     let total : length rest ≡ length (middle s) + length (tail s) = length-append (middle s) (tail s) in
-    let long = length-body a.version a.random.now a.session-id.now rest s.requires.0 in
-    let size : a.body-len ≡ length (front_bytes a.version a.random.now a.session-id.now rest) = omega (arith, long, total, s.requires.2) in
-    append_assoc (head s) (middle s) (tail s) ∙ front-message a.kind a.body-len a.version a.random.now a.session-id.now rest size
+    let long = length-body a.version a.random.now a.session_id.now rest s.requires.0 in
+    let size : a.body_len ≡ length (front_bytes a.version a.random.now a.session_id.now rest) = omega (arith, long, total, s.requires.2) in
+    append_assoc (head s) (middle s) (tail s) ∙ front-message a.kind a.body_len a.version a.random.now a.session_id.now rest size
 
 abbrev start : tie.After-put_front-at → tie.Start
 start c = c.before.before.before.before.before.before.before.before.before.before
@@ -50,12 +50,12 @@ returns c =
     let s = start at1 in
     let a = s.args in
     let out = a.out.now in
-    let id = a.session-id.now in
+    let id = a.session_id.now in
     let first = at1.put_front-at in
     let second = at2.four-next in
-    let long = length_front a.kind a.body-len a.version a.random.now id s.requires.0 in
+    let long = length_front a.kind a.body_len a.version a.random.now id s.requires.0 in
     let one : first.last.1.1.1.1.1.0 ≡ front (head s) out =
-    front-put a.kind a.body-len a.version a.random.now id out _ s.requires.0 first.ensures.1 in
+    front-put a.kind a.body_len a.version a.random.now id out _ s.requires.0 first.ensures.1 in
     let two : second.last.1.1.1.1.0 ≡ front (head s ++ middle s) out =
     second.ensures.1 ∙ copy-behind-front (head s) (middle s) out _ first.result one (first.ensures.0 ∙ sym long) in
     let both = length-append (head s) (middle s) in
@@ -63,7 +63,7 @@ returns c =
     let three : c.put_tail.new.out ≡ front ((head s ++ middle s) ++ tail s) out =
     c.put_tail.ensures.1 ∙ copy-behind-front (head s ++ middle s) (tail s) out _ second.result two place in
     let total = length-append (head s ++ middle s) (tail s) in
-    let size : length ((head s ++ middle s) ++ tail s) ≡ 4 + a.body-len = omega (arith, long, both, total, s.requires.2) in
+    let size : length ((head s ++ middle s) ++ tail s) ≡ 4 + a.body_len = omega (arith, long, both, total, s.requires.2) in
     (omega (arith, place, c.put_tail.ensures.0, size, total), three ∙ ap₂ (λ (l : List ℕ) (k : ℕ). l ++ drop k out) (parts-are-message s) size)
 
 pub put_all_spec : {M : Type 1} → statement M

@@ -36,7 +36,7 @@ cast-size c = record { fits = omega (arith, (start c).requires) }
 four-requires : tie.Need-four-requires
 four-requires c κs =
     let a = (start c.before.before.before).args in
-    let total = length-between (first c.before.before.before) a.random.now (length a.session-id.now ∷ []) a.session-id.now in
+    let total = length-between (first c.before.before.before) a.random.now (length a.session_id.now ∷ []) a.session_id.now in
     omega (arith, total, (start c.before.before.before).requires)
 
 returns : tie.Need-returns
@@ -44,11 +44,11 @@ returns c =
     let s = start c.before.before.before.before.before.before in
     let a = s.args in
     let random = a.random.now in
-    let id = a.session-id.now in
+    let id = a.session_id.now in
     let small : length id < 256 = omega (arith, s.requires.1) in
     let total = length-between (first c.before.before.before.before.before.before) random (length id ∷ []) id in
     let size : length (between (first c.before.before.before.before.before.before) random (length id ∷ []) id) ≡ 39 + length id = omega (arith, total, s.requires.0) in
-    let whole = head-is a.kind a.body-len a.version random id _ _ c.bytes24-n.ensures c.bytes16-v.ensures small in
+    let whole = head-is a.kind a.body_len a.version random id _ _ c.bytes24-n.ensures c.bytes16-v.ensures small in
     (c.four.ensures.0 ∙ (omega (arith, size)), c.four.ensures.1 ∙ ap₂ (λ (l : List ℕ) (k : ℕ). paste a.out.now 0 l k) whole size)
 
 pub put_front_spec : {M : Type 1} → statement M

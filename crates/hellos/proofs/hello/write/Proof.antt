@@ -23,7 +23,7 @@ abbrev layout : tie.Start → Layout Front
 layout s = let a = s.args in hello_with a.kind (between a.a.now a.b.now a.c.now a.d.now)
 
 abbrev fields : tie.Start → Front
-fields s = let a = s.args in front_given a.version a.random.now a.session-id.now a.present a.block.now
+fields s = let a = s.args in front_given a.version a.random.now a.session_id.now a.present a.block.now
 
 abbrev out : tie.Start → List ℕ
 out s = s.args.out.now
@@ -39,23 +39,23 @@ abbrev start3 : tie.After-tail_len → tie.Start
 start3 c = start2 c.before.before
 
 -- what the tests have shown
-front-true : (c : tie.Else-not-front_valid) → let a = (start1 c.before).args in front_rules a.version a.random.now a.session-id.now ≡ true
+front-true : (c : tie.Else-not-front_valid) → let a = (start1 c.before).args in front_rules a.version a.random.now a.session_id.now ≡ true
 front-true c = sym c.front_valid.ensures ∙ not-false c.front_valid.result (ap not c.if-not-front_valid.false)
 
 front-ok : (c : tie.Else-not-front_valid) →
     let a = (start1 c.before).args in
-    (a.version < 65536) × (length a.random.now ≡ 32) × (length a.session-id.now ≤ 32)
-front-ok c = let a = (start1 c.before).args in front-rules a.version a.random.now a.session-id.now (front-true c)
+    (a.version < 65536) × (length a.random.now ≡ 32) × (length a.session_id.now ≤ 32)
+front-ok c = let a = (start1 c.before).args in front-rules a.version a.random.now a.session_id.now (front-true c)
 
 sized : (c : tie.After-tail_len) →
     let a = (start3 c).args in
     length ((layout (start3 c)).body (fields (start3 c)))
-    ≡ 35 + length a.session-id.now + (length a.a.now + length a.b.now + length a.c.now + length a.d.now) + c.tail_len.result
+    ≡ 35 + length a.session_id.now + (length a.a.now + length a.b.now + length a.c.now + length a.d.now) + c.tail_len.result
 sized c =
     let a = (start3 c).args in
     let middle : List ℕ = between a.a.now a.b.now a.c.now a.d.now in
     let tail : List ℕ = tail_bytes (given a.present a.block.now) in
-    let long = length-body a.version a.random.now a.session-id.now (middle ++ tail) (front-ok c.before.before.before).1 in
+    let long = length-body a.version a.random.now a.session_id.now (middle ++ tail) (front-ok c.before.before.before).1 in
     omega (arith, long, length-append middle tail, length-between a.a.now a.b.now a.c.now a.d.now, c.tail_len.ensures)
 
 ok : (c : tie.Else-body_len) → valid (layout (start3 c.before)) (fields (start3 c.before)) ≡ true
@@ -109,7 +109,7 @@ returns-5 c =
     let s = start3 c.before.before.before.before.before.before in
     let a = s.args in
     let n = sized c.before.before.before.before.before.before in
-    let size : 4 + (35 + length a.session-id.now +
+    let size : 4 + (35 + length a.session_id.now +
     (length a.a.now + length a.b.now + length a.c.now + length a.d.now) + c.tail_len.result)
     ≡ length (bytes (layout s) (fields s)) = omega arith in
     let put = c.put_all_lem.ensures.1 ∙ ap (λ (k : ℕ). bytes (layout s) (fields s) ++ drop k (out s)) size in

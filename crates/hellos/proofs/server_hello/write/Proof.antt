@@ -19,7 +19,7 @@ use Rattle.hellos.proofs.server_hello.write.Tie as tie
 abbrev fields : tie.Start → ServerHello
 fields s =
     let a = s.args in
-    server_given a.version a.random.now a.session-id.now a.suite a.compression a.present a.block.now
+    server_given a.version a.random.now a.session_id.now a.suite a.compression a.present a.block.now
 
 -- suite and compression, as four parts of which two are empty
 four-parts : (suite compression : ℕ) (number tail : List ℕ) → number ≡ be 2 suite
@@ -32,7 +32,7 @@ four-parts suite compression number tail e =
 returns : tie.Need-returns-then-suite-gt65535
 returns c =
     let a = c.args in
-    let front = front_rules a.version a.random.now a.session-id.now in
+    let front = front_rules a.version a.random.now a.session_id.now in
     writes-none server_hello (fields c.before.before.before.before.before) a.out.now
     (valid-rules server_hello (fields c.before.before.before.before.before) (rw (le-ltb a.suite 65536 (omega arith)) (and-false front)))
 
@@ -43,9 +43,9 @@ returns-2 c =
     let number = c.bytes16-number.result in
     let parts = four-parts a.suite a.compression number tail c.bytes16-number.ensures in
     let same = same-written server_hello (fields c.before.before.before.before.before.before.before.before.before.before.before.before.before) (hello_with 2 (between number (a.compression ∷ []) [] []))
-    (front_given a.version a.random.now a.session-id.now a.present a.block.now) refl
+    (front_given a.version a.random.now a.session_id.now a.present a.block.now) refl
     (rw (lt-ltb a.suite 65536 (omega (arith, c.if-suite-gt65535.false)), lt-ltb a.compression 256 c.ranges.compression.fits))
-    (ap (front_bytes a.version a.random.now a.session-id.now) parts) in
+    (ap (front_bytes a.version a.random.now a.session_id.now) parts) in
     rw same c.write.ensures
 
 pub write_spec : {M : Type 1} → statement M

@@ -16,12 +16,12 @@ use Rattle.messages.proofs.fixed.write_finished.Tie as tie
 returns : tie.Need-returns-then-verify_data-ne-VERIFY_DATA_SIZE
 returns c =
     let a = c.args in
-    writes-none finished a.verify-data.now a.out.now (valid-rules finished a.verify-data.now (ne_eqb _ _ c.if-verify_data-ne-VERIFY_DATA_SIZE.true))
+    writes-none finished a.verify_data.now a.out.now (valid-rules finished a.verify_data.now (ne_eqb _ _ c.if-verify_data-ne-VERIFY_DATA_SIZE.true))
 
 returns-2 : tie.Need-returns
 returns-2 c =
     let a = c.args in
-    let xs = a.verify-data.now in
+    let xs = a.verify_data.now in
     let twelve : length xs ≡ 12 = c.if-verify_data-ne-VERIFY_DATA_SIZE.false in
     let all : bytes finished xs ≡ (20 ∷ 0 ∷ 0 ∷ 12 ∷ []) ++ xs = rw twelve in
     writes finished xs a.out.now _ _ (fixed-valid 20 12 xs twelve (omega arith)) (rw all c.two.ensures)

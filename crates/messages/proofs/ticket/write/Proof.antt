@@ -32,19 +32,19 @@ head-is hint xs body hints size b h s = rw (b, h, s, add_six)
 returns : tie.Need-returns-then-n-gt16374
 returns c =
     let a = c.args in
-    let f = fields a.lifetime-hint a.ticket.now in
+    let f = fields a.lifetime_hint a.ticket.now in
     writes-none new_session_ticket f a.out.now (valid-long new_session_ticket f (omega arith))
 
 returns-2 : tie.Need-returns
 returns-2 c =
     let a = c.args in
     let xs = a.ticket.now in
-    let f = fields a.lifetime-hint xs in
-    let small : a.lifetime-hint < 4294967296 = c.ranges.lifetime-hint.fits in
+    let f = fields a.lifetime_hint xs in
+    let small : a.lifetime_hint < 4294967296 = c.ranges.lifetime_hint.fits in
     let ok : valid new_session_ticket f ≡ true =
-    valid-within new_session_ticket f (rw (lt-ltb a.lifetime-hint 4294967296 small, lt-ltb (length xs) 65536 (omega arith))) (omega arith) in
+    valid-within new_session_ticket f (rw (lt-ltb a.lifetime_hint 4294967296 small, lt-ltb (length xs) 65536 (omega arith))) (omega arith) in
     let all : bytes new_session_ticket f ≡ head c.bytes24-body.result c.bytes32-hint.result c.bytes16-size.result ++ xs =
-    head-is a.lifetime-hint xs _ _ _ c.bytes24-body.ensures c.bytes32-hint.ensures c.bytes16-size.ensures in
+    head-is a.lifetime_hint xs _ _ _ c.bytes24-body.ensures c.bytes32-hint.ensures c.bytes16-size.ensures in
     writes new_session_ticket f a.out.now _ _ ok (rw all c.two.ensures)
 
 pub write_spec : {M : Type 1} → statement M

@@ -26,7 +26,7 @@ returns-3 c =
 returns-4 : tie.Need-returns-then-stand_in-ne32
 returns-4 c =
     let args = c.args in
-    rw (ne_eqb (length args.stand-in.now) 32 c.if-stand_in-ne32.true, and-false) c.bad_setting-then-stand_in-ne32.ensures
+    rw (ne_eqb (length args.stand_in.now) 32 c.if-stand_in-ne32.true, and-false) c.bad_setting-then-stand_in-ne32.ensures
 
 returns-5 : tie.Need-returns
 unfolding started
@@ -38,7 +38,7 @@ returns-5 c =
       ← c.valid_utf8.ensures,
       not-false c.valid_utf8.result (ap not c.if-not-valid_utf8.false),
       eq-eqb
-          (length args.stand-in.now) 32 c.if-stand_in-ne32.false,
+          (length args.stand_in.now) 32 c.if-stand_in-ne32.false,
       c.started-next.ensures,
       c.setup.ensures,
     )
