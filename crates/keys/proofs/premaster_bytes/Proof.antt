@@ -17,7 +17,7 @@ slice-aggregate-append-4 c =
 
 append-requires-2 : tie.Need-append-requires-2
 append-requires-2 c κs =
-    rw (length-take-le {a_of = ℕ} (length c.args.psk.now) (replicate 64 0) c.requires) (omega arith)
+    rw (length-take-le {A = ℕ} (length c.args.psk.now) (replicate 64 0) c.requires) (omega arith)
 
 returns : tie.Need-returns
 returns c =

@@ -6,7 +6,7 @@ use Rattle.keys.proofs.mac.under.Tie as tie
 
 returns : tie.Need-returns
 returns c =
-    let block = c.Block-of.ensures in
+    let block = c.block_of-block.ensures in
     (rw (c.begin-inner.ensures, c.begin-outer.ensures, block.0.0, block.0.1), block.1)
 
 pub under_spec : {M : Type 1} → statement M

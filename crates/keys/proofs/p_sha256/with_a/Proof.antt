@@ -16,4 +16,4 @@ returns-2 c secret known = c.update.ensures ∙ rw (known (omega arith))
 
 pub with_a_spec : {M : Type 1} → statement M
 with_a_spec =
-    tie.close (tie.spec (λ c. search rules) (λ c κs. search rules) returns (λ c κs. search rules) returns-2)
+    tie.close (tie.spec (λ c κs. search rules) returns (λ c κs. search rules) returns-2)
