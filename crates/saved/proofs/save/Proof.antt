@@ -62,7 +62,6 @@ hash7 c = hash6 c.before.before
 returns : tie.Need-returns
 unfolding saved
 returns c =
-    let transcript = (hash c.before.before.before.before.before.before.before.before.before.before.before.before).save-transcript in
     let ok = fits (hash c.before.before.before.before.before.before.before.before.before.before.before.before) in
     let conn = (entry (hash c.before.before.before.before.before.before.before.before.before.before.before.before)).args.c in
     let r = c.append.result in
@@ -85,7 +84,7 @@ returns c =
     let master =
     copy-behind c.append-with_client.result conn.secrets.master c.append-with_master.result 236 48 c.append-with_master.ensures client refl ok.master in
     let all =
-    copy-behind c.append-with_master.result transcript.result r 284 104 c.append.ensures master transcript.ensures.0 ok.transcript in
+    copy-behind c.append-with_master.result (hash c.before.before.before.before.before.before.before.before.before.before.before.before).save-transcript.result r 284 104 c.append.ensures master (hash c.before.before.before.before.before.before.before.before.before.before.before.before).save-transcript.ensures.0 ok.transcript in
     let whole : r ≡ saved conn = sym (take_all 388 r (omega arith)) ∙ all ∙ put-joined [] (parts conn) in
     (whole, ap restored whole ∙ restored-saved conn ok)
 

@@ -63,16 +63,14 @@ slice-aggregate-two-16 c = search (rules, (made5 c.before.before).head-front.typ
 returns : tie.Need-returns
 unfolding saved
 returns c =
-    let hash = (made c.before.before.before.before.before.before.before.before.before.before.before.before.before.before.before.before.before.before.before.before.before.before.before.before.before.before).save-transcript in
     let conn = (entry (made c.before.before.before.before.before.before.before.before.before.before.before.before.before.before.before.before.before.before.before.before.before.before.before.before.before.before).before).args.c in
     let ok = fits (made c.before.before.before.before.before.before.before.before.before.before.before.before.before.before.before.before.before.before.before.before.before.before.before.before.before.before).before in
-    let front = (made c.before.before.before.before.before.before.before.before.before.before.before.before.before.before.before.before.before.before.before.before.before.before.before.before.before.before).head-front in
-    let master = put-before conn.secrets.master 48 104 c.two.ensures (refl, ok.master) (hash.ensures.0, ok.transcript) refl in
+    let master = put-before conn.secrets.master 48 104 c.two.ensures (refl, ok.master) ((made c.before.before.before.before.before.before.before.before.before.before.before.before.before.before.before.before.before.before.before.before.before.before.before.before.before.before).save-transcript.ensures.0, ok.transcript) refl in
     let server = put-before conn.server.random 32 152 c.two-2.ensures (refl, ok.server) master refl in
     let own = put-before conn.setup.random 32 184 c.two-3.ensures (refl, ok.own) server refl in
     let key = put-before conn.setup.key 64 216 c.two-4.ensures (refl, ok.key) own refl in
     let identity = put-before conn.setup.identity 128 280 c.two-5.ensures (refl, ok.identity) key refl in
-    let all = put-before front.result 5 408 c.two-6.ensures (front.ensures, refl) identity refl in
+    let all = put-before (made c.before.before.before.before.before.before.before.before.before.before.before.before.before.before.before.before.before.before.before.before.before.before.before.before.before.before).head-front.result 5 408 c.two-6.ensures ((made c.before.before.before.before.before.before.before.before.before.before.before.before.before.before.before.before.before.before.before.before.before.before.before.before.before.before).head-front.ensures, refl) identity refl in
     let whole : c.two-6.new.out ≡ saved conn = all.0 ∙ rw (append-nil (Hash.saved conn.transcript)) in
     (whole, ap restored whole ∙ restored-saved conn ok)
 

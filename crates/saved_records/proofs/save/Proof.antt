@@ -51,13 +51,12 @@ inner5 c = inner2 c.before.before.before.before.before.before
 returns : tie.Need-returns
 unfolding saved
 returns c =
-    let own = (inner c.before.before.before.before.before.before.before.before.before.before).save-inner in
     let ok = fits (inner c.before.before.before.before.before.before.before.before.before.before) in
     let conn = (entry (inner c.before.before.before.before.before.before.before.before.before.before)).args.c in
     let r = c.append.result in
     let size : length r ≡ 576 = search (rules, c.append.type_inv) in
     let front =
-    copy-behind (replicate 576 0) own.result c.append-with_inner.result 0 388 c.append-with_inner.ensures refl own.ensures.0 ok.inner in
+    copy-behind (replicate 576 0) (inner c.before.before.before.before.before.before.before.before.before.before).save-inner.result c.append-with_inner.result 0 388 c.append-with_inner.ensures refl (inner c.before.before.before.before.before.before.before.before.before.before).save-inner.ensures.0 ok.inner in
     let reading : take 429 c.append_state-with_reading.result ≡ Server.saved conn.handshake ++ state_bytes conn.reading =
     rw front at c.append_state-with_reading.ensures in
     let writing = rw reading at c.append_state-with_writing.ensures in

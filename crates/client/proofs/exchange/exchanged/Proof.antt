@@ -30,7 +30,7 @@ module _ (c : tie.After-in_field-n) where
   field = start.args.c.setup.key
 
   whole : length field ≡ 64
-  whole = search (rules, start.good)
+  whole = search (rules, start.well_formed)
 
   within : size ≤ length field
   within = omega (arith, c.in_field-n.ensures.0, whole)

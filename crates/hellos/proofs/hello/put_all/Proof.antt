@@ -51,17 +51,15 @@ returns c =
     let a = s.args in
     let out = a.out.now in
     let id = a.session_id.now in
-    let first = at1.put_front-at in
-    let second = at2.four-next in
     let long = length_front a.kind a.body_len a.version a.random.now id s.requires.0 in
-    let one : first.last.1.1.1.1.1.0 ≡ front (head s) out =
-    front-put a.kind a.body_len a.version a.random.now id out _ s.requires.0 first.ensures.1 in
-    let two : second.last.1.1.1.1.0 ≡ front (head s ++ middle s) out =
-    second.ensures.1 ∙ copy-behind-front (head s) (middle s) out _ first.result one (first.ensures.0 ∙ sym long) in
+    let one : at1.put_front-at.new.out ≡ front (head s) out =
+    front-put a.kind a.body_len a.version a.random.now id out _ s.requires.0 at1.put_front-at.ensures.1 in
+    let two : at2.four-next.new.out ≡ front (head s ++ middle s) out =
+    at2.four-next.ensures.1 ∙ copy-behind-front (head s) (middle s) out _ at1.put_front-at.result one (at1.put_front-at.ensures.0 ∙ sym long) in
     let both = length-append (head s) (middle s) in
-    let place : second.result ≡ length (head s ++ middle s) = omega (arith, first.ensures.0, second.ensures.0, long, both) in
+    let place : at2.four-next.result ≡ length (head s ++ middle s) = omega (arith, at1.put_front-at.ensures.0, at2.four-next.ensures.0, long, both) in
     let three : c.put_tail.new.out ≡ front ((head s ++ middle s) ++ tail s) out =
-    c.put_tail.ensures.1 ∙ copy-behind-front (head s ++ middle s) (tail s) out _ second.result two place in
+    c.put_tail.ensures.1 ∙ copy-behind-front (head s ++ middle s) (tail s) out _ at2.four-next.result two place in
     let total = length-append (head s ++ middle s) (tail s) in
     let size : length ((head s ++ middle s) ++ tail s) ≡ 4 + a.body_len = omega (arith, long, both, total, s.requires.2) in
     (omega (arith, place, c.put_tail.ensures.0, size, total), three ∙ ap₂ (λ (l : List ℕ) (k : ℕ). l ++ drop k out) (parts-are-message s) size)

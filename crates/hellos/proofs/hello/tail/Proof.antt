@@ -45,12 +45,10 @@ same-rule m s n = rw (add-sub_cancel_left s n)
 -- what the block's own test was asked
 rule : (c : tie.After-test) →
     let a = (start (known c)).args in
-    let g = (known c).start-1.given.0 in
-    block_rule (take g.1.0 (drop g.0 a.message.now)) ≡ c.test.result
+    block_rule (take (known c).in-At.len (drop (known c).in-At.start a.message.now)) ≡ c.test.result
 rule c =
     let a = (start (known c)).args in
-    let g = (known c).start-1.given.0 in
-    same-rule a.message.now g.0 g.1.0 ∙ sym c.test.ensures
+    same-rule a.message.now (known c).in-At.start (known c).in-At.len ∙ sym c.test.ensures
 
 add-test : tie.Need-overflow_add-start
 add-test c = record { fits = omega (arith, inside c) }
@@ -65,13 +63,11 @@ block-tested m at s n t more there e = rw (ne_eqb at (length m) more, there, e)
 
 rule-left : (c : tie.After-test) {t : Bool} → c.test.result ≡ t →
     let a = (start (known c)).args in
-    let g = (known c).start-1.given.0 in
-    block_at a.message.now a.at ≡ cond t (Found (Block.At g.0 g.1.0)) Refused
+    block_at a.message.now a.at ≡ cond t (Found (Block.At (known c).in-At.start (known c).in-At.len)) Refused
 rule-left c e =
-    let found = (known c).before in
     let a = (start (known c)).args in
-    let more = found.before.before.before.if1.left in
-    block-tested a.message.now a.at _ _ _ more (sym found.before.before.last16.ensures ∙ found.start.given.1) (rule c ∙ e)
+    let more = (known c).if-at-message.false in
+    block-tested a.message.now a.at _ _ _ more (sym (known c).last16.ensures ∙ (known c).in-At.is) (rule c ∙ e)
 
 returns-2 : tie.Need-returns-then-not-test
 returns-2 c = sym (rule-left c.before (not-true c.test.result (ap not c.if-not-test.true)))

@@ -83,7 +83,7 @@ add-body-len-3 : tie.Need-overflow_add-body_len-3
 add-body-len-3 c =
     let s = start3 c in
     let tail = tail-bound s.args.present s.args.block.now in
-    record { fits = omega (arith, s.requires, c.tail_len.ensures, front-ok c.before.before.before, s.good, tail) }
+    record { fits = omega (arith, s.requires, c.tail_len.ensures, front-ok c.before.before.before, s.well_formed, tail) }
 
 returns-3 : tie.Need-returns-then-body_len
 returns-3 c =
@@ -112,9 +112,9 @@ returns-5 c =
     let size : 4 + (35 + length a.session_id.now +
     (length a.a.now + length a.b.now + length a.c.now + length a.d.now) + c.tail_len.result)
     ≡ length (bytes (layout s) (fields s)) = omega arith in
-    let put = c.put_all_lem.ensures.1 ∙ ap (λ (k : ℕ). bytes (layout s) (fields s) ++ drop k (out s)) size in
+    let put = c.put_all-end.ensures.1 ∙ ap (λ (k : ℕ). bytes (layout s) (fields s) ++ drop k (out s)) size in
     writes (layout s) (fields s) (out s) _ _ (ok c.before.before.before.before.before)
-    (front-answers (bytes (layout s) (fields s)) (out s) _ _ (omega (arith, c.if-out-body_len.false)) put (c.put_all_lem.ensures.0 ∙ size))
+    (front-answers (bytes (layout s) (fields s)) (out s) _ _ (omega (arith, c.if-out-body_len.false)) put (c.put_all-end.ensures.0 ∙ size))
 
 pub write_spec : {M : Type 1} → statement M
 write_spec =

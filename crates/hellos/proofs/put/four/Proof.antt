@@ -48,9 +48,6 @@ returns c =
     let at2 = second at3.before in
     let at1 = first at2.before in
     let s = start at1.before in
-    let one = at1.at-second in
-    let two = at2.at-third in
-    let three = at3.at-last in
     let p = s.args.place in
     let out = s.args.out.now in
     let a = s.args.a.now in
@@ -60,14 +57,14 @@ returns c =
     let ab = length-append a b in
     let abx = length-append (a ++ b) x in
     let all = length-append ((a ++ b) ++ x) d in
-    let both : two.last.1.0 ≡ paste out p (a ++ b) (length (a ++ b)) =
-    put_two out one.last.1.0 two.last.1.0 a b p one.result (omega (arith, s.requires)) one.ensures.1 one.ensures.0
-    two.ensures.1 in
-    let place : two.result ≡ p + length (a ++ b) = omega (arith, one.ensures.0, two.ensures.0) in
-    let more : three.last.1.0 ≡ paste out p ((a ++ b) ++ x) (length ((a ++ b) ++ x)) =
-    put_two out two.last.1.0 three.last.1.0 (a ++ b) x p two.result (omega (arith, s.requires)) both place three.ensures.1 in
-    let next : three.result ≡ p + length ((a ++ b) ++ x) = omega (arith, place, three.ensures.0) in
-    let whole = put_two out three.last.1.0 c.at.new.out ((a ++ b) ++ x) d p three.result (omega (arith, s.requires)) more next
+    let both : at2.at-third.new.out ≡ paste out p (a ++ b) (length (a ++ b)) =
+    put_two out at1.at-second.new.out at2.at-third.new.out a b p at1.at-second.result (omega (arith, s.requires)) at1.at-second.ensures.1 at1.at-second.ensures.0
+    at2.at-third.ensures.1 in
+    let place : at2.at-third.result ≡ p + length (a ++ b) = omega (arith, at1.at-second.ensures.0, at2.at-third.ensures.0) in
+    let more : at3.at-last.new.out ≡ paste out p ((a ++ b) ++ x) (length ((a ++ b) ++ x)) =
+    put_two out at2.at-third.new.out at3.at-last.new.out (a ++ b) x p at2.at-third.result (omega (arith, s.requires)) both place at3.at-last.ensures.1 in
+    let next : at3.at-last.result ≡ p + length ((a ++ b) ++ x) = omega (arith, place, at3.at-last.ensures.0) in
+    let whole = put_two out at3.at-last.new.out c.at.new.out ((a ++ b) ++ x) d p at3.at-last.result (omega (arith, s.requires)) more next
     c.at.ensures.1 in
     (omega (arith, next, c.at.ensures.0, all), whole)
 

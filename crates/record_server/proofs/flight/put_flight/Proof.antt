@@ -26,23 +26,23 @@ abbrev entry : tie.After-plain_of-plain → tie.Start
 entry c = c.before.before.before.before
 
 array-share-prefix-lengths : tie.Need-slice_bounds-lengths-end
-array-share-prefix-lengths c = omega (arith, sizes (entry c.before), c.plain_of_lem.ensures.0)
+array-share-prefix-lengths c = omega (arith, sizes (entry c.before), c.plain_of-plain.ensures.0)
 
 slice-aggregate-put-messages-2 : tie.Need-slice_bounds-put_messages-end-2
 slice-aggregate-put-messages-2 c =
     sym
-    (length-take-le c.plain_of_lem.result (entry c.before.before).args.o.lengths
-    (omega (arith, sizes (entry c.before.before), c.plain_of_lem.ensures.0)))
+    (length-take-le c.plain_of-plain.result (entry c.before.before).args.o.lengths
+    (omega (arith, sizes (entry c.before.before), c.plain_of-plain.ensures.0)))
 
 put-messages-requires : tie.Need-put_messages-first-requires
 put-messages-requires c κs =
     let start = entry c.before.before.before in
-    let p = c.plain_of_lem.result in
+    let p = c.plain_of-plain.result in
     let lengths = start.args.o.lengths in
     let long : length start.args.o.bytes ≡ 180 = (sizes start).1 in
     let parts = total-parts p lengths in
-    let size = length-take-le p lengths (omega (arith, sizes start, c.plain_of_lem.ensures.0)) in
-    (omega (arith, start.requires), omega (arith, start.requires), omega (arith, start.requires, c.plain_of_lem.ensures.0))
+    let size = length-take-le p lengths (omega (arith, sizes start, c.plain_of-plain.ensures.0)) in
+    (omega (arith, start.requires), omega (arith, start.requires), omega (arith, start.requires, c.plain_of-plain.ensures.0))
 
 -- what is known once the plain messages are put
 abbrev parted : tie.After-put_messages-first → tie.After-plain_of-plain
@@ -50,15 +50,15 @@ parted c = c.before.before.before.before
 
 plain-put : (c : tie.After-put_messages-first) →
     let start = entry (parted c) in
-    PlainPut start.args.o start.args.s (parted c).plain_of_lem.result start.args.out.now c.put_messages-first.result
+    PlainPut start.args.o start.args.s (parted c).plain_of-plain.result start.args.out.now c.put_messages-first.result
     c.put_messages-first.new.out
 plain-put c =
     let start = entry (parted c) in
-    let same = (parted c).plain_of_lem.ensures.1 start.args.o.lengths (sizes start).0 in
+    let same = (parted c).plain_of-plain.ensures.1 start.args.o.lengths (sizes start).0 in
     record {
       taken = same.0;
       left = same.1;
-      low = (parted c).plain_of_lem.ensures.0;
+      low = (parted c).plain_of-plain.ensures.0;
       three = (sizes start).0;
       whole = (sizes start).1;
       few = start.requires.0;
@@ -117,10 +117,9 @@ sends : (c : tie.After-put_messages-rest) →
     (put_back (put_back mid at back) (at + at_count.count.result) c.put_messages-rest.new.out)
 sends c =
     let at_count = counted c in
-    let at_some = (test at_count).before in
-    sends-change (plain-put (first at_some)) at_count.seal-said.ensures at_count.count.ensures
+    sends-change (plain-put (first (test at_count).before)) at_count.seal-said.ensures at_count.count.ensures
     c.protected_by-state.ensures
-    (passed at_some.some-message.result _ at_some.some-message.ensures (ap not (test at_count).if-not-some_message.false)) c.put_messages-rest.ensures
+    (passed (test at_count).some_message.result _ (test at_count).some_message.ensures (ap not (test at_count).if-not-some_message.false)) c.put_messages-rest.ensures
 
 add-t25 : tie.Need-overflow-add-t25
 add-t25 c = omega (arith, (sends c.before.before.before.before).fits)

@@ -29,8 +29,8 @@ made c =
     let start = entry c in
     let conn = start.args.c in
     let master : length conn.secrets.master ≡ 48 = search rules in
-    let own : length conn.setup.random ≡ 32 = search (rules, start.good.0.1.1.1.0.1.1.1.1.1.1.1) in
-    let client : length conn.client.random ≡ 32 = search (rules, start.good.0.1.1.1.1.0.1.1.0) in
+    let own : length conn.setup.random ≡ 32 = search (rules, start.well_formed.0.1.1.1.0.1.1.1.1.1.1.1) in
+    let client : length conn.client.random ≡ 32 = search (rules, start.well_formed.0.1.1.1.1.0.1.1.0) in
     let given = key-block-given conn.secrets.master conn.setup.random conn.client.random 0x00b0 master own client (omega arith)
     (omega arith) in
     let whole = whole-gives given.2 given.1 c.key_block.ensures in

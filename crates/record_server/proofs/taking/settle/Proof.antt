@@ -43,7 +43,7 @@ returns c held h =
 array-share-prefix-records : tie.Need-slice_bounds-records-end
 array-share-prefix-records c =
     let start = entry c.before.before.before in
-    let array : length start.args.d.records ≡ 336 = search (rules, start.good.1.0) in
+    let array : length start.args.d.records ≡ 336 = search (rules, start.well_formed.1.0) in
     omega (arith, start.requires.0)
 
 slice-aggregate-put : tie.Need-slice_bounds-put-end

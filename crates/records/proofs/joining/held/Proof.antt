@@ -37,12 +37,11 @@ header-in : (c : tie.After-message_end) →
     let a = (at-within c).args in
     held_in a.memory.now a.n ≡ cond (ltb kept c.message_end.result) (take kept a.memory.now) []
 header-in c =
-    let w = (at-within c).within-kept in
     let a = (at-within c).args in
-    let some : 4 ≤ w.result = omega arith in
-    let end : message_end (take w.result a.memory.now) ≡ c.message_end.result =
-    end-in a.memory.now w.result w.ensures.0 some ∙ sym c.message_end.ensures in
-    kept_in a.memory.now a.n w.result w.ensures.0 w.ensures.1 ∙ rw (end, le-ltb _ _ some)
+    let some : 4 ≤ (at-within c).within-kept.result = omega arith in
+    let end : message_end (take (at-within c).within-kept.result a.memory.now) ≡ c.message_end.result =
+    end-in a.memory.now (at-within c).within-kept.result (at-within c).within-kept.ensures.0 some ∙ sym c.message_end.ensures in
+    kept_in a.memory.now a.n (at-within c).within-kept.result (at-within c).within-kept.ensures.0 (at-within c).within-kept.ensures.1 ∙ rw (end, le-ltb _ _ some)
 
 returns : tie.Need-returns-then-kept-lt4
 returns c =

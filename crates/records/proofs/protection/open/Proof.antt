@@ -19,6 +19,7 @@ use Rattle.records.specs.Protection.{added, content_length, right_mac, mac_read,
 use Rattle.records.proofs.Reading.{record-inside}
 use Rattle.records.proofs.Opening.{few-added, opened-bad, opened-right, opened-plain}
 use Rattle.records.proofs.protection.open.Statement.{statement}
+use Rattle.records.proofs.protection.open.Lts.{then-s+else-not-right_mac, else-s}
 use Rattle.records.proofs.protection.open.Tie as tie
 
 -- there are as many bytes as the protection adds
@@ -68,12 +69,12 @@ mac-passed : (c : tie.Joined-s) →
 mac-passed c =
     let s = state (at_read c.before) in
     let b = bytes (at_read c.before) in
-    ⊎_elim
-    (λ w.
-    let right : right_mac s b ≡ true = passed w.1.result _ w.1.ensures w.2.left in
-    (opened-right s b (layout-passed c.before) right, right-fits s b right))
-    (λ w. (opened-plain s b (layout-passed c.before) w.left, plain_fits s b w.left))
-    c.if-s.branch
+    elim c.if-s.branch [
+      | then-s+else-not-right_mac w ↦
+          let right : right_mac s b ≡ true = passed w.right_mac.result _ w.right_mac.ensures (ap not w.if-not-right_mac.false) in
+          (opened-right s b (layout-passed c.before) right, right-fits s b right)
+      | else-s w ↦ (opened-plain s b (layout-passed c.before) w.if-s.false, plain_fits s b w.if-s.false)
+    ]
 
 sub-t13 : tie.Need-overflow_sub-result
 sub-t13 c = omega (arith, (inside c.before).0)

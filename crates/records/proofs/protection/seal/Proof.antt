@@ -70,18 +70,18 @@ returns c = simp (lt-leb _ _ c.if-n-gt16384.true) (refuses-answers _ _)
 returns-2 : tie.Need-returns-then-not-s
 returns-2 c =
     let a = c.args in
-    let plain = not-true a.s.protected (ap not c.if-not-s.true) in
+    let plain = not-true a.s.protected c.if-not-s.true in
     plain-put a.s a.kind a.content.now (omega arith) plain c.made-head.ensures c.two.ensures
 
 returns-3 : tie.Need-returns-then-out-n
 returns-3 c =
     let a = c.args in
-    no_room a.s a.kind a.content.now (omega arith) (not-false a.s.protected (ap not c.if-not-s.false)) c.if-out-n.true
+    no_room a.s a.kind a.content.now (omega arith) (not-false a.s.protected c.if-not-s.false) c.if-out-n.true
 
 returns-4 : tie.Need-returns
 returns-4 c =
     let a = c.args in
-    put-parts a.s a.kind a.content.now (omega arith) (not-false a.s.protected (ap not c.if-not-s.false)) c.made-head-2.ensures
+    put-parts a.s a.kind a.content.now (omega arith) (not-false a.s.protected c.if-not-s.false) c.made-head-2.ensures
     c.mac_of-value.ensures a.out.now _ _ (omega arith) c.two-2.ensures c.copy.ensures.1
 
 pub seal_spec : {M : Type 1} → statement M

@@ -21,7 +21,7 @@ entry c = c.before.before.before.before.before
 slice-aggregate-finished-of : tie.Need-slice_bounds-finished_of-end
 slice-aggregate-finished-of c =
     let start = entry c.before in
-    let size : length start.args.c.secrets.master ≡ 48 = search (rules, start.good.0.1.1.1.1.1.0) in
+    let size : length start.args.c.secrets.master ≡ 48 = search (rules, start.well_formed.0.1.1.1.1.1.0) in
     search (rules, size)
 
 -- the value that is asked for
