@@ -1,14 +1,14 @@
 -- Lines: the first line of a text, and the text after it.
 -- Assumes nothing.
 use mathlib.Core.Path.{◌≡◌, refl, sym, ap, ap₂, ◌∙◌}
+use Rattle.std.proofs.Common.{add-one}
 use Prim.Native.Nat.{ℕ, suc, ◌+◌, ◌-◌, ◌≤◌, ◌<◌}
 use native.Mathlib.Omega.{arith}
 use mathlib.Core.Bool.{Bool, true, false}
 use mathlib.Core.List.{List, [], ◌∷◌}
 use lib.ListN.{length, take, drop, get_or, length-drop, drop_of_length-le}
-use lib.Seq.{drop-drop, drop_at, take-add, length-take-le}
+use lib.Seq.{drop-cons, drop-drop, drop_at, take-add, length-take-le}
 use lib.Dec.{eqb}
-use Rattle.bytes.specs.Bytes.{slice, index_of, index_after}
 use Rattle.lists.specs.Lists.{part}
 use Rattle.keytable.specs.Table.{line_end, before, lines, upto, past, ended}
 
@@ -28,26 +28,17 @@ length-upto x s = (upto-parts x s).0
 pub take-upto : (x : ℕ) (s : List ℕ) → take (length (upto x s)) s ≡ upto x s
 take-upto x s = (upto-parts x s).1
 
--- ---- where `bytes::scan::find` finds a byte
+-- ---- where the search for a byte stands
 
-index-upto : (x : ℕ) (s : List ℕ) → index_of x s ≡ length (upto x s)
-unfolding index_of index_after
-index-upto x [] = refl
-index-upto x (b ∷ s) = go (eqb b x) refl (index-upto x s)
-  where
-    go : (t : Bool) → eqb b x ≡ t → index_of x s ≡ length (upto x s) → index_after (eqb b x) (index_of x s) ≡ length (upto x (b ∷ s))
-    go true e ih = rw e
-    go false e ih = rw e (ap suc ih)
+pub upto-step : (x : ℕ) (s : List ℕ) (i : ℕ) → i < length s → eqb (get_or s i 0) x ≡ false
+    → length (upto x (drop i s)) ≡ length (upto x (drop (i + 1) s)) + 1
+upto-step x s i h other = rw (add-one i, drop-cons s i 0 h, other) (omega arith)
 
-pub found_at : (x : ℕ) (s : List ℕ) (from to r : ℕ) → from ≤ to → to ≤ length s → r ≡ from + index_of x (slice from to s)
-    → r ≡ from + length (upto x (part from (to - from) s))
-unfolding slice
-found_at x s from to r h k e =
-    let size : to ≡ from + (to - from) = omega arith in
-    let there : drop from (take to s) ≡ part from (to - from) s =
-    ap (λ (n : ℕ). drop from (take n s)) size ∙ ap (drop from) (take-add from (to - from) s)
-    ∙ drop_at (take from s) (take (to - from) (drop from s)) from (length-take-le from s (omega arith)) in
-    e ∙ ap (λ (n : ℕ). from + n) (index-upto x (drop from (take to s)) ∙ ap (λ (l : List ℕ). length (upto x l)) there)
+pub upto-found : (x : ℕ) (s : List ℕ) (i : ℕ) → i < length s → eqb (get_or s i 0) x ≡ true → length (upto x (drop i s)) ≡ 0
+upto-found x s i h same = rw (drop-cons s i 0 h, same)
+
+pub upto-none : (x : ℕ) (s : List ℕ) (i : ℕ) → length s ≤ i → length (upto x (drop i s)) ≡ 0
+upto-none x s i h = rw (drop_of_length-le s h)
 
 -- ---- lines
 

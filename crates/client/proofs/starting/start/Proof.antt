@@ -64,7 +64,7 @@ started-requires c κs =
 returns-2 : tie.Need-returns-in-Wrote
 unfolding started
 returns-2 c =
-    let all = sent (c) c.in-Wrote.is in
+    let all = sent c.before.before.before.before.before.before c.in-Wrote.is in
     (rw (c.started-next.ensures, c.setup.ensures) (sym (ap answered all)), sym (ap (λ (s : Settled). s.out) all))
 
 returns-3 : tie.Need-returns-in-Refused

@@ -13,6 +13,7 @@ use Rattle.keytable.specs.Inner.{identity_at, begins, Linked}
 use Rattle.keytable.proofs.Apart.{one_hit}
 use Rattle.keytable.proofs.Chains.{Walked, begins-own, other_tag, walk_begins, walk-on, walk_ends}
 use Rattle.keytable.proofs.distinct.repeated.Statement.{statement}
+use Rattle.keytable.proofs.distinct.repeated.Lts.{then-tags-c+else-begins, else-tags-c}
 use Rattle.keytable.proofs.distinct.repeated.Tie as tie
 
 abbrev invariant-loop : tie.invariant-loop-c
@@ -67,9 +68,10 @@ returns c =
 -- where the line is another's
 missed : (c : tie.Joined-tags-c invariant-loop decreases-loop) → same (identity c.before.before.before) (identity_at (table c.before.before.before) (get_or (starts c.before.before.before) (line c.before.before.before) 0)) ≡ false
 missed c =
-    ⊎_elim (λ o. sym (own c.before.before.before) ∙ sym o.2.ensures ∙ o.3.left)
-    (λ o. other_tag (table c.before.before.before) (starts c.before.before.before) (identity c.before.before.before) (start c.before.before.before).args.n (line c.before.before.before) _ _ (linked c.before.before.before).tagged (start c.before.before.before).requires.1.1.1.0 o.left)
-    c.if-tags-c.branch
+    elim c.if-tags-c.branch [
+      then-tags-c+else-begins o ↦ sym (own c.before.before.before) ∙ sym o.begins.ensures ∙ o.if-begins.false
+    | else-tags-c o ↦ other_tag (table c.before.before.before) (starts c.before.before.before) (identity c.before.before.before) (start c.before.before.before).args.n (line c.before.before.before) _ _ (linked c.before.before.before).tagged (start c.before.before.before).requires.1.1.1.0 o.if-tags-c.false
+    ]
 
 cast-c : tie.Need-overflow_cast-c invariant-loop decreases-loop
 cast-c c =

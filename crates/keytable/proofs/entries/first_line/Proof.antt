@@ -14,6 +14,7 @@ use Rattle.keytable.specs.Table.{key_text}
 use Rattle.keytable.specs.Starts.{line_at, placed}
 use Rattle.keytable.proofs.Matching.{Matched, match-more, match-other, match-ended, match-colon, match-longer, match-end, search-on, search-hit}
 use Rattle.keytable.proofs.entries.first_line.Statement.{statement}
+use Rattle.keytable.proofs.entries.first_line.Lts.{else-loop-i-test, then-loop-i-test+then-i-identity+else-b-eq58, then-loop-i-test+else-i-identity+then-b-identity, then-loop-i-test+else-i-identity+else-b-identity+then-b-eq10}
 use Rattle.keytable.proofs.entries.first_line.Tie as tie
 
 abbrev invariant-loop : tie.invariant-loop-i
@@ -77,11 +78,15 @@ missed : (c : tie.Left-loop-i invariant-loop decreases-loop invariant-lines decr
 missed c =
     let m = c.loop-i.invariant.1 in
     let few = c.loop-i.invariant.0 in
-    ⊎_elim (λ o. match-end _ _ _ _ o.left m)
-    (⊎_elim (λ o. match-longer _ _ _ _ o.0.taken m o.2.taken o.3.left)
-    (⊎_elim (λ o. match-other _ _ _ _ o.0.taken m (below few o.2.left) o.4.taken)
-    (λ o. match-ended _ _ _ _ o.0.taken m (below few o.2.left) o.5.taken)))
-    c.loop-i-test.branch
+    elim c.loop-i-test.branch [
+      else-loop-i-test o ↦ match-end _ _ _ _ o.loop-i-test.false m
+    | then-loop-i-test+then-i-identity+else-b-eq58 o ↦
+          match-longer _ _ _ _ o.loop-i-test.true m o.if-i-identity.true o.if-b-eq58.false
+    | then-loop-i-test+else-i-identity+then-b-identity o ↦
+          match-other _ _ _ _ o.loop-i-test.true m (below few o.if-i-identity.false) o.if-b-identity.true
+    | then-loop-i-test+else-i-identity+else-b-identity+then-b-eq10 o ↦
+          match-ended _ _ _ _ o.loop-i-test.true m (below few o.if-i-identity.false) o.if-b-eq10.true
+    ]
 
 lines-again : tie.Need-lines-preserved invariant-loop decreases-loop invariant-lines decreases-lines
 lines-again c = (search rules, on c.before.before (missed c))

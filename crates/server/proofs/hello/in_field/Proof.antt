@@ -7,7 +7,7 @@ use Rattle.server.proofs.hello.in_field.Statement.{statement}
 use Rattle.server.proofs.hello.in_field.Tie as tie
 
 returns : tie.Need-returns-then-n-gt128
-returns c = (omega arith, λ field h. take_all 128 field (omega arith) ∙ sym (take_all c.args.hint-length field (omega arith)))
+returns c = (omega arith, λ field h. take_all 128 field (omega arith) ∙ sym (take_all c.args.hint_length field (omega arith)))
 
 returns-2 : tie.Need-returns
 returns-2 c = (omega arith, λ field h. refl)

@@ -19,13 +19,12 @@ abbrev decreases-loop : tie.decreases-loop-i
 decreases-loop key out₀ i₀ out i = length out₀ - i
 
 loop-again : tie.Need-loop-i-preserved invariant-loop decreases-loop
-loop-again c =
-    (
-      search rules,
-      simp length-set c.loop-i.invariant.1,
-      rw c.loop-i.invariant.2 (rw c.key_digit.ensures (fill-turn (lower_hex c.args.key.now) c.args.out.now c.loop-i.i
-          (rw length-hex (omega arith)) (omega arith))),
-    )
+loop-again c = (
+  search rules,
+  simp length-set c.loop-i.invariant.1,
+  rw c.loop-i.invariant.2 (rw c.key_digit.ensures (fill-turn (lower_hex c.args.key.now) c.args.out.now c.loop-i.i
+      (rw length-hex (omega arith)) (omega arith))),
+)
 
 returns : tie.Need-returns invariant-loop decreases-loop
 returns c =
