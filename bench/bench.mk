@@ -4,7 +4,8 @@
 # make bench BEFORE=ARCHIVE  compares with the archive of an earlier library in the same run: the hash's time, the stack and the archive's size. The bench is
 #                            linked with it a second time, so that it has to have the calls of today's header, with their parameters: none from before 0.3,
 #                            which the program tests when it starts. bench/size and bench/frames link nothing of it, and take an older one too
-# make bench BEFORE=REVISION the same with the library of a git revision, which is proved first, once for each commit: some minutes
+# make bench BEFORE=REVISION the same with the library of a git revision, which is proved first, once for each commit: some minutes. The kit has to be
+#                            the revision's: none from before docs/PORT.md can be proved with today's
 
 BENCH_FLAGS := -std=c11 -D_GNU_SOURCE -Wall -Wextra -Werror -O2 -Iinclude -Igateway
 BENCH_PARTS := $(filter-out bench/footprint.c,$(wildcard bench/*.c)) $(addprefix gateway/,connection.c gate_session.c channel.c records.c entropy.c wipe.c)

@@ -26,7 +26,7 @@ GATES_CALLS := open openat realpath lstat fstat flock read write fchown fchmod f
 	setrlimit prctl
 GATES_WRAPPED := $(foreach c,$(GATES_CALLS),-Wl,--wrap=$(c))
 GATEWAY_HEADERS := $(wildcard gateway/*.h) include/turretnail.h
-PROVED := $(shell find crates -name '*.rt' -o -name '*.antt') crates.txt
+PROVED := $(shell find crates -name out -prune -o \( -name '*.rt' -o -name '*.antt' \) -print) crates.txt
 INSTALLED := $(CURDIR)/build/installed
 
 .PHONY: lib gateway gate gates gates-test run enrol install uninstall header-test interop needs-build needs-test
@@ -39,7 +39,7 @@ gates: build/gates
 build/libturretnail.a: $(PROVED)
 	@mkdir -p build
 	@gateway/prove
-	@cp target/staticlib/libc_interface.a $@
+	@cp crates/c_interface_c/out/libc_interface_c.a $@
 
 needs-build:
 	@gateway/needs build

@@ -28,17 +28,16 @@ fn keep(said: Written, next: Connection, client: &mut [u8; 413]) -> i32
 }
 
 // A new connection, and its ClientHello in the output.
-#[unsafe(no_mangle)]
-pub extern "C" fn tn_client_start(
+pub fn tn_client_start(
     client: &mut [u8; 413],
     random: &[u8],
     identity: &[u8],
     key: &[u8],
     out: &mut [u8],
 ) -> i32
-    ensures starts { Starts (start_call (record { random = random.entry.now; identity = identity.now; key = key.now }) out.old)
+    ensures starts { Starts (start_call (record { random = random.now; identity = identity.now; key = key.now }) out.old)
         client.old result client.new }
-    ensures out_after { out.new ≡ (start_call (record { random = random.entry.now; identity = identity.now; key = key.now }) out.old).out }
+    ensures out_after { out.new ≡ (start_call (record { random = random.now; identity = identity.now; key = key.now }) out.old).out }
 {
     let answer = client::start(random, identity, key, out);
     let said = answer.said;
@@ -49,8 +48,7 @@ pub extern "C" fn tn_client_start(
 // A handshake message. The answer to a ServerHelloDone has the ClientKeyExchange, and the Finished in
 // its last 16 bytes; the master secret, and how many blocks were hashed for it, are written with that
 // answer and with no other.
-#[unsafe(no_mangle)]
-pub extern "C" fn tn_client_message(
+pub fn tn_client_message(
     client: &mut [u8; 413],
     message: &[u8],
     out: &mut [u8],
@@ -74,8 +72,7 @@ pub extern "C" fn tn_client_message(
 }
 
 // The server's change of cipher.
-#[unsafe(no_mangle)]
-pub extern "C" fn tn_client_change_of_cipher(client: &mut [u8; 413]) -> i32
+pub fn tn_client_change_of_cipher(client: &mut [u8; 413]) -> i32
     ensures { Keeps (change_call (restored client.old)) client.old result client.new }
 {
     let bytes = *client;
@@ -86,8 +83,7 @@ pub extern "C" fn tn_client_change_of_cipher(client: &mut [u8; 413]) -> i32
 }
 
 // A received alert.
-#[unsafe(no_mangle)]
-pub extern "C" fn tn_client_alert(client: &mut [u8; 413], level: u8, description: u8) -> i32
+pub fn tn_client_alert(client: &mut [u8; 413], level: u8, description: u8) -> i32
     ensures { Keeps (alert_call (restored client.old) level description) client.old result client.new }
 {
     let bytes = *client;
@@ -99,8 +95,7 @@ pub extern "C" fn tn_client_alert(client: &mut [u8; 413], level: u8, description
 
 // What the connection awaits: 0 closed, 1 ServerHello, 2 ServerKeyExchange or ServerHelloDone, 3
 // ServerHelloDone, 4 a change of cipher, 5 Finished, 6 complete.
-#[unsafe(no_mangle)]
-pub extern "C" fn tn_client_phase(client: &[u8; 413]) -> i32
+pub fn tn_client_phase(client: &[u8; 413]) -> i32
     ensures { result ≡ pos (phase_byte (restored client.now).phase) }
 {
     let bytes = *client;
@@ -109,8 +104,7 @@ pub extern "C" fn tn_client_phase(client: &[u8; 413]) -> i32
 
 // The suite that the server chose: the number 0, which is no suite of ours, before its hello and when
 // the connection is over.
-#[unsafe(no_mangle)]
-pub extern "C" fn tn_client_suite(client: &[u8; 413]) -> i32
+pub fn tn_client_suite(client: &[u8; 413]) -> i32
     ensures { result ≡ pos (restored client.now).server.suite }
 {
     let bytes = *client;

@@ -39,8 +39,7 @@ pub(crate) fn named(rule: u8) -> Named
 }
 
 // A new connection; rule 0 names none, 1 is tell, 2 hide, and R3 any other.
-#[unsafe(no_mangle)]
-pub extern "C" fn tn_start(
+pub fn tn_start(
     connection: &mut [u8; 388],
     random: &[u8],
     hint: &[u8],
@@ -60,8 +59,7 @@ pub extern "C" fn tn_start(
 
 // A handshake message. The master secret, and how many blocks were hashed for it, are written where a
 // ClientKeyExchange was accepted, and the answer is 0 there and nowhere else.
-#[unsafe(no_mangle)]
-pub extern "C" fn tn_message(
+pub fn tn_message(
     connection: &mut [u8; 388],
     table: &[u8],
     starts: &[u32],
@@ -89,8 +87,7 @@ pub extern "C" fn tn_message(
 }
 
 // A change of cipher.
-#[unsafe(no_mangle)]
-pub extern "C" fn tn_change_of_cipher(connection: &mut [u8; 388]) -> i32
+pub fn tn_change_of_cipher(connection: &mut [u8; 388]) -> i32
     ensures { Keeps (change_call (restored connection.old)) connection.old result connection.new }
 {
     let bytes = *connection;
@@ -101,8 +98,7 @@ pub extern "C" fn tn_change_of_cipher(connection: &mut [u8; 388]) -> i32
 }
 
 // A received alert.
-#[unsafe(no_mangle)]
-pub extern "C" fn tn_alert(connection: &mut [u8; 388], level: u8, description: u8) -> i32
+pub fn tn_alert(connection: &mut [u8; 388], level: u8, description: u8) -> i32
     ensures { Keeps (alert_call (restored connection.old) level description) connection.old result connection.new }
 {
     let bytes = *connection;
@@ -114,8 +110,7 @@ pub extern "C" fn tn_alert(connection: &mut [u8; 388], level: u8, description: u
 
 // What the connection awaits: 0 closed, 1 ClientHello, 2 ClientKeyExchange, 3 a change of cipher, 4
 // Finished, 5 complete.
-#[unsafe(no_mangle)]
-pub extern "C" fn tn_phase(connection: &[u8; 388]) -> i32
+pub fn tn_phase(connection: &[u8; 388]) -> i32
     ensures { result ≡ pos (phase_byte (restored connection.now).phase) }
 {
     let bytes = *connection;
@@ -124,8 +119,7 @@ pub extern "C" fn tn_phase(connection: &[u8; 388]) -> i32
 
 // The suite that the hello led to: the number 0, which is no suite of ours, before it and when the
 // connection is over.
-#[unsafe(no_mangle)]
-pub extern "C" fn tn_suite(connection: &[u8; 388]) -> i32
+pub fn tn_suite(connection: &[u8; 388]) -> i32
     ensures { result ≡ pos (restored connection.now).client.suite }
 {
     let bytes = *connection;

@@ -33,8 +33,7 @@ fn block_fields(block: Block) -> [u32; 3]
 
 // Version, length of the session id, start and length of the suites, start and length of the
 // compression methods, then the block: whether it is present, its start and its length.
-#[unsafe(no_mangle)]
-pub extern "C" fn tn_read_client_hello(message: &[u8], fields: &mut [u32; 9]) -> i32
+pub fn tn_read_client_hello(message: &[u8], fields: &mut [u32; 9]) -> i32
     ensures { Reads (client_read (client_place message.now)) fields.old result fields.new }
 {
     match client_hello::read(message) {
@@ -67,8 +66,7 @@ pub extern "C" fn tn_read_client_hello(message: &[u8], fields: &mut [u32; 9]) ->
 
 // Version, length of the session id, suite, compression method, then the block: whether it is present,
 // its start and its length.
-#[unsafe(no_mangle)]
-pub extern "C" fn tn_read_server_hello(message: &[u8], fields: &mut [u32; 7]) -> i32
+pub fn tn_read_server_hello(message: &[u8], fields: &mut [u32; 7]) -> i32
     ensures { Reads (server_read (server_place message.now)) fields.old result fields.new }
 {
     match server_hello::read(message) {
@@ -110,24 +108,21 @@ fn put_part(part: Part, fields: &mut [u32; 2]) -> i32
 }
 
 // Start and length of the hint.
-#[unsafe(no_mangle)]
-pub extern "C" fn tn_read_server_key_exchange(message: &[u8], fields: &mut [u32; 2]) -> i32
+pub fn tn_read_server_key_exchange(message: &[u8], fields: &mut [u32; 2]) -> i32
     ensures { Reads (part_read (vector_place 12 message.now)) fields.old result fields.new }
 {
     put_part(key_exchange::read_hint(message), fields)
 }
 
 // Start and length of the identity.
-#[unsafe(no_mangle)]
-pub extern "C" fn tn_read_client_key_exchange(message: &[u8], fields: &mut [u32; 2]) -> i32
+pub fn tn_read_client_key_exchange(message: &[u8], fields: &mut [u32; 2]) -> i32
     ensures { Reads (part_read (vector_place 16 message.now)) fields.old result fields.new }
 {
     put_part(key_exchange::read_identity(message), fields)
 }
 
 // There is no field: the body is empty.
-#[unsafe(no_mangle)]
-pub extern "C" fn tn_read_server_hello_done(message: &[u8]) -> i32
+pub fn tn_read_server_hello_done(message: &[u8]) -> i32
     ensures { result ≡ (part_read (fixed_place 14 0 message.now)).code }
 {
     match fixed::read_done(message) {
@@ -137,16 +132,14 @@ pub extern "C" fn tn_read_server_hello_done(message: &[u8]) -> i32
 }
 
 // Start and length of the verify data.
-#[unsafe(no_mangle)]
-pub extern "C" fn tn_read_finished(message: &[u8], fields: &mut [u32; 2]) -> i32
+pub fn tn_read_finished(message: &[u8], fields: &mut [u32; 2]) -> i32
     ensures { Reads (part_read (fixed_place 20 12 message.now)) fields.old result fields.new }
 {
     put_part(fixed::read_finished(message), fields)
 }
 
 // Lifetime hint, start and length of the ticket.
-#[unsafe(no_mangle)]
-pub extern "C" fn tn_read_new_session_ticket(message: &[u8], fields: &mut [u32; 3]) -> i32
+pub fn tn_read_new_session_ticket(message: &[u8], fields: &mut [u32; 3]) -> i32
     ensures { Reads (ticket_read (ticket_place message.now)) fields.old result fields.new }
 {
     match ticket::read(message) {
@@ -163,8 +156,7 @@ pub extern "C" fn tn_read_new_session_ticket(message: &[u8], fields: &mut [u32; 
 }
 
 // The extension at `at`: 1 and its type, its data's start and length, or 0 at the end of the block.
-#[unsafe(no_mangle)]
-pub extern "C" fn tn_next_extension(block: &[u8], at: usize, fields: &mut [u32; 3]) -> i32
+pub fn tn_next_extension(block: &[u8], at: usize, fields: &mut [u32; 3]) -> i32
     ensures { Reads (extension_read block.now at) fields.old result fields.new }
 {
     if 65535 < block.len() {

@@ -30,8 +30,7 @@ fn keep(said: Written, next: RecordConnection, connection: &mut [u8; 576]) -> i3
 }
 
 // A new record connection; rule 0 names none, 1 is tell, 2 hide, and R3 any other.
-#[unsafe(no_mangle)]
-pub extern "C" fn tn_record_start(
+pub fn tn_record_start(
     connection: &mut [u8; 576],
     random: &[u8],
     hint: &[u8],
@@ -76,8 +75,7 @@ fn connection_of(connection: &[u8; 576]) -> RecordConnection
 
 // A record. The master secret, and how many blocks were hashed for it, are written where one is handed over. The four numbers are written where the record is
 // accepted: whether the secret was, whether the record holds application data, where that starts and its length.
-#[unsafe(no_mangle)]
-pub extern "C" fn tn_take_record(
+pub fn tn_take_record(
     connection: &mut [u8; 576],
     table: &[u8],
     starts: &[u32],
@@ -125,8 +123,7 @@ pub extern "C" fn tn_take_record(
 }
 
 // Application data to the client.
-#[unsafe(no_mangle)]
-pub extern "C" fn tn_send_data(connection: &mut [u8; 576], content: &[u8], out: &mut [u8]) -> i32
+pub fn tn_send_data(connection: &mut [u8; 576], content: &[u8], out: &mut [u8]) -> i32
     ensures keeps_record { KeepsRecord (send_call (restored connection.old) content.now out.old).said
         (send_call (restored connection.old) content.now out.old).next
         connection.old result connection.new }
@@ -140,8 +137,7 @@ pub extern "C" fn tn_send_data(connection: &mut [u8; 576], content: &[u8], out: 
 }
 
 // A close_notify, and the connection closed.
-#[unsafe(no_mangle)]
-pub extern "C" fn tn_send_close(connection: &mut [u8; 576], out: &mut [u8]) -> i32
+pub fn tn_send_close(connection: &mut [u8; 576], out: &mut [u8]) -> i32
     ensures keeps_record { KeepsRecord (close_call (restored connection.old) out.old).said
         (close_call (restored connection.old) out.old).next connection.old result connection.new }
     ensures out_after { out.new ≡ (close_call (restored connection.old) out.old).out }
@@ -154,8 +150,7 @@ pub extern "C" fn tn_send_close(connection: &mut [u8; 576], out: &mut [u8]) -> i
 }
 
 // The record of the alert that closed the connection.
-#[unsafe(no_mangle)]
-pub extern "C" fn tn_closing_alert(connection: &[u8; 576], out: &mut [u8]) -> i32
+pub fn tn_closing_alert(connection: &[u8; 576], out: &mut [u8]) -> i32
     ensures { Codes (gives (alert_of (restored connection.now))) out.old result out.new }
 {
     let bytes = *connection;
@@ -163,8 +158,7 @@ pub extern "C" fn tn_closing_alert(connection: &[u8; 576], out: &mut [u8]) -> i3
 }
 
 // What the connection awaits, as tn_phase tells it.
-#[unsafe(no_mangle)]
-pub extern "C" fn tn_record_phase(connection: &[u8; 576]) -> i32
+pub fn tn_record_phase(connection: &[u8; 576]) -> i32
     ensures { result ≡ pos (phase_byte (restored connection.now).handshake.phase) }
 {
     let bytes = *connection;

@@ -10,8 +10,7 @@ use records::{ContentType, Opened, Read, State, header, joining, protection};
 use refusal::Refusal;
 
 // Type, version, length of the fragment; the protection may add so many bytes to the content.
-#[unsafe(no_mangle)]
-pub extern "C" fn tn_read_record(received: &[u8], added: usize, fields: &mut [u32; 3]) -> i32
+pub fn tn_read_record(received: &[u8], added: usize, fields: &mut [u32; 3]) -> i32
     ensures { Reads (read_record added received.now) fields.old result fields.new }
 {
     match header::read(received, added) {
@@ -41,8 +40,7 @@ fn seal(s: State, kind: u8, content: &[u8], out: &mut [u8]) -> i32
 }
 
 // A record without protection.
-#[unsafe(no_mangle)]
-pub extern "C" fn tn_write_record(kind: u8, content: &[u8], out: &mut [u8]) -> i32
+pub fn tn_write_record(kind: u8, content: &[u8], out: &mut [u8]) -> i32
     ensures { Codes (sealing_as initial_state kind content.now) out.old result out.new }
 {
     seal(protection::initial(), kind, content, out)
@@ -59,8 +57,7 @@ fn state(key: [u8; 32], sequence: u64) -> State
 }
 
 // A record with its MAC under this key and number.
-#[unsafe(no_mangle)]
-pub extern "C" fn tn_seal_record(
+pub fn tn_seal_record(
     key: &[u8; 32],
     sequence: u64,
     kind: u8,
@@ -74,8 +71,7 @@ pub extern "C" fn tn_seal_record(
 }
 
 // How many bytes of a record that came under this key and number are content, from 5 on.
-#[unsafe(no_mangle)]
-pub extern "C" fn tn_open_record(key: &[u8; 32], sequence: u64, received: &[u8]) -> i32
+pub fn tn_open_record(key: &[u8; 32], sequence: u64, received: &[u8]) -> i32
     ensures { result ≡ opened_code (opened (under key.now sequence) received.now) }
 {
     let bytes = *key;
@@ -92,8 +88,7 @@ fn message_end(header: [u8; 4]) -> i32
 }
 
 // Where a handshake message with this header ends.
-#[unsafe(no_mangle)]
-pub extern "C" fn tn_message_end(header: &[u8; 4]) -> i32
+pub fn tn_message_end(header: &[u8; 4]) -> i32
     ensures { result ≡ pos (message_end header.now) }
 {
     let bytes = *header;

@@ -11,15 +11,13 @@ use crate::code;
 use keys::{Label, Side};
 use refusal::{Refusal, Written};
 
-#[unsafe(no_mangle)]
-pub extern "C" fn tn_sha256(message: &[u8], out: &mut [u8]) -> i32
+pub fn tn_sha256(message: &[u8], out: &mut [u8]) -> i32
     ensures { Codes (sha256 message.now) out.old result out.new }
 {
     code::of_answer(sha256::hash(message, out))
 }
 
-#[unsafe(no_mangle)]
-pub extern "C" fn tn_hmac(key: &[u8], message: &[u8], out: &mut [u8]) -> i32
+pub fn tn_hmac(key: &[u8], message: &[u8], out: &mut [u8]) -> i32
     ensures { Codes (hmac key.now message.now) out.old result out.new }
 {
     code::of_answer(keys::hmac(key, message, out))
@@ -39,8 +37,7 @@ fn label_of(number: u8) -> Label
 
 // n bytes of the PRF; label 0 is "master secret", 1 "key expansion", 2 "client finished", 3 "server
 // finished", and R5 any other.
-#[unsafe(no_mangle)]
-pub extern "C" fn tn_prf(secret: &[u8], label: u8, seed: &[u8], n: usize, out: &mut [u8]) -> i32
+pub fn tn_prf(secret: &[u8], label: u8, seed: &[u8], n: usize, out: &mut [u8]) -> i32
     ensures { Codes (prf secret.now label seed.now n) out.old result out.new }
 {
     if 3 < label {
@@ -49,16 +46,14 @@ pub extern "C" fn tn_prf(secret: &[u8], label: u8, seed: &[u8], n: usize, out: &
     code::of_answer(keys::prf(secret, label_of(label), seed, n, out))
 }
 
-#[unsafe(no_mangle)]
-pub extern "C" fn tn_premaster(psk: &[u8], out: &mut [u8]) -> i32
+pub fn tn_premaster(psk: &[u8], out: &mut [u8]) -> i32
     ensures { Codes (Secrets.premaster psk.now) out.old result out.new }
 {
     code::of_answer(keys::premaster(psk, out))
 }
 
 // The number of blocks that were hashed is written with the master secret.
-#[unsafe(no_mangle)]
-pub extern "C" fn tn_master(
+pub fn tn_master(
     premaster: &[u8],
     client: &[u8],
     server: &[u8],
@@ -80,22 +75,14 @@ pub extern "C" fn tn_master(
     code::of_answer(said)
 }
 
-#[unsafe(no_mangle)]
-pub extern "C" fn tn_key_block(
-    master: &[u8],
-    server: &[u8],
-    client: &[u8],
-    suite: u16,
-    out: &mut [u8],
-) -> i32
+pub fn tn_key_block(master: &[u8], server: &[u8], client: &[u8], suite: u16, out: &mut [u8]) -> i32
     ensures { Codes (Secrets.keys master.now server.now client.now suite) out.old result out.new }
 {
     code::of_answer(keys::key_block(master, server, client, suite, out))
 }
 
 // The bytes of the suite's key block, 0 for a suite that is none of ours.
-#[unsafe(no_mangle)]
-pub extern "C" fn tn_key_block_length(suite: u16) -> i32
+pub fn tn_key_block_length(suite: u16) -> i32
     ensures { result ≡ pos (Secrets.key_block_length suite) }
 {
     code::of_answer(Written::Wrote(keys::key_block_length(suite)))
@@ -112,8 +99,7 @@ fn side_of(number: u8) -> Side
 }
 
 // The verify data of a side's Finished; side 0 is the client, 1 the server, and R5 any other.
-#[unsafe(no_mangle)]
-pub extern "C" fn tn_finished(side: u8, master: &[u8], hash: &[u8], out: &mut [u8]) -> i32
+pub fn tn_finished(side: u8, master: &[u8], hash: &[u8], out: &mut [u8]) -> i32
     ensures { Codes (finished side master.now hash.now) out.old result out.new }
 {
     if 1 < side {

@@ -11,8 +11,7 @@ use crate::code;
 use refusal::Refusal;
 
 // 0 for a table that is well formed, R2 for another.
-#[unsafe(no_mangle)]
-pub extern "C" fn tn_table_test(table: &[u8]) -> i32
+pub fn tn_table_test(table: &[u8]) -> i32
     ensures { result ≡ cond (well_formed table.now) (pos 0) (refusal_code BadTable) }
 {
     if keytable::well_formed(table) {
@@ -23,16 +22,14 @@ pub extern "C" fn tn_table_test(table: &[u8]) -> i32
 
 // The starts of the table's lines, at the front of the lent list, and how many they are; R2 for a table that is not
 // well formed.
-#[unsafe(no_mangle)]
-pub extern "C" fn tn_table_list(table: &[u8], starts: &mut [u32]) -> i32
+pub fn tn_table_list(table: &[u8], starts: &mut [u32]) -> i32
     ensures { Codes (list_made table.now) starts.old result starts.new }
 {
     code::of_answer(keytable::make_list(table, starts))
 }
 
 // The identity's key, by the table's list; alert 115 where the table has none.
-#[unsafe(no_mangle)]
-pub extern "C" fn tn_table_lookup(
+pub fn tn_table_lookup(
     table: &[u8],
     starts: &[u32],
     count: usize,
@@ -45,8 +42,7 @@ pub extern "C" fn tn_table_lookup(
 }
 
 // The table in the memory's first `length` bytes with the line of the identity and the key, as its last; its list with it.
-#[unsafe(no_mangle)]
-pub extern "C" fn tn_table_add(
+pub fn tn_table_add(
     memory: &mut [u8],
     length: usize,
     starts: &mut [u32],
@@ -61,8 +57,7 @@ pub extern "C" fn tn_table_add(
 }
 
 // That table with another key for the identity.
-#[unsafe(no_mangle)]
-pub extern "C" fn tn_table_replace(
+pub fn tn_table_replace(
     memory: &mut [u8],
     length: usize,
     starts: &mut [u32],
@@ -77,8 +72,7 @@ pub extern "C" fn tn_table_replace(
 }
 
 // That table without the identity's line.
-#[unsafe(no_mangle)]
-pub extern "C" fn tn_table_retire(
+pub fn tn_table_retire(
     memory: &mut [u8],
     length: usize,
     starts: &mut [u32],
@@ -92,8 +86,7 @@ pub extern "C" fn tn_table_retire(
 }
 
 // 1 for valid UTF-8, 0 for other bytes.
-#[unsafe(no_mangle)]
-pub extern "C" fn tn_valid_utf8(bytes: &[u8]) -> i32
+pub fn tn_valid_utf8(bytes: &[u8]) -> i32
     ensures { result ≡ cond (valid_utf8 bytes.now) (pos 1) (pos 0) }
 {
     if utf8::valid_utf8(bytes) {

@@ -14,8 +14,7 @@ use hellos::{client_hello, server_hello};
 use messages::{fixed, key_exchange, ticket};
 
 // The block's bytes count only where it is present.
-#[unsafe(no_mangle)]
-pub extern "C" fn tn_write_client_hello(
+pub fn tn_write_client_hello(
     version: u32,
     random: &[u8],
     session_id: &[u8],
@@ -41,8 +40,7 @@ pub extern "C" fn tn_write_client_hello(
 }
 
 // The block's bytes count only where it is present.
-#[unsafe(no_mangle)]
-pub extern "C" fn tn_write_server_hello(
+pub fn tn_write_server_hello(
     version: u32,
     random: &[u8],
     session_id: &[u8],
@@ -67,56 +65,45 @@ pub extern "C" fn tn_write_server_hello(
     ))
 }
 
-#[unsafe(no_mangle)]
-pub extern "C" fn tn_write_server_key_exchange(hint: &[u8], out: &mut [u8]) -> i32
+pub fn tn_write_server_key_exchange(hint: &[u8], out: &mut [u8]) -> i32
     ensures { Codes (written server_key_exchange hint.now) out.old result out.new }
 {
     code::of_answer(key_exchange::write_hint(hint, out))
 }
 
-#[unsafe(no_mangle)]
-pub extern "C" fn tn_write_client_key_exchange(identity: &[u8], out: &mut [u8]) -> i32
+pub fn tn_write_client_key_exchange(identity: &[u8], out: &mut [u8]) -> i32
     ensures { Codes (written client_key_exchange identity.now) out.old result out.new }
 {
     code::of_answer(key_exchange::write_identity(identity, out))
 }
 
-#[unsafe(no_mangle)]
-pub extern "C" fn tn_write_server_hello_done(out: &mut [u8]) -> i32
+pub fn tn_write_server_hello_done(out: &mut [u8]) -> i32
     ensures { Codes (written server_hello_done []) out.old result out.new }
 {
     code::of_answer(fixed::write_done(out))
 }
 
-#[unsafe(no_mangle)]
-pub extern "C" fn tn_write_finished(verify_data: &[u8], out: &mut [u8]) -> i32
+pub fn tn_write_finished(verify_data: &[u8], out: &mut [u8]) -> i32
     ensures { Codes (written finished verify_data.now) out.old result out.new }
 {
     code::of_answer(fixed::write_finished(verify_data, out))
 }
 
-#[unsafe(no_mangle)]
-pub extern "C" fn tn_write_new_session_ticket(
-    lifetime_hint: u32,
-    ticket: &[u8],
-    out: &mut [u8],
-) -> i32
+pub fn tn_write_new_session_ticket(lifetime_hint: u32, ticket: &[u8], out: &mut [u8]) -> i32
     ensures { Codes (written new_session_ticket (record { lifetime_hint = lifetime_hint; ticket = ticket.now }))
         out.old result out.new }
 {
     code::of_answer(ticket::write(lifetime_hint, ticket, out))
 }
 
-#[unsafe(no_mangle)]
-pub extern "C" fn tn_write_extension(kind: u32, contents: &[u8], out: &mut [u8]) -> i32
+pub fn tn_write_extension(kind: u32, contents: &[u8], out: &mut [u8]) -> i32
     ensures { Codes (extension_written (record { kind = kind; contents = contents.now })) out.old result out.new }
 {
     code::of_answer(extensions::write(kind as usize, contents, out))
 }
 
 // The SessionTicket extension.
-#[unsafe(no_mangle)]
-pub extern "C" fn tn_write_ticket_extension(ticket: &[u8], out: &mut [u8]) -> i32
+pub fn tn_write_ticket_extension(ticket: &[u8], out: &mut [u8]) -> i32
     ensures { Codes (extension_written (ticket_extension ticket.now)) out.old result out.new }
 {
     code::of_answer(extensions::write_ticket(ticket, out))

@@ -75,7 +75,7 @@ returns c =
     sends_plain (plain-put (first c.before)) (entry (parted (first c.before))).args.key
     (failed c.some_message.result _ c.some_message.ensures (ap not c.if-not-some_message.true))
 
-sub-seal : tie.Need-slice_bounds-seal-count
+sub-seal : tie.Need-slice_bounds-seal-start
 sub-seal c = let at_first = first c.before.before.before in omega (arith, first_fits (plain-put at_first), (entry (parted at_first)).requires)
 
 -- the test, seen from the change of cipher
@@ -90,10 +90,10 @@ change : (c : tie.After-count) →
     (at + c.count.result ≤ 329) × (length (put_back mid at back) ≡ length (entry (parted at_first)).args.out.now)
 change c = change-fits (plain-put (first (test c).before)) c.seal-said.ensures c.count.ensures
 
-sub-put-messages : tie.Need-slice_bounds-put_messages-count
+sub-put-messages : tie.Need-slice_bounds-put_messages-start
 sub-put-messages c = omega (arith, first_fits (plain-put (first (test c.before).before)))
 
-sub-put-messages-3 : tie.Need-slice_bounds-put_messages-count-3
+sub-put-messages-3 : tie.Need-slice_bounds-put_messages-start-3
 sub-put-messages-3 c =
     omega (arith, change c.before.before.before, (entry (parted (first (test c.before.before.before).before))).requires)
 
@@ -121,7 +121,7 @@ sends c =
     c.protected_by-state.ensures
     (passed (test at_count).some_message.result _ (test at_count).some_message.ensures (ap not (test at_count).if-not-some_message.false)) c.put_messages-rest.ensures
 
-add-t25 : tie.Need-overflow-add-t25
+add-t25 : tie.Need-overflow_add-result
 add-t25 c = omega (arith, (sends c.before.before.before.before).fits)
 
 same-length-2 : tie.Need-shape_of-out
@@ -140,11 +140,10 @@ put_flight_spec =
     (λ c. search rules)
     (λ c. search rules)
     (λ c. search rules)
-    (λ c. omega (arith, sizes (entry (parted c.before.before.before.before))))
+    (λ c. omega (arith, sizes (entry (parted c.before.before.before))))
     (λ c κs. search rules)
     (λ c. search rules)
     returns
-    (λ c. search rules)
     sub-seal
     sub-seal
     (λ c. search rules)
@@ -153,12 +152,12 @@ put_flight_spec =
     (λ c. omega (arith, change c))
     (λ c κs. search rules)
     sub-put-messages
-    (λ c. sub-put-messages c.before)
+    (λ c. sub-put-messages c)
+    (λ c. omega (arith, sizes (entry (parted (first (test c.before).before)))))
+    (λ c. search rules)
+    (λ c. search rules)
+    (λ c. search rules)
     (λ c. omega (arith, sizes (entry (parted (first (test c.before.before).before)))))
-    (λ c. search rules)
-    (λ c. search rules)
-    (λ c. search rules)
-    (λ c. omega (arith, sizes (entry (parted (first (test c.before.before.before.before).before)))))
     sub-put-messages-3
     sub-put-messages-3
     (λ c. search rules)

@@ -11,6 +11,7 @@ use Rattle.lists.proofs.Walks.{left-cons}
 use Rattle.handshake.specs.Outgoing.{total}
 use Rattle.record_server.proofs.Putting.{Begun, counted-within, begin, skip, next, done}
 use Rattle.record_server.proofs.flight.put_messages.Statement.{statement}
+use Rattle.record_server.proofs.flight.put_messages.Lts.{then-n-ne0, else-n-ne0}
 use Rattle.record_server.proofs.flight.put_messages.Tie as tie
 
 abbrev invariant-loop : tie.invariant-loop-i
@@ -44,12 +45,14 @@ add-len c =
 loop-again : tie.Need-loop-i-preserved invariant-loop decreases-loop
 loop-again c =
     let left = left-cons (entry c.before.before.before).args.lengths.now c.loop-i.i c.loop-i-test.true in
-    ⊎_elim
-    (λ o.
-    next c.loop-i.invariant c.loop-i-test.true left o.0.taken (entry c.before.before.before).requires.0 (entry c.before.before.before).requires.1 o.3.ensures o.8
-    (o.9 ∙ o.7.ensures) (o.10 ∙ rw o.6.ensures) o.11)
-    (λ o. rw (o.1, o.2, o.3, o.4) (skip c.loop-i.invariant c.loop-i-test.true left o.0.left))
-    c.if-n-ne0.branch
+    elim c.if-n-ne0.branch [
+      then-n-ne0 o ↦
+          next c.loop-i.invariant c.loop-i-test.true left o.if-n-ne0.true (entry c.before.before.before).requires.0
+          (entry c.before.before.before).requires.1 o.seal-said.ensures o.out-is (o.writing-is ∙ o.counted-writing.ensures)
+          (o.len-is ∙ rw o.count-len.ensures) o.used-is
+    | else-n-ne0 o ↦
+          rw (o.out-is, o.writing-is, o.len-is, o.used-is) (skip c.loop-i.invariant c.loop-i-test.true left o.if-n-ne0.false)
+    ]
 
 returns : tie.Need-returns invariant-loop decreases-loop
 returns c = done c.loop-i.invariant c.loop-i-test.false

@@ -47,7 +47,7 @@ rest-there : (c : tie.Else-kept-at) → let a = (entry c).args in length (take (
 rest-there c = let a = (entry c).args in length-take-le (a.end - length a.held.now) a.content.now (omega (arith, first_alone c))
 
 whole : (c : tie.After-copy) → length c.copy.new.dst ≡ 16384
-whole c = c.copy.auto.1.0
+whole c = c.copy.auto.dst
 
 -- what stands at the front of the array
 message-in : (c : tie.After-copy-2) →
@@ -77,7 +77,7 @@ copy-requires-2 c κs =
 array-share-prefix-message : tie.Need-slice_bounds-message-end-2
 array-share-prefix-message c =
     let kept = length (entry c.before.before.before.before.before.before).args.held.now in
-    rw (same_len_mid kept (16384 - kept) c.copy.new.dst c.copy-2.new.dst c.copy-2.auto.1.0, whole c.before.before.before.before)
+    rw (same_len_mid kept (16384 - kept) c.copy.new.dst c.copy-2.new.dst c.copy-2.auto.dst, whole c.before.before.before.before)
     (omega (arith, first_alone c.before.before.before.before.before.before))
 
 slice-aggregate-decide : tie.Need-slice_bounds-decide-end-2

@@ -20,6 +20,7 @@ use Rattle.record_server.proofs.Places.{header-end, header-test, within-limit, h
 use Rattle.record_server.proofs.Courses.{goes-refused, goes-waits}
 use borrow.Author.Rules.{rules}
 use Rattle.record_server.proofs.progress.judge_first.Statement.{statement}
+use Rattle.record_server.proofs.progress.judge_first.Lts.{then-left-ne0+else-is_complete, else-left-ne0}
 use Rattle.record_server.proofs.progress.judge_first.Tie as tie
 
 abbrev entry : tie.After-c-1 → tie.Start
@@ -41,8 +42,10 @@ awaits : (c : tie.Joined-left-ne0) →
 awaits c =
     let start = entry c.before in
     let left = drop start.args.p.at (bytes start) in
-    ⊎_elim (λ w. rw (sym w.1.ensures ∙ w.2.left))
-    (λ w. rw (is-empty left (left-size start ∙ w.left), and-false (is_complete start.args.p.connection.phase))) c.if-left-ne0.branch
+    elim c.if-left-ne0.branch [
+      then-left-ne0+else-is_complete w ↦ rw (sym w.is_complete.ensures ∙ w.if-is_complete.false)
+    | else-left-ne0 w ↦ rw (is-empty left (left-size start ∙ w.if-left-ne0.false), and-false (is_complete start.args.p.connection.phase))
+    ]
 
 -- the verdict on the header is that on the bytes
 early : (c : tie.After-judge_header) {verdict : Verdict} → c.judge_header.result ≡ verdict →
@@ -73,7 +76,9 @@ size_is c =
     ∙ header-end (drop start.args.p.at (bytes start))
 
 sub-left : tie.Need-overflow_sub-left
-sub-left c = rw length-append at (entry c).requires.0.inside
+sub-left c =
+    let s = entry c in
+    omega (arith, s.requires.0.inside, length-append s.args.held.now s.args.content.now)
 
 returns : tie.Need-returns-then-is_complete
 returns c =

@@ -39,7 +39,7 @@ returns c =
     rw c.on_course.ensures
     (goes-waits (view c.before.before.before.before.before.before) (length a.held.now) bytes a.p c.requires.0 (rw (lt-ltb _ _ short)) (omega (arith, c.requires.1)))
 
-add-decide-at : tie.Need-overflow_add-at-in-Accepted
+add-decide-at : tie.Need-overflow_add-at
 add-decide-at c = search rules
 
 decide-at-requires : tie.Need-decide_at-d-requires
@@ -79,7 +79,7 @@ judge_whole_spec =
     add-decide-at
     decide-at-requires
     (λ c. search rules)
-    (λ c. add-decide-at c)
+    (λ c. search rules)
     (λ c κs. search rules)
     (λ c. search rules)
     (λ c κs. search rules)

@@ -15,6 +15,7 @@ use Rattle.record_server.specs.Taking.{refuse, unlisted_first, content_decided, 
 use Rattle.record_server.proofs.Decisions.{same_step}
 use borrow.Author.Rules.{rules}
 use Rattle.record_server.proofs.taking.decide_opened.Statement.{statement}
+use Rattle.record_server.proofs.taking.decide_opened.Lts.{then-is_first+else-not-client, else-is_first}
 use Rattle.record_server.proofs.taking.decide_opened.Tie as tie
 
 -- the entry, seen from where the record was opened
@@ -25,7 +26,7 @@ entry c = c.before.before.before.before.before.before.before.before
 passed : (c : tie.In-Content) →
     let args = (entry c.before).args in
     opened args.c.reading args.received.now ≡ Opened.Content c.in-Content.kind c.in-Content.len
-passed c = sym c.before.before.«open».ensures ∙ c.in-Content.is
+passed c = sym c.open.ensures ∙ c.in-Content.is
 
 step : (c : tie.In-Content) →
     let args = (entry c.before).args in
@@ -43,14 +44,17 @@ step c =
 returns : tie.Need-returns-then-not-client
 returns c =
     same_step
-    (step c.before.before.before.before.before ∙ rw (← c.is_first.ensures, c.if-is_first.true, (ap not c.if-not-client.true)))
+    (step c.before.before.before.before.before ∙ rw (← c.is_first.ensures, c.if-is_first.true, c.if-not-client.true))
     (c.refused.ensures _ _ _)
 
 -- it is not the first one, or the identity is listed
 listed : (c : tie.Joined-is_first) → unlisted_first (entry c.before.before.before).args.c ≡ false
 listed c =
     let first = c.is_first.ensures in
-    ⊎_elim (λ w. rw (← first, w.0.taken, w.2.left)) (λ w. rw (← first, w.left)) c.if-is_first.branch
+    elim c.if-is_first.branch [
+      then-is_first+else-not-client w ↦ rw (← first, w.if-is_first.true, w.if-not-client.false)
+    | else-is_first w ↦ rw (← first, w.if-is_first.false)
+    ]
 
 decide-content-requires : tie.Need-decide_content-requires
 decide-content-requires c κs =
@@ -66,10 +70,10 @@ returns-3 : tie.Need-returns-in-Refused
 returns-3 c =
     let args = (entry c.before.before.before.before).args in
     let v = view_of args.table.now args.starts.now args.count in
-    let told = sym c.before.before.«open».ensures ∙ c.in-Refused.is in
+    let told = sym c.open.ensures ∙ c.in-Refused.is in
     same_step
     (ap (opened_step v args.c (take args.kept args.memory.now) args.received.now) told
-    ∙ rw (c.IsRefused-as.ensures, c.is_first-in-Refused.ensures))
+    ∙ rw (c.refused_as.ensures, c.is_first-in-Refused.ensures))
     (c.refused-in-Refused.ensures _ _ _)
 
 pub decide_opened_spec : {M : Type 1} → statement M

@@ -10,7 +10,7 @@ use Rattle.record_server.proofs.taking.has_room.Tie as tie
 
 returns : tie.Need-returns-then-room-at
 returns c =
-    rw (c.in-Put.is, lt-leb (at + c.in-Put.len) c.args.room (omega arith))
+    rw (c.in-Put.is, lt-leb (c.in-Put.at + c.in-Put.len) c.args.room (omega arith))
 
 returns-3 : tie.Need-returns-else-room-at
 returns-3 c =

@@ -48,12 +48,12 @@ returns-2 c held h =
     let args = c.args in
     let memory = args.memory.now in
     let same : c.in-Put.from + c.in-Put.len - c.in-Put.from ≡ c.in-Put.len = omega arith in
-    let front = length-take-le at memory (inside c.before.before.before.before.before).0 in
+    let front = length-take-le c.in-Put.at memory (inside c.before.before.before.before.before).0 in
     let copied = rw same at c.copy.ensures.1 in
     let bytes = part c.in-Put.from c.in-Put.len args.received.now in
     rw c.in-Put.is
-    (put-behind (take at memory) bytes memory memory c.copy.new.dst at (sym (front-take at memory)) (sym front)
-    (copy-in-front bytes (take (length memory - c.in-Put.at) (drop at memory)) _ copied))
+    (put-behind (take c.in-Put.at memory) bytes memory memory c.copy.new.dst c.in-Put.at (sym (front-take c.in-Put.at memory)) (sym front)
+    (copy-in-front bytes (take (length memory - c.in-Put.at) (drop c.in-Put.at memory)) _ copied))
 
 pub put_held_spec : {M : Type 1} → statement M
 put_held_spec =

@@ -38,7 +38,7 @@ ends c = rw (length-held (entry c).requires, as_lent (entry c).args.n) at c.judg
 
 progressed-requires : tie.Need-progressed-requires
 progressed-requires c κs =
-    ((ends c.before.before).sound.ranges, omega (arith, all-few (entry c.before.before).requires (ends c.before.before) c.in-Waits.is c.if-at-kept.true))
+    ((ends c.before.before).sound.fits, omega (arith, all-few (entry c.before.before).requires (ends c.before.before) c.in-Waits.is c.if-at-kept.true))
 
 returns : tie.Need-returns-then-at-kept
 returns c =
@@ -54,7 +54,7 @@ sub-t28 c = from-few (entry c.before.before).requires (ends c.before.before) c.i
 
 progressed-requires-2 : tie.Need-progressed-requires-in-Waits
 progressed-requires-2 c κs =
-    ((ends c.before.before).sound.ranges, omega (arith, (entry c.before.before).requires.few))
+    ((ends c.before.before).sound.fits, omega (arith, (entry c.before.before).requires.few))
 
 returns-2 : tie.Need-returns-in-Going
 returns-2 c = absurd (not_going (entry c.before.before).requires (ends c.before.before) c.in-Going.is)

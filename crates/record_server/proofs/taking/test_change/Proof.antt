@@ -25,7 +25,6 @@ test_change_spec =
     (tie.spec
     returns
     returns-2
-    (λ c. search rules)
     (λ c κs. search rules)
     returns-3
     returns-4)
