@@ -16,6 +16,7 @@ use Rattle.c_interface.proofs.Keeping.{step_keeps, Handed, was-handed, was-kept}
 use Rattle.c_interface.proofs.ClientKeeping.{reply-parts}
 use borrow.Author.Rules.{rules}
 use Rattle.c_interface.proofs.client_connection.tn_client_message.Statement.{statement}
+use Rattle.c_interface.proofs.client_connection.tn_client_message.Lts.{then-reply, else-reply}
 use Rattle.c_interface.proofs.client_connection.tn_client_message.Tie as tie
 
 -- the client's reply to the message, on the connection that was restored
@@ -45,8 +46,10 @@ returns c =
     let master = a.master.now in
     let blocks = a.blocks.now in
     let given : (c.if-reply.master ≡ master_after (over c.before.before.before.before.before.before (was c.before.before.before.before.before.before)) master) × (c.if-reply.blocks ≡ blocks_after (over c.before.before.before.before.before.before (was c.before.before.before.before.before.before)) blocks) =
-    ⊎_elim (λ w. let told = was-handed master blocks (parts c.before.before.before.before.before.before).2 w.0.taken in (w.2 ∙ told.0, w.3 ∙ told.1))
-    (λ w. let told = was-kept master blocks (parts c.before.before.before.before.before.before).2 w.0.left in (w.1 ∙ told.0, w.2 ∙ told.1)) c.if-reply.branch in (
+    elim c.if-reply.branch [
+      then-reply w ↦ let told = was-handed master blocks (parts c.before.before.before.before.before.before).2 w.if-reply.true in (w.master-is ∙ told.0, w.blocks-is ∙ told.1)
+    | else-reply w ↦ let told = was-kept master blocks (parts c.before.before.before.before.before.before).2 w.if-reply.false in (w.master-is ∙ told.0, w.blocks-is ∙ told.1)
+    ] in (
       step_keeps (ended Phase.Closed) a.client.now a.out.now (λ (x : Connection). message_step x a.message.now x.phase)
           (restored-as c.before.before.before.before.before.before) (parts c.before.before.before.before.before.before).0 (parts c.before.before.before.before.before.before).1 c.keep.type_inv c.keep.ensures.0 c.keep.ensures.1,
       record {

@@ -7,14 +7,17 @@ use Rattle.saved.specs.Saved.{restored}
 use Rattle.c_interface.proofs.Signed.{handed-on}
 use Rattle.c_interface.proofs.Keeping.{kept-changed, kept_same}
 use Rattle.c_interface.proofs.connection.keep.Statement.{statement}
+use Rattle.c_interface.proofs.connection.keep.Lts.{then-changes, else-changes}
 use Rattle.c_interface.proofs.connection.keep.Tie as tie
 
 returns : tie.Need-returns
 returns c =
     let told = sym c.changes.ensures in (
       handed-on _ c.of_answer.type_inv ∙ c.of_answer.ensures,
-      ⊎_elim (λ w. kept-changed (told ∙ w.0.taken) (w.2 ∙ w.1.ensures.0) (ap restored w.2 ∙ w.1.ensures.1))
-          (λ w. kept_same (told ∙ w.0.left) w.1) c.if-changes.branch,
+      elim c.if-changes.branch [
+        then-changes w ↦ kept-changed (told ∙ w.if-changes.true) (w.connection-is ∙ w.save.ensures.0) (ap restored w.connection-is ∙ w.save.ensures.1)
+      | else-changes w ↦ kept_same (told ∙ w.if-changes.false) w.connection-is
+      ],
     )
 
 pub keep_spec : {M : Type 1} → statement M

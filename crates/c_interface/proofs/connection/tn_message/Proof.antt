@@ -16,6 +16,7 @@ use Rattle.c_interface.specs.Connections.{handed_by}
 use Rattle.c_interface.specs.Kept.{master_after, blocks_after}
 use Rattle.c_interface.proofs.Keeping.{step_keeps, Handed, was-handed, was-kept, reply-parts}
 use Rattle.c_interface.proofs.connection.tn_message.Statement.{statement}
+use Rattle.c_interface.proofs.connection.tn_message.Lts.{then-reply, else-reply}
 use Rattle.c_interface.proofs.connection.tn_message.Tie as tie
 
 -- the entry, seen from the server's reply
@@ -52,8 +53,10 @@ returns c =
     let master = a.master.now in
     let blocks = a.blocks.now in
     let given : (c.if-reply.master ≡ master_after (over c.before.before.before.before.before.before (was c.before.before.before.before.before.before)) master) × (c.if-reply.blocks ≡ blocks_after (over c.before.before.before.before.before.before (was c.before.before.before.before.before.before)) blocks) =
-    ⊎_elim (λ w. let told = was-handed master blocks (parts c.before.before.before.before.before.before).2 w.0.taken in (w.2 ∙ told.0, w.3 ∙ told.1))
-    (λ w. let told = was-kept master blocks (parts c.before.before.before.before.before.before).2 w.0.left in (w.1 ∙ told.0, w.2 ∙ told.1)) c.if-reply.branch in (
+    elim c.if-reply.branch [
+      then-reply w ↦ let told = was-handed master blocks (parts c.before.before.before.before.before.before).2 w.if-reply.true in (w.master-is ∙ told.0, w.blocks-is ∙ told.1)
+    | else-reply w ↦ let told = was-kept master blocks (parts c.before.before.before.before.before.before).2 w.if-reply.false in (w.master-is ∙ told.0, w.blocks-is ∙ told.1)
+    ] in (
       step_keeps (ended Phase.Closed) a.connection.now a.out.now (step_on c.before.before.before.before.before.before) (restored-as c.before.before.before.before.before.before) (parts c.before.before.before.before.before.before).0 (parts c.before.before.before.before.before.before).1 c.keep.type_inv c.keep.ensures.0
           c.keep.ensures.1,
       record {

@@ -13,6 +13,7 @@ use Rattle.c_interface.proofs.Keeping.{was-handed, was-kept}
 use Rattle.c_interface.proofs.RecordSizes.{data-fits}
 use Rattle.c_interface.proofs.RecordKeeping.{taken-parts, told-accepted, told-refused, took-keeps}
 use Rattle.c_interface.proofs.record_connection.tn_take_record.Statement.{statement}
+use Rattle.c_interface.proofs.record_connection.tn_take_record.Lts.{then-taken, else-taken, in-Wrote, in-Refused}
 use Rattle.c_interface.proofs.record_connection.tn_take_record.Tie as tie
 
 -- the entry, seen from what was taken
@@ -50,17 +51,21 @@ returns c =
     let over = (taken-parts w w.master (given c.before.before.before.before.before.before.before.before.before)).4 in
     let blocks = a.blocks.now in
     let handed : (c.if-taken.master ≡ master_after w.master master) × (c.if-taken.blocks ≡ blocks_after w.master blocks) =
-    ⊎_elim (λ x. let told = was-handed master blocks over x.0.taken in (x.2 ∙ told.0, x.3 ∙ told.1))
-    (λ x. let told = was-kept master blocks over x.0.left in (x.1 ∙ told.0, x.2 ∙ told.1)) c.if-taken.branch in
-    let told = ⊎_elim (λ x. told-accepted w a.told.now (given c.before.before.before.before.before.before.before.before.before) x.1.given.1 (x.3 ∙ x.2.ensures))
-    (λ x. told-refused w a.told.now (given c.before.before.before.before.before.before.before.before.before) x.1.given.1 x.2) c.match-said.branch in (
+    elim c.if-taken.branch [
+      then-taken x ↦ let told = was-handed master blocks over x.if-taken.true in (x.master-is ∙ told.0, x.blocks-is ∙ told.1)
+    | else-taken x ↦ let told = was-kept master blocks over x.if-taken.false in (x.master-is ∙ told.0, x.blocks-is ∙ told.1)
+    ] in (
       took-keeps (view c.before.before.before.before.before.before.before.before.before) a.connection.now a.received.now a.memory.now a.out.now (given c.before.before.before.before.before.before.before.before.before) c.keep.type_inv c.keep.ensures.0
           c.keep.ensures.1,
       record {
         out-left = c.take-taken.ensures.0.out-left ∙ ap (λ (x : RecordConnection). (taken_on c.before.before.before.before.before.before.before.before.before x).out) (same c.before.before.before.before.before.before.before.before.before);
         memory-left = c.take-taken.ensures.0.memory-left ∙ ap (λ (x : RecordConnection). (taken_on c.before.before.before.before.before.before.before.before.before x).memory) (same c.before.before.before.before.before.before.before.before.before);
         handed = handed.0;
-        fields = told;
+        fields =
+        elim c.match-said.branch [
+              in-Wrote x ↦ told-accepted w a.told.now (given c.before.before.before.before.before.before.before.before.before) x.in-Wrote.is (x.told-is ∙ x.told_of.ensures)
+            | in-Refused x ↦ told-refused w a.told.now (given c.before.before.before.before.before.before.before.before.before) x.in-Refused.is x.told-is
+            ];
         counted = handed.1;
       },
     )

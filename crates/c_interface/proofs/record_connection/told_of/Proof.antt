@@ -5,13 +5,18 @@ use mathlib.Core.Path.{◌≡◌, ◌∙◌}
 use mathlib.Core.Logic.{⊎_elim}
 use mathlib.Core.Bool.{cond}
 use Rattle.c_interface.proofs.record_connection.told_of.Statement.{statement}
+use Rattle.c_interface.proofs.record_connection.told_of.Lts.{then-handed, else-handed}
 use Rattle.c_interface.proofs.record_connection.told_of.Tie as tie
 
 cast-t7 : tie.Need-overflow_cast-result
 cast-t7 c = record { fits = rw c.in-Bytes.is at c.requires }
 
 first-is : (c : tie.Joined-handed) → c.if-handed.first ≡ cond c.args.handed 1 0
-first-is c = ⊎_elim (λ w. w.1 ∙ rw w.0.taken) (λ w. w.1 ∙ rw w.0.left) c.if-handed.branch
+first-is c =
+    elim c.if-handed.branch [
+      then-handed w ↦ w.first-is ∙ rw w.if-handed.true
+    | else-handed w ↦ w.first-is ∙ rw w.if-handed.false
+    ]
 
 returns : tie.Need-returns-in-Nothing
 returns c = rw (c.in-Nothing.is, first-is c.before)

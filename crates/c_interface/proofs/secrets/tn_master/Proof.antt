@@ -10,6 +10,7 @@ use borrow.Author.Rules.{rules}
 use Rattle.c_interface.proofs.Answers.{answer-count-small, codes-answer, report-wrote, report-refused}
 use Rattle.c_interface.proofs.Sizes.{master-small}
 use Rattle.c_interface.proofs.secrets.tn_master.Statement.{statement}
+use Rattle.c_interface.proofs.secrets.tn_master.Lts.{in-Wrote, in-Refused}
 use Rattle.c_interface.proofs.secrets.tn_master.Tie as tie
 
 of-answer-requires : tie.Need-of_answer-requires
@@ -26,8 +27,10 @@ returns c =
     record {
       value = codes-answer made.0 c.of_answer.type_inv c.of_answer.ensures;
       counted =
-          ⊎_elim (λ x. x.2 ∙ report-wrote wanted n a.blocks.now made.0.told x.1.given.1 made.1)
-          (λ x. x.2 ∙ report-refused wanted n a.blocks.now made.0.told x.1.given.1) c.match-said.branch;
+          elim c.match-said.branch [
+            in-Wrote x ↦ x.blocks-is ∙ report-wrote wanted n a.blocks.now made.0.told x.in-Wrote.is made.1
+          | in-Refused x ↦ x.blocks-is ∙ report-refused wanted n a.blocks.now made.0.told x.in-Refused.is
+          ];
     }
 
 pub tn_master_spec : {M : Type 1} → statement M
