@@ -14,6 +14,8 @@
 
 use refusal::Written;
 use server::{Answer, Connection, Named, Reply};
+use std::io;
+use std::io::{Read, Write};
 
 // What is kept from call to call; the table and the list of its line starts are beside it.
 #[derive(Drop)]
@@ -29,29 +31,32 @@ struct Sizes {
     count: usize,
 }
 
-fn print_bytes(bytes: &[u8]) {
-    lines::text(b" ");
-    lines::hex(bytes);
+fn print_bytes(output: &mut impl Write, bytes: &[u8]) -> io::Result<()> {
+    lines::text(output, b" ")?;
+    lines::hex(output, bytes)?;
+    Ok(())
 }
 
 // How many bytes were written, the alert, or the R number.
-fn print_said(said: Written) {
+fn print_said(output: &mut impl Write, said: Written) -> io::Result<()> {
     match said {
         Written::Wrote(n) => {
-            lines::text(b"wrote ");
-            lines::number(n);
+            lines::text(output, b"wrote ")?;
+            lines::number(output, n)?;
         }
         Written::Refused(r) => {
             if refusal::for_peer(r) {
-                lines::text(b"alert ");
+                lines::text(output, b"alert ")?;
             }
-            lines::refused(r);
+            lines::refused(output, r)?;
         }
     }
+    Ok(())
 }
 
-fn end_line() {
-    lines::text(b"\n");
+fn end_line(output: &mut impl Write) -> io::Result<()> {
+    lines::text(output, b"\n")?;
+    Ok(())
 }
 
 fn named(byte: u8) -> Named {
@@ -65,78 +70,87 @@ fn named(byte: u8) -> Named {
 }
 
 // The end of a call's line, and what is kept from then on.
-fn answered(kept: Kept, answer: Answer) -> Kept {
+fn answered(output: &mut impl Write, kept: Kept, answer: Answer) -> io::Result<Kept> {
     let said = answer.said;
     let connection = answer.next;
     let master = kept.master;
-    print_said(said);
-    end_line();
-    Kept { connection, master }
+    print_said(output, said)?;
+    end_line(output)?;
+    Ok(Kept { connection, master })
 }
 
-fn start(kept: Kept) -> Kept {
-    let rule = named(lines::byte());
+fn start(input: &mut impl Read, output: &mut impl Write, kept: Kept) -> io::Result<Kept> {
+    let rule = named(lines::byte(input)?);
     let mut random = [0u8; 255];
     let mut hint = [0u8; 255];
     let mut stand_in = [0u8; 255];
-    let random_length = lines::byte() as usize;
-    lines::fill(&mut random, random_length);
-    let hint_length = lines::byte() as usize;
-    lines::fill(&mut hint, hint_length);
-    let key_length = lines::byte() as usize;
-    lines::fill(&mut stand_in, key_length);
+    let random_length = lines::byte(input)? as usize;
+    lines::fill(input, &mut random, random_length)?;
+    let hint_length = lines::byte(input)? as usize;
+    lines::fill(input, &mut hint, hint_length)?;
+    let key_length = lines::byte(input)? as usize;
+    lines::fill(input, &mut stand_in, key_length)?;
     let answer = server::start(
         lines::part(&random, 0, random_length),
         lines::part(&hint, 0, hint_length),
         lines::part(&stand_in, 0, key_length),
         rule,
     );
-    lines::text(b"start ");
-    answered(kept, answer)
+    lines::text(output, b"start ")?;
+    answered(output, kept, answer)
 }
 
 // The end of a message's line, with the master secret where one was handed over and how many blocks were hashed for it.
-fn replied(kept: Kept, reply: Reply) -> Kept {
+fn replied(output: &mut impl Write, kept: Kept, reply: Reply) -> io::Result<Kept> {
     let connection = reply.next;
     let mut master = kept.master;
     if reply.handed {
         let handed = reply.master;
         master = handed;
-        lines::text(b" blocks ");
-        lines::number(reply.blocks as usize);
-        lines::text(b" master");
-        print_bytes(&handed);
+        lines::text(output, b" blocks ")?;
+        lines::number(output, reply.blocks as usize)?;
+        lines::text(output, b" master")?;
+        print_bytes(output, &handed)?;
     }
-    end_line();
-    Kept { connection, master }
+    end_line(output)?;
+    Ok(Kept { connection, master })
 }
 
 // A message's line: what was said, and the whole output.
 fn deliver(
+    output: &mut impl Write,
     kept: Kept,
     table: &[u8],
     starts: &[u32],
     count: usize,
     bytes: &[u8],
     out: &mut [u8],
-) -> Kept {
+) -> io::Result<Kept> {
     let connection = kept.connection;
     let reply = server::message(connection, table, starts, count, bytes, out);
     let said = reply.said;
-    lines::text(b"message ");
-    print_said(said);
-    print_bytes(out);
-    replied(kept, reply)
+    lines::text(output, b"message ")?;
+    print_said(output, said)?;
+    print_bytes(output, out)?;
+    replied(output, kept, reply)
 }
 
 // The table is the front of its buffer.
-fn message(kept: Kept, table: &[u8], starts: &[u32], sizes: Sizes) -> Kept {
+fn message(
+    input: &mut impl Read,
+    output: &mut impl Write,
+    kept: Kept,
+    table: &[u8],
+    starts: &[u32],
+    sizes: Sizes,
+) -> io::Result<Kept> {
     let mut bytes = [0u8; 16400];
     let mut lent = [0xeeu8; 255];
-    let room = lines::byte() as usize;
-    let size = lines::number24();
-    lines::fill(&mut bytes, size);
+    let room = lines::byte(input)? as usize;
+    let size = lines::number24(input)?;
+    lines::fill(input, &mut bytes, size)?;
     deliver(
+        output,
         kept,
         lines::part(table, 0, sizes.table),
         starts,
@@ -146,55 +160,55 @@ fn message(kept: Kept, table: &[u8], starts: &[u32], sizes: Sizes) -> Kept {
     )
 }
 
-fn change(kept: Kept) -> Kept {
+fn change(output: &mut impl Write, kept: Kept) -> io::Result<Kept> {
     let connection = kept.connection;
     let answer = server::change_of_cipher(connection);
-    lines::text(b"change ");
-    answered(kept, answer)
+    lines::text(output, b"change ")?;
+    answered(output, kept, answer)
 }
 
-fn alert(kept: Kept) -> Kept {
-    let level = lines::byte();
-    let description = lines::byte();
+fn alert(input: &mut impl Read, output: &mut impl Write, kept: Kept) -> io::Result<Kept> {
+    let level = lines::byte(input)?;
+    let description = lines::byte(input)?;
     let connection = kept.connection;
     let answer = server::alert(connection, level, description);
-    lines::text(b"alert ");
-    answered(kept, answer)
+    lines::text(output, b"alert ")?;
+    answered(output, kept, answer)
 }
 
-fn key_block(kept: Kept) -> Kept {
-    let suite = lines::number16() as u16;
+fn key_block(input: &mut impl Read, output: &mut impl Write, kept: Kept) -> io::Result<Kept> {
+    let suite = lines::number16(input)? as u16;
     let mut server = [0u8; 32];
     let mut client = [0u8; 32];
-    lines::fill(&mut server, 32);
-    lines::fill(&mut client, 32);
+    lines::fill(input, &mut server, 32)?;
+    lines::fill(input, &mut client, 32)?;
     let mut block = [0u8; 96];
     let master = kept.master;
     let said = keys::key_block(&master, &server, &client, suite, &mut block);
-    lines::text(b"keys ");
-    print_said(said);
-    print_bytes(&block);
-    end_line();
-    kept
+    lines::text(output, b"keys ")?;
+    print_said(output, said)?;
+    print_bytes(output, &block)?;
+    end_line(output)?;
+    Ok(kept)
 }
 
-fn once(call: u8, kept: Kept, table: &[u8], starts: &[u32], sizes: Sizes) -> Kept {
-    if call == 1 {
-        return start(kept);
+fn once(
+    input: &mut impl Read,
+    output: &mut impl Write,
+    call: u8,
+    kept: Kept,
+    table: &[u8],
+    starts: &[u32],
+    sizes: Sizes,
+) -> io::Result<Kept> {
+    match call {
+        1 => start(input, output, kept),
+        3 => message(input, output, kept, table, starts, sizes),
+        4 => change(output, kept),
+        5 => alert(input, output, kept),
+        6 => key_block(input, output, kept),
+        _ => Ok(kept),
     }
-    if call == 3 {
-        return message(kept, table, starts, sizes);
-    }
-    if call == 4 {
-        return change(kept);
-    }
-    if call == 5 {
-        return alert(kept);
-    }
-    if call == 6 {
-        return key_block(kept);
-    }
-    kept
 }
 
 // What is kept before the first call: a connection that is closed.
@@ -208,59 +222,67 @@ fn nothing() -> Kept {
 }
 
 // Call 2: another table, and its list where it is well formed.
-fn new_table(table: &mut [u8], starts: &mut [u32], sizes: Sizes) -> Sizes {
-    let n = lines::number24();
-    let size = lines::fill(table, n);
+fn new_table(
+    input: &mut impl Read,
+    table: &mut [u8],
+    starts: &mut [u32],
+    sizes: Sizes,
+) -> io::Result<Sizes> {
+    let n = lines::number24(input)?;
+    let size = lines::fill(input, table, n)?;
     let made = keytable::make_list(lines::part(table, 0, size), starts);
     match made {
-        Written::Wrote(count) => Sizes { table: size, count },
-        Written::Refused(_) => Sizes {
+        Written::Wrote(count) => Ok(Sizes { table: size, count }),
+        Written::Refused(_) => Ok(Sizes {
             table: size,
             count: sizes.count,
-        },
+        }),
     }
 }
 
 // Call 7: another count, and another number at a place of the list.
-fn new_list(starts: &mut [u32], sizes: Sizes) -> Sizes {
-    let count = lines::number24();
-    let at = lines::number16();
-    let start = lines::number24() as u32;
+fn new_list(input: &mut impl Read, starts: &mut [u32], sizes: Sizes) -> io::Result<Sizes> {
+    let count = lines::number24(input)?;
+    let at = lines::number16(input)?;
+    let start = lines::number24(input)? as u32;
     if at < starts.len() {
         starts[at] = start;
     }
-    Sizes {
+    Ok(Sizes {
         table: sizes.table,
         count,
-    }
+    })
 }
 
 // The sizes of table and list from now on: calls 2 and 7 bring others.
-fn next_table(call: u8, table: &mut [u8], starts: &mut [u32], sizes: Sizes) -> Sizes {
-    if call == 2 {
-        return new_table(table, starts, sizes);
+fn next_table(
+    input: &mut impl Read,
+    call: u8,
+    table: &mut [u8],
+    starts: &mut [u32],
+    sizes: Sizes,
+) -> io::Result<Sizes> {
+    match call {
+        2 => new_table(input, table, starts, sizes),
+        7 => new_list(input, starts, sizes),
+        _ => Ok(sizes),
     }
-    if call == 7 {
-        return new_list(starts, sizes);
-    }
-    sizes
 }
 
-fn main() {
+fn main(rt: HostRuntime) -> io::Result<()> {
+    let mut input = rt.stdin();
+    let mut output = rt.stdout();
     let mut table = [0u8; 70000];
     let mut starts = [0u32; 257];
     let mut sizes = Sizes { table: 0, count: 0 };
     let mut kept = nothing();
-    let mut calls: usize = 0;
-    while calls < 65536 {
-        let call = lines::byte();
+    for _ in 0..65536u32 {
+        let call = lines::byte(&mut input)?;
         if call == 0 {
             break;
         }
-        let others = next_table(call, &mut table, &mut starts, sizes);
-        sizes = others;
-        let next = once(call, kept, &table, &starts, sizes);
-        kept = next;
-        calls += 1;
+        sizes = next_table(&mut input, call, &mut table, &mut starts, sizes)?;
+        kept = once(&mut input, &mut output, call, kept, &table, &starts, sizes)?;
     }
+    Ok(())
 }

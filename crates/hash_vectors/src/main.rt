@@ -4,15 +4,18 @@
 #![tactic(auto)]
 
 use sha256::Sha256;
+use std::io;
+use std::io::{Read, Write};
 
 // A line: the message's length, how it was absorbed, and the digest.
-fn print_line(length: usize, how: &[u8], hash: Sha256) {
+fn print_line(output: &mut impl Write, length: usize, how: &[u8], hash: Sha256) -> io::Result<()> {
     let mut digest = [0u8; 32];
     hash.finish(&mut digest);
-    lines::number(length);
-    lines::text(how);
-    lines::hex(&digest);
-    lines::text(b"\n");
+    lines::number(output, length)?;
+    lines::text(output, how)?;
+    lines::hex(output, &digest)?;
+    lines::text(output, b"\n")?;
+    Ok(())
 }
 
 // The message in parts of one byte, two bytes, three bytes, and so on.
@@ -29,41 +32,45 @@ fn in_parts(message: &[u8]) -> Sha256 {
 }
 
 // So many times the same part.
-fn in_equal_parts(part: &[u8], times: usize) {
+fn in_equal_parts(output: &mut impl Write, part: &[u8], times: usize) -> io::Result<()> {
     let mut hash = Sha256::new();
     let mut length: usize = 0;
-    let mut i: usize = 0;
-    while i < times {
+    for _ in 0..times {
         hash = hash.update(part);
-        length = std::num::wrapping_add_usize(length, part.len());
-        i += 1;
+        length = length.wrapping_add(part.len());
     }
-    print_line(length, b" in equal parts ", hash);
+    print_line(output, length, b" in equal parts ", hash)
 }
 
-fn print_both(message: &[u8]) {
-    print_line(message.len(), b" whole ", Sha256::new().update(message));
-    print_line(message.len(), b" in parts ", in_parts(message));
+fn print_both(output: &mut impl Write, message: &[u8]) -> io::Result<()> {
+    let length = message.len();
+    print_line(output, length, b" whole ", Sha256::new().update(message))?;
+    print_line(output, length, b" in parts ", in_parts(message))
 }
 
 // A call of the input, and whether there was one: 1 and a message, or 2, a part and how often it comes.
-fn call() -> bool {
-    let kind = lines::byte();
+fn call(input: &mut impl Read, output: &mut impl Write) -> io::Result<bool> {
+    let kind = lines::byte(input)?;
     let mut buffer = [0u8; 1024];
-    let n = lines::field(&mut buffer);
+    let n = lines::field(input, &mut buffer)?;
     if kind == 1 {
-        print_both(lines::part(&buffer, 0, n));
+        print_both(output, lines::part(&buffer, 0, n))?;
     }
     if kind == 2 {
-        in_equal_parts(lines::part(&buffer, 0, n), lines::number24());
+        let times = lines::number24(input)?;
+        in_equal_parts(output, lines::part(&buffer, 0, n), times)?;
     }
-    kind != 0
+    Ok(kind != 0)
 }
 
-// Nothing says that input ends, so the calls are counted, from a number that no input has.
-fn main() {
-    let mut left: u32 = 1000000;
-    while 0 < left && call() {
-        left -= 1;
+// Nothing says that input ends, so the calls are counted, up to a number that no input has.
+fn main(rt: HostRuntime) -> io::Result<()> {
+    let mut input = rt.stdin();
+    let mut output = rt.stdout();
+    for _ in 0..1000000u32 {
+        if !call(&mut input, &mut output)? {
+            break;
+        }
     }
+    Ok(())
 }

@@ -9,30 +9,33 @@
 use keys::{Label, Side};
 use refusal::Written;
 use sha256::Reported;
+use std::io;
+use std::io::{Read, Write};
 
 // The bytes that were written, or the number of the refusal.
-fn print_said(said: Written, out: &[u8]) {
+fn print_said(output: &mut impl Write, said: Written, out: &[u8]) -> io::Result<()> {
     match said {
         Written::Wrote(n) => {
-            lines::hex(lines::part(out, 0, n));
+            lines::hex(output, lines::part(out, 0, n))?;
         }
         Written::Refused(r) => {
-            lines::text(b"refused ");
-            lines::number(refusal::number(r) as usize);
+            lines::text(output, b"refused ")?;
+            lines::number(output, refusal::number(r) as usize)?;
         }
     }
+    Ok(())
 }
 
 // The start of a line; answers how long it is.
-fn print_name(kind: u8) -> usize {
+fn print_name(output: &mut impl Write, kind: u8) -> io::Result<usize> {
     match kind {
-        1 => lines::text(b"hmac "),
-        6 => lines::text(b"premaster "),
-        7 => lines::text(b"master "),
-        8 => lines::text(b"key block "),
-        9 | 10 => lines::text(b"finished "),
-        11 => lines::text(b"master under a key "),
-        _ => lines::text(b"prf "),
+        1 => lines::text(output, b"hmac "),
+        6 => lines::text(output, b"premaster "),
+        7 => lines::text(output, b"master "),
+        8 => lines::text(output, b"key block "),
+        9 | 10 => lines::text(output, b"finished "),
+        11 => lines::text(output, b"master under a key "),
+        _ => lines::text(output, b"prf "),
     }
 }
 
@@ -66,51 +69,65 @@ fn answer(kind: u8, n: u16, a: &[u8], b: &[u8], c: &[u8], out: &mut [u8]) -> Rep
     }
 }
 
-fn print_line(kind: u8, n: u16, a: &[u8], b: &[u8], c: &[u8], out: &mut [u8]) {
-    print_name(kind);
+fn print_line(
+    output: &mut impl Write,
+    kind: u8,
+    n: u16,
+    a: &[u8],
+    b: &[u8],
+    c: &[u8],
+    out: &mut [u8],
+) -> io::Result<()> {
+    print_name(output, kind)?;
     let told = answer(kind, n, a, b, c, out);
     let said = told.said;
-    print_said(said, out);
+    print_said(output, said, out)?;
     if 0 < told.blocks {
-        lines::text(b" blocks ");
-        lines::number(told.blocks as usize);
+        lines::text(output, b" blocks ")?;
+        lines::number(output, told.blocks as usize)?;
     }
-    lines::text(b"\n");
+    lines::text(output, b"\n")?;
+    Ok(())
 }
 
 // A call of the input, and whether there was one.
-fn call() -> bool {
-    let kind = lines::byte();
+fn call(input: &mut impl Read, output: &mut impl Write) -> io::Result<bool> {
+    let kind = lines::byte(input)?;
     if kind == 0 {
-        return false;
+        return Ok(false);
     }
-    let n = lines::number16() as u16;
-    let room = lines::number16();
+    let n = lines::number16(input)? as u16;
+    let room = lines::number16(input)?;
     if 260 < room {
-        return false;
+        return Ok(false);
     }
     let mut a = lines::buffer();
     let mut b = lines::buffer();
     let mut c = [0u8; 64];
-    let a_size = lines::field(&mut a);
-    let b_size = lines::field(&mut b);
-    let c_size = lines::field(&mut c);
+    let a_size = lines::field(input, &mut a)?;
+    let b_size = lines::field(input, &mut b)?;
+    let c_size = lines::field(input, &mut c)?;
     let mut out = [0u8; 260];
     print_line(
+        output,
         kind,
         n,
         lines::part(&a, 0, a_size),
         lines::part(&b, 0, b_size),
         lines::part(&c, 0, c_size),
         &mut out[260 - room..],
-    );
-    true
+    )?;
+    Ok(true)
 }
 
-// Nothing says that input ends, so the calls are counted, from a number that no input has.
-fn main() {
-    let mut left: u32 = 1000000;
-    while 0 < left && call() {
-        left -= 1;
+// Nothing says that input ends, so the calls are counted, up to a number that no input has.
+fn main(rt: HostRuntime) -> io::Result<()> {
+    let mut input = rt.stdin();
+    let mut output = rt.stdout();
+    for _ in 0..1000000u32 {
+        if !call(&mut input, &mut output)? {
+            break;
+        }
     }
+    Ok(())
 }

@@ -6,16 +6,6 @@ use borrow.Rule.Slice.PartMut.{mid_of, put_mid, Post-is}
 use Rattle.lists.proofs.Parts.{part_to_end}
 use Rattle.lines.specs.Front.{Front}
 
--- the front of memory is lent, and comes back as it was left
-pub front_read : (out last : List ℕ) (n : ℕ) → n ≤ length out → length last ≡ length (take n out) → Front n out (last ++ drop n out)
-front_read out last n inside kept =
-    let size : length last ≡ n = kept ∙ length-take-le n out inside in
-    record {
-      inside = inside;
-      size = rw (length-append last (drop n out), length-drop n out) (omega arith);
-      behind = drop_at last (drop n out) n size;
-    }
-
 -- behind a front that was read stands another
 front-more : (first out last : List ℕ) (at n : ℕ) → Front at first out → Front n (drop at out) last → Front (at + n) first (take at out ++ last)
 front-more first out last at n before next =

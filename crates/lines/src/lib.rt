@@ -1,9 +1,10 @@
 // What the programs that try vectors share: reading their input from standard input and printing their
-// lines to standard output.
+// lines to standard output, or any reader and writer.
 //
 // No contract can say which bytes are read or written, so each function promises what can be said: how
 // much there was to print, the bounds of what was read, and that lent memory keeps its length and
-// what stands behind the bytes that were read. What is printed is compared with each program's file stdout.
+// what stands behind the bytes that were read. An error is the reader's or the writer's. What is printed is compared
+// with each program's file stdout.
 #![tactic(auto)]
 
 mod print;

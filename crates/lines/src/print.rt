@@ -1,54 +1,61 @@
-// Printing to standard output, without line ends.
-ghost use Rattle.std.specs.Prelude.{◌≡◌, length};
-ghost use Rattle.io.specs.Digits.{IsDigitCount};
+// Printing to a writer, without line ends.
+ghost use Rattle.std.specs.Prelude.{◌≡◌, IfOk, length};
+ghost use Rattle.lines.specs.Digits.{IsDigitCount};
 ghost use Rattle.refusal.specs.Table.{number_of};
 
-use libc::STDOUT_FILENO;
 use refusal::Refusal;
+use std::io;
+use std::io::Write;
 
 // The bytes as they stand; answers how many there are.
-pub fn text(bytes: &[u8]) -> usize
-    ensures { result ≡ length bytes.now }
+pub fn text(output: &mut impl Write, bytes: &[u8]) -> io::Result<usize>
+    ensures { IfOk result (λ n. n ≡ length bytes.now) }
 {
-    io::write_all(STDOUT_FILENO, bytes);
-    bytes.len()
+    output.write_all(bytes)?;
+    Ok(bytes.len())
 }
 
 // Two digits for each byte; answers how many bytes there are.
-pub fn hex(bytes: &[u8]) -> usize
-    ensures { result ≡ length bytes.now }
+pub fn hex(output: &mut impl Write, bytes: &[u8]) -> io::Result<usize>
+    ensures { IfOk result (λ n. n ≡ length bytes.now) }
 {
-    let mut i: usize = 0;
-    while i < bytes.len() {
-        byte(bytes[i]);
-        i += 1;
+    for b in bytes {
+        byte(output, *b)?;
     }
-    i
+    Ok(bytes.len())
 }
 
-fn byte(b: u8) {
-    io::print_hex(STDOUT_FILENO, b as u64, 2);
+fn byte(output: &mut impl Write, b: u8) -> io::Result<()> {
+    let digits = b"0123456789abcdef";
+    output.write_all(&[digits[(b / 16) as usize], digits[(b % 16) as usize]])
 }
 
 // A number in decimal; answers how many digits it takes.
-pub fn number(n: usize) -> usize
+pub fn number(output: &mut impl Write, n: usize) -> io::Result<usize>
+    ensures { IfOk result (λ k. IsDigitCount 10 1 n k) }
+{
+    write!(output, "{n}")?;
+    Ok(digit_count(n))
+}
+
+fn digit_count(n: usize) -> usize
     ensures { IsDigitCount 10 1 n result }
 {
-    let mut digits = [0u8; 20];
-    let count = io::decimal(n as u64, &mut digits);
-    io::write_all(STDOUT_FILENO, &digits[..count]);
-    count
+    match n.checked_ilog10() {
+        None => 1,
+        Some(k) => k as usize + 1,
+    }
 }
 
 // A refusal: R and its number where it is the host's, the alert's number alone where it is the client's.
 // Answers the number.
-pub fn refused(r: Refusal) -> u8
-    ensures { result ≡ number_of r }
+pub fn refused(output: &mut impl Write, r: Refusal) -> io::Result<u8>
+    ensures { IfOk result (λ n. n ≡ number_of r) }
 {
     if !refusal::for_peer(r) {
-        text(b"R");
+        text(output, b"R")?;
     }
     let n = refusal::number(r);
-    number(n as usize);
-    n
+    number(output, n as usize)?;
+    Ok(n)
 }

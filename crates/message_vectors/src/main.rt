@@ -14,43 +14,51 @@ use hellos::server_hello::Server;
 use layout::Part;
 use messages::ticket::Ticket;
 use refusal::{Refusal, Written};
+use std::io;
+use std::io::{Read, Write};
 
-fn print_number(n: usize) {
-    lines::text(b" ");
-    lines::number(n);
+fn print_number(output: &mut impl Write, n: usize) -> io::Result<()> {
+    lines::text(output, b" ")?;
+    lines::number(output, n)?;
+    Ok(())
 }
 
-fn print_refusal(r: Refusal) {
-    print_number(refusal::number(r) as usize);
+fn print_refusal(output: &mut impl Write, r: Refusal) -> io::Result<()> {
+    print_number(output, refusal::number(r) as usize)
 }
 
 // Whether what was written is the message.
-fn print_again(said: Written, out: &[u8], message: &[u8]) {
+fn print_again(
+    output: &mut impl Write,
+    said: Written,
+    out: &[u8],
+    message: &[u8],
+) -> io::Result<()> {
     match said {
         Written::Wrote(n) => {
-            if check::same(lines::part(out, 0, n), message) {
-                lines::text(b" same");
+            if lists::same(lines::part(out, 0, n), message) {
+                lines::text(output, b" same")?;
             } else {
-                lines::text(b" other");
+                lines::text(output, b" other")?;
             }
         }
-        Written::Refused(r) => print_refusal(r),
+        Written::Refused(r) => print_refusal(output, r)?,
     }
+    Ok(())
 }
 
 // The extensions of a block, each as its type and length. A block has fewer than it has bytes.
-fn print_extensions(block: &[u8]) {
+fn print_extensions(output: &mut impl Write, block: &[u8]) -> io::Result<()> {
     let mut at: usize = 0;
-    let mut left: usize = block.len();
-    while 0 < left {
+    for _ in 0..block.len() {
         let Step::Extension { kind, start, len } = extensions::next(block, at) else {
-            return;
+            break;
         };
-        print_number(kind);
-        print_number(len);
-        at = std::num::wrapping_add_usize(start, len);
-        left -= 1;
+        print_number(output, kind)?;
+        print_number(output, len)?;
+        at = start.wrapping_add(len);
     }
+    Ok(())
 }
 
 fn is_present(block: Block) -> bool {
@@ -60,23 +68,24 @@ fn is_present(block: Block) -> bool {
     }
 }
 
-// Prints a block, and answers its contents; of an absent one, none.
-fn show_block(block: Block, message: &[u8]) -> &[u8] {
+// A block's contents; of an absent one, none.
+fn contents(block: Block, message: &[u8]) -> &[u8] {
     match block {
-        Block::Absent => {
-            lines::text(b" absent");
-            lines::part(message, 0, 0)
-        }
-        Block::At { start, len } => {
-            let contents = lines::part(message, start, len);
-            print_extensions(contents);
-            contents
-        }
+        Block::Absent => lines::part(message, 0, 0),
+        Block::At { start, len } => lines::part(message, start, len),
     }
 }
 
-fn show_client(message: &[u8], out: &mut [u8]) {
-    lines::text(b" ClientHello");
+fn show_block(output: &mut impl Write, block: Block, message: &[u8]) -> io::Result<()> {
+    if !is_present(block) {
+        lines::text(output, b" absent")?;
+        return Ok(());
+    }
+    print_extensions(output, contents(block, message))
+}
+
+fn show_client(output: &mut impl Write, message: &[u8], out: &mut [u8]) -> io::Result<()> {
+    lines::text(output, b" ClientHello")?;
     match hellos::client_hello::read(message) {
         Client::Read {
             version,
@@ -87,13 +96,13 @@ fn show_client(message: &[u8], out: &mut [u8]) {
             methods_len,
             block,
         } => {
-            print_number(version);
-            print_number(session_len);
-            print_number(suites_start);
-            print_number(suites_len);
-            print_number(methods_start);
-            print_number(methods_len);
-            let extensions = show_block(block, message);
+            print_number(output, version)?;
+            print_number(output, session_len)?;
+            print_number(output, suites_start)?;
+            print_number(output, suites_len)?;
+            print_number(output, methods_start)?;
+            print_number(output, methods_len)?;
+            show_block(output, block, message)?;
             let said = hellos::client_hello::write(
                 version,
                 lines::part(message, 6, 32),
@@ -101,17 +110,17 @@ fn show_client(message: &[u8], out: &mut [u8]) {
                 lines::part(message, suites_start, suites_len),
                 lines::part(message, methods_start, methods_len),
                 is_present(block),
-                extensions,
+                contents(block, message),
                 out,
             );
-            print_again(said, out, message);
+            print_again(output, said, out, message)
         }
-        Client::Refused => print_refusal(Refusal::DecodeError),
+        Client::Refused => print_refusal(output, Refusal::DecodeError),
     }
 }
 
-fn show_server(message: &[u8], out: &mut [u8]) {
-    lines::text(b" ServerHello");
+fn show_server(output: &mut impl Write, message: &[u8], out: &mut [u8]) -> io::Result<()> {
+    lines::text(output, b" ServerHello")?;
     match hellos::server_hello::read(message) {
         Server::Read {
             version,
@@ -120,11 +129,11 @@ fn show_server(message: &[u8], out: &mut [u8]) {
             compression,
             block,
         } => {
-            print_number(version);
-            print_number(session_len);
-            print_number(suite);
-            print_number(compression as usize);
-            let extensions = show_block(block, message);
+            print_number(output, version)?;
+            print_number(output, session_len)?;
+            print_number(output, suite)?;
+            print_number(output, compression as usize)?;
+            show_block(output, block, message)?;
             let said = hellos::server_hello::write(
                 version,
                 lines::part(message, 6, 32),
@@ -132,31 +141,31 @@ fn show_server(message: &[u8], out: &mut [u8]) {
                 suite,
                 compression,
                 is_present(block),
-                extensions,
+                contents(block, message),
                 out,
             );
-            print_again(said, out, message);
+            print_again(output, said, out, message)
         }
-        Server::Refused => print_refusal(Refusal::DecodeError),
+        Server::Refused => print_refusal(output, Refusal::DecodeError),
     }
 }
 
-fn show_ticket(message: &[u8], out: &mut [u8]) {
-    lines::text(b" NewSessionTicket");
+fn show_ticket(output: &mut impl Write, message: &[u8], out: &mut [u8]) -> io::Result<()> {
+    lines::text(output, b" NewSessionTicket")?;
     match messages::ticket::read(message) {
         Ticket::Read {
             lifetime_hint,
             start,
             len,
         } => {
-            print_number(lifetime_hint as usize);
-            print_number(start);
-            print_number(len);
+            print_number(output, lifetime_hint as usize)?;
+            print_number(output, start)?;
+            print_number(output, len)?;
             let ticket = lines::part(message, start, len);
             let said = messages::ticket::write(lifetime_hint, ticket, out);
-            print_again(said, out, message);
+            print_again(output, said, out, message)
         }
-        Ticket::Refused => print_refusal(Refusal::DecodeError),
+        Ticket::Refused => print_refusal(output, Refusal::DecodeError),
     }
 }
 
@@ -172,85 +181,99 @@ fn write(kind: u8, field: &[u8], out: &mut [u8]) -> Written {
 }
 
 // What a reader of a message of one field says, and that field written again.
-fn show_part(kind: u8, read: Part, message: &[u8], out: &mut [u8]) {
+fn show_part(
+    output: &mut impl Write,
+    kind: u8,
+    read: Part,
+    message: &[u8],
+    out: &mut [u8],
+) -> io::Result<()> {
     match read {
         Part::At { start, len } => {
-            print_number(start);
-            print_number(len);
+            print_number(output, start)?;
+            print_number(output, len)?;
             let said = write(kind, lines::part(message, start, len), out);
-            print_again(said, out, message);
+            print_again(output, said, out, message)
         }
-        Part::Refused => print_refusal(Refusal::DecodeError),
+        Part::Refused => print_refusal(output, Refusal::DecodeError),
     }
 }
 
-fn show_parts(message: &[u8], out: &mut [u8]) {
-    lines::text(b" ServerKeyExchange");
-    show_part(12, messages::key_exchange::read_hint(message), message, out);
-    lines::text(b" ClientKeyExchange");
-    print_number(messages::key_exchange::identity(message).len());
+fn show_parts(output: &mut impl Write, message: &[u8], out: &mut [u8]) -> io::Result<()> {
+    lines::text(output, b" ServerKeyExchange")?;
+    let hint = messages::key_exchange::read_hint(message);
+    show_part(output, 12, hint, message, out)?;
+    lines::text(output, b" ClientKeyExchange")?;
+    print_number(output, messages::key_exchange::identity(message).len())?;
+    let identity = messages::key_exchange::read_identity(message);
+    show_part(output, 16, identity, message, out)?;
+    lines::text(output, b" ServerHelloDone")?;
     show_part(
-        16,
-        messages::key_exchange::read_identity(message),
+        output,
+        14,
+        messages::fixed::read_done(message),
         message,
         out,
-    );
-    lines::text(b" ServerHelloDone");
-    show_part(14, messages::fixed::read_done(message), message, out);
-    lines::text(b" Finished");
-    show_part(20, messages::fixed::read_finished(message), message, out);
+    )?;
+    lines::text(output, b" Finished")?;
+    show_part(
+        output,
+        20,
+        messages::fixed::read_finished(message),
+        message,
+        out,
+    )
 }
 
-fn show(message: &[u8], out: &mut [u8]) {
-    show_client(message, out);
-    show_server(message, out);
-    show_ticket(message, out);
-    show_parts(message, out);
-    lines::text(b"\n");
+fn show(output: &mut impl Write, message: &[u8], out: &mut [u8]) -> io::Result<()> {
+    show_client(output, message, out)?;
+    show_server(output, message, out)?;
+    show_ticket(output, message, out)?;
+    show_parts(output, message, out)?;
+    lines::text(output, b"\n")?;
+    Ok(())
 }
 
 // How far the bytes, all FF before, have changed.
 fn changed(out: &[u8]) -> usize {
     let mut end: usize = 0;
-    let mut i: usize = 0;
-    while i < out.len() {
-        let next = i + 1;
+    for i in 0..out.len() {
         if out[i] != 255 {
-            end = next;
+            end = i + 1;
         }
-        i = next;
     }
     end
 }
 
 // How many bytes were written, or the number of the refusal, and how far the output has changed.
-fn print_said(said: Written, out: &[u8]) {
+fn print_said(output: &mut impl Write, said: Written, out: &[u8]) -> io::Result<()> {
     match said {
-        Written::Wrote(n) => print_number(n),
-        Written::Refused(r) => print_refusal(r),
+        Written::Wrote(n) => print_number(output, n)?,
+        Written::Refused(r) => print_refusal(output, r)?,
     }
-    print_number(changed(out));
+    print_number(output, changed(out))
 }
 
 // The first bytes of an extension that was written. How many there are says nothing of its type, nor of
 // the lengths that it states.
-fn print_front(said: Written, out: &[u8]) {
+fn print_front(output: &mut impl Write, said: Written, out: &[u8]) -> io::Result<()> {
     if let Written::Wrote(n) = said {
-        lines::text(b" ");
-        lines::hex(lines::part(lines::part(out, 0, n), 0, 8));
+        lines::text(output, b" ")?;
+        lines::hex(output, lines::part(lines::part(out, 0, n), 0, 8))?;
     }
+    Ok(())
 }
 
 // A ClientHello's writer, for fields of 07s whose sizes come from the input.
-fn try_client(block: &[u8], out: &mut [u8]) -> Written {
+fn try_client(input: &mut impl Read, block: &[u8], out: &mut [u8]) -> io::Result<Written> {
     let bytes = [7u8; 16400];
-    let version = lines::number24();
-    let present = lines::byte() == 1;
-    let random = lines::number16();
-    let session_id = lines::number16();
-    let suites = lines::number16();
-    let methods = lines::number16();
-    hellos::client_hello::write(
+    let version = lines::number24(input)?;
+    let present = lines::byte(input)? == 1;
+    let random = lines::number16(input)?;
+    let session_id = lines::number16(input)?;
+    let suites = lines::number16(input)?;
+    let methods = lines::number16(input)?;
+    Ok(hellos::client_hello::write(
         version,
         lines::part(&bytes, 0, random),
         lines::part(&bytes, 0, session_id),
@@ -259,68 +282,76 @@ fn try_client(block: &[u8], out: &mut [u8]) -> Written {
         present,
         block,
         out,
-    )
+    ))
 }
 
 // A ServerHello's writer, for a random of 07s and no session id.
-fn try_server(block: &[u8], out: &mut [u8]) -> Written {
-    let suite = lines::number24();
-    let present = lines::byte() == 1;
-    hellos::server_hello::write(771, &[7u8; 32], &[], suite, 0, present, block, out)
+fn try_server(input: &mut impl Read, block: &[u8], out: &mut [u8]) -> io::Result<Written> {
+    let suite = lines::number24(input)?;
+    let present = lines::byte(input)? == 1;
+    Ok(hellos::server_hello::write(771, &[7u8; 32], &[], suite, 0, present, block, out))
 }
 
 // What a writer answers, for one field, or a block and what else a hello takes: 2 and 3 stand for the
 // hellos, 5 for an extension, whose type follows, 35 for a SessionTicket extension, any other number for its
 // message's type.
-fn answer(kind: u8, out: &mut [u8]) -> Written {
+fn answer(input: &mut impl Read, kind: u8, out: &mut [u8]) -> io::Result<Written> {
     let mut buffer = lines::buffer();
-    let size = lines::field(&mut buffer);
+    let size = lines::field(input, &mut buffer)?;
     let field = lines::part(&buffer, 0, size);
     match kind {
-        2 => try_server(field, out),
-        3 => try_client(field, out),
-        5 => extensions::write(lines::number24(), field, out),
-        35 => extensions::write_ticket(field, out),
-        _ => write(kind, field, out),
+        2 => try_server(input, field, out),
+        3 => try_client(input, field, out),
+        5 => {
+            let number = lines::number24(input)?;
+            Ok(extensions::write(number, field, out))
+        }
+        35 => Ok(extensions::write_ticket(field, out)),
+        _ => Ok(write(kind, field, out)),
     }
 }
 
-fn try_writer(kind: u8) {
-    let room = lines::number16();
+fn try_writer(input: &mut impl Read, output: &mut impl Write, kind: u8) -> io::Result<()> {
+    let room = lines::number16(input)?;
     if 16400 < room {
-        return;
+        return Ok(());
     }
     let mut lent = [255u8; 16400];
     let out = &mut lent[16400 - room..];
-    let said = answer(kind, out);
-    print_said(said, out);
+    let said = answer(input, kind, out)?;
+    print_said(output, said, out)?;
     if kind == 5 || kind == 35 {
-        print_front(said, out);
+        print_front(output, said, out)?;
     }
-    lines::text(b"\n");
+    lines::text(output, b"\n")?;
+    Ok(())
 }
 
 // A call of the input, and whether there was one.
-fn call() -> bool {
-    let kind = lines::byte();
+fn call(input: &mut impl Read, output: &mut impl Write) -> io::Result<bool> {
+    let kind = lines::byte(input)?;
     if kind == 0 {
-        return false;
+        return Ok(false);
     }
     if kind != 1 {
-        try_writer(kind);
-        return true;
+        try_writer(input, output, kind)?;
+        return Ok(true);
     }
     let mut buffer = [0u8; 16400];
     let mut out = [0u8; 16400];
-    let n = lines::field(&mut buffer);
-    show(lines::part(&buffer, 0, n), &mut out);
-    true
+    let n = lines::field(input, &mut buffer)?;
+    show(output, lines::part(&buffer, 0, n), &mut out)?;
+    Ok(true)
 }
 
-// Nothing says that input ends, so the calls are counted, from a number that no input has.
-fn main() {
-    let mut left: u32 = 1000000;
-    while 0 < left && call() {
-        left -= 1;
+// Nothing says that input ends, so the calls are counted, up to a number that no input has.
+fn main(rt: HostRuntime) -> io::Result<()> {
+    let mut input = rt.stdin();
+    let mut output = rt.stdout();
+    for _ in 0..1000000u32 {
+        if !call(&mut input, &mut output)? {
+            break;
+        }
     }
+    Ok(())
 }

@@ -16,6 +16,8 @@ ghost use Rattle.std.specs.Prelude.{◌≤◌};
 use record_server::{Answer, Data, RecordConnection, Taken};
 use refusal::Written;
 use server::Named;
+use std::io;
+use std::io::{Read, Write};
 
 // How long the table is, and how many line starts the list beside it has.
 #[derive(Clone, Copy)]
@@ -25,35 +27,38 @@ struct Sizes {
 }
 
 // Bytes; of long ones the first eight of their SHA-256.
-fn print_bytes(bytes: &[u8]) {
-    lines::text(b" ");
+fn print_bytes(output: &mut impl Write, bytes: &[u8]) -> io::Result<()> {
+    lines::text(output, b" ")?;
     if bytes.len() < 256 {
-        lines::hex(bytes);
-        return;
+        lines::hex(output, bytes)?;
+        return Ok(());
     }
     let mut digest = [0u8; 32];
     sha256::hash(bytes, &mut digest);
-    lines::hex(lines::part(&digest, 0, 8));
+    lines::hex(output, lines::part(&digest, 0, 8))?;
+    Ok(())
 }
 
 // How many bytes were written, the alert, or the R number.
-fn print_said(said: Written) {
+fn print_said(output: &mut impl Write, said: Written) -> io::Result<()> {
     match said {
         Written::Wrote(n) => {
-            lines::text(b"wrote ");
-            lines::number(n);
+            lines::text(output, b"wrote ")?;
+            lines::number(output, n)?;
         }
         Written::Refused(r) => {
             if refusal::for_peer(r) {
-                lines::text(b"alert ");
+                lines::text(output, b"alert ")?;
             }
-            lines::refused(r);
+            lines::refused(output, r)?;
         }
     }
+    Ok(())
 }
 
-fn end_line() {
-    lines::text(b"\n");
+fn end_line(output: &mut impl Write) -> io::Result<()> {
+    lines::text(output, b"\n")?;
+    Ok(())
 }
 
 fn named(byte: u8) -> Named {
@@ -66,17 +71,17 @@ fn named(byte: u8) -> Named {
     Named::Nothing
 }
 
-fn start() -> RecordConnection {
-    let rule = named(lines::byte());
+fn start(input: &mut impl Read, output: &mut impl Write) -> io::Result<RecordConnection> {
+    let rule = named(lines::byte(input)?);
     let mut random = [0u8; 255];
     let mut hint = [0u8; 255];
     let mut stand_in = [0u8; 255];
-    let random_length = lines::byte() as usize;
-    lines::fill(&mut random, random_length);
-    let hint_length = lines::byte() as usize;
-    lines::fill(&mut hint, hint_length);
-    let key_length = lines::byte() as usize;
-    lines::fill(&mut stand_in, key_length);
+    let random_length = lines::byte(input)? as usize;
+    lines::fill(input, &mut random, random_length)?;
+    let hint_length = lines::byte(input)? as usize;
+    lines::fill(input, &mut hint, hint_length)?;
+    let key_length = lines::byte(input)? as usize;
+    lines::fill(input, &mut stand_in, key_length)?;
     let answer = record_server::start(
         lines::part(&random, 0, random_length),
         lines::part(&hint, 0, hint_length),
@@ -84,35 +89,36 @@ fn start() -> RecordConnection {
         rule,
     );
     let said = answer.said;
-    lines::text(b"start ");
-    print_said(said);
-    end_line();
-    answer.next
+    lines::text(output, b"start ")?;
+    print_said(output, said)?;
+    end_line(output)?;
+    Ok(answer.next)
 }
 
 // The rest of a record's line: application data, and the master secret where one was handed over with how many blocks
 // were hashed for it.
-fn print_taken(taken: Taken, received: &[u8]) {
+fn print_taken(output: &mut impl Write, taken: Taken, received: &[u8]) -> io::Result<()> {
     let holds = taken.holds;
     match holds {
         Data::Nothing => {}
         Data::Bytes(_) => {
-            lines::text(b" data");
-            print_bytes(record_server::application_data(holds, received));
+            lines::text(output, b" data")?;
+            print_bytes(output, record_server::application_data(holds, received))?;
         }
     }
     if taken.handed {
         let master = taken.master;
-        lines::text(b" blocks ");
-        lines::number(taken.blocks as usize);
-        lines::text(b" master");
-        print_bytes(&master);
+        lines::text(output, b" blocks ")?;
+        lines::number(output, taken.blocks as usize)?;
+        lines::text(output, b" master")?;
+        print_bytes(output, &master)?;
     }
-    end_line();
+    end_line(output)
 }
 
 // A record's line: what was said, the whole output, and the memory's digest.
 fn take_one(
+    output: &mut impl Write,
     c: RecordConnection,
     table: &[u8],
     starts: &[u32],
@@ -120,31 +126,34 @@ fn take_one(
     received: &[u8],
     memory: &mut [u8],
     out: &mut [u8],
-) -> RecordConnection {
+) -> io::Result<RecordConnection> {
     let taken = record_server::take(c, table, starts, count, received, memory, out);
     let said = taken.said;
-    lines::text(b"record ");
-    print_said(said);
-    print_bytes(out);
-    print_bytes(memory);
-    print_taken(taken, received);
-    taken.next
+    lines::text(output, b"record ")?;
+    print_said(output, said)?;
+    print_bytes(output, out)?;
+    print_bytes(output, memory)?;
+    print_taken(output, taken, received)?;
+    Ok(taken.next)
 }
 
 // The table is the front of its buffer.
 fn take(
+    input: &mut impl Read,
+    output: &mut impl Write,
     c: RecordConnection,
     table: &[u8],
     starts: &[u32],
     sizes: Sizes,
     memory: &mut [u8],
-) -> RecordConnection {
+) -> io::Result<RecordConnection> {
     let mut bytes = [0u8; 16500];
     let mut lent = [0xeeu8; 255];
-    let room = lines::byte() as usize;
-    let size = lines::number24();
-    lines::fill(&mut bytes, size);
+    let room = lines::byte(input)? as usize;
+    let size = lines::number24(input)?;
+    lines::fill(input, &mut bytes, size)?;
     take_one(
+        output,
         c,
         lines::part(table, 0, sizes.table),
         starts,
@@ -156,18 +165,23 @@ fn take(
 }
 
 // The end of a line that has what was said and the whole output.
-fn answered(answer: Answer, out: &[u8]) -> RecordConnection {
+fn answered(output: &mut impl Write, answer: Answer, out: &[u8]) -> io::Result<RecordConnection> {
     let said = answer.said;
-    print_said(said);
-    print_bytes(out);
-    end_line();
-    answer.next
+    print_said(output, said)?;
+    print_bytes(output, out)?;
+    end_line(output)?;
+    Ok(answer.next)
 }
 
-fn send_one(c: RecordConnection, content: &[u8], out: &mut [u8]) -> RecordConnection {
+fn send_one(
+    output: &mut impl Write,
+    c: RecordConnection,
+    content: &[u8],
+    out: &mut [u8],
+) -> io::Result<RecordConnection> {
     let answer = record_server::send(c, content, out);
-    lines::text(b"send ");
-    answered(answer, out)
+    lines::text(output, b"send ")?;
+    answered(output, answer, out)
 }
 
 // How much of n bytes there is to be lent.
@@ -180,65 +194,79 @@ fn room_of(n: usize) -> usize
     n
 }
 
-fn send(c: RecordConnection) -> RecordConnection {
+fn send(
+    input: &mut impl Read,
+    output: &mut impl Write,
+    c: RecordConnection,
+) -> io::Result<RecordConnection> {
     let mut bytes = [0u8; 16500];
     let mut lent = [0xeeu8; 16500];
-    let room = room_of(lines::number24());
-    let size = lines::number24();
-    lines::fill(&mut bytes, size);
-    send_one(c, lines::part(&bytes, 0, size), &mut lent[16500 - room..])
+    let room = room_of(lines::number24(input)?);
+    let size = lines::number24(input)?;
+    lines::fill(input, &mut bytes, size)?;
+    send_one(
+        output,
+        c,
+        lines::part(&bytes, 0, size),
+        &mut lent[16500 - room..],
+    )
 }
 
-fn close_one(c: RecordConnection, out: &mut [u8]) -> RecordConnection {
+fn close_one(
+    output: &mut impl Write,
+    c: RecordConnection,
+    out: &mut [u8],
+) -> io::Result<RecordConnection> {
     let answer = record_server::close(c, out);
-    lines::text(b"close ");
-    answered(answer, out)
+    lines::text(output, b"close ")?;
+    answered(output, answer, out)
 }
 
-fn alert_one(c: RecordConnection, out: &mut [u8]) {
+fn alert_one(output: &mut impl Write, c: RecordConnection, out: &mut [u8]) -> io::Result<()> {
     let said = record_server::alert(c, out);
-    lines::text(b"alert ");
-    print_said(said);
-    print_bytes(out);
-    end_line();
+    lines::text(output, b"alert ")?;
+    print_said(output, said)?;
+    print_bytes(output, out)?;
+    end_line(output)
 }
 
-fn close(c: RecordConnection) -> RecordConnection {
+fn close(
+    input: &mut impl Read,
+    output: &mut impl Write,
+    c: RecordConnection,
+) -> io::Result<RecordConnection> {
     let mut lent = [0xeeu8; 255];
-    let room = lines::byte() as usize;
-    close_one(c, &mut lent[255 - room..])
+    let room = lines::byte(input)? as usize;
+    close_one(output, c, &mut lent[255 - room..])
 }
 
-fn alert(c: RecordConnection) {
+fn alert(input: &mut impl Read, output: &mut impl Write, c: RecordConnection) -> io::Result<()> {
     let mut lent = [0xeeu8; 255];
-    let room = lines::byte() as usize;
-    alert_one(c, &mut lent[255 - room..]);
+    let room = lines::byte(input)? as usize;
+    alert_one(output, c, &mut lent[255 - room..])
 }
 
 fn once(
+    input: &mut impl Read,
+    output: &mut impl Write,
     call: u8,
     c: RecordConnection,
     table: &[u8],
     starts: &[u32],
     sizes: Sizes,
     memory: &mut [u8],
-) -> RecordConnection {
-    if call == 1 {
-        return start();
+) -> io::Result<RecordConnection> {
+    match call {
+        1 => start(input, output),
+        3 => take(input, output, c, table, starts, sizes, memory),
+        4 => send(input, output, c),
+        5 => close(input, output, c),
+        6 => {
+            alert(input, output, c)?;
+            Ok(c)
+        }
+        _ => Ok(c),
     }
-    if call == 3 {
-        return take(c, table, starts, sizes, memory);
-    }
-    if call == 4 {
-        return send(c);
-    }
-    if call == 5 {
-        return close(c);
-    }
-    if call == 6 {
-        alert(c);
-    }
-    c
 }
 
 // Before the first call: a connection that is closed.
@@ -248,60 +276,77 @@ fn nothing() -> RecordConnection {
 }
 
 // Call 2: another table, and its list where it is well formed.
-fn new_table(table: &mut [u8], starts: &mut [u32], sizes: Sizes) -> Sizes {
-    let n = lines::number24();
-    let size = lines::fill(table, n);
+fn new_table(
+    input: &mut impl Read,
+    table: &mut [u8],
+    starts: &mut [u32],
+    sizes: Sizes,
+) -> io::Result<Sizes> {
+    let n = lines::number24(input)?;
+    let size = lines::fill(input, table, n)?;
     let made = keytable::make_list(lines::part(table, 0, size), starts);
     match made {
-        Written::Wrote(count) => Sizes { table: size, count },
-        Written::Refused(_) => Sizes {
+        Written::Wrote(count) => Ok(Sizes { table: size, count }),
+        Written::Refused(_) => Ok(Sizes {
             table: size,
             count: sizes.count,
-        },
+        }),
     }
 }
 
 // Call 7: another count, and another number at a place of the list.
-fn new_list(starts: &mut [u32], sizes: Sizes) -> Sizes {
-    let count = lines::number24();
-    let at = lines::number16();
-    let start = lines::number24() as u32;
+fn new_list(input: &mut impl Read, starts: &mut [u32], sizes: Sizes) -> io::Result<Sizes> {
+    let count = lines::number24(input)?;
+    let at = lines::number16(input)?;
+    let start = lines::number24(input)? as u32;
     if at < starts.len() {
         starts[at] = start;
     }
-    Sizes {
+    Ok(Sizes {
         table: sizes.table,
         count,
-    }
+    })
 }
 
 // The sizes of table and list from now on: calls 2 and 7 bring others.
-fn next_table(call: u8, table: &mut [u8], starts: &mut [u32], sizes: Sizes) -> Sizes {
-    if call == 2 {
-        return new_table(table, starts, sizes);
+fn next_table(
+    input: &mut impl Read,
+    call: u8,
+    table: &mut [u8],
+    starts: &mut [u32],
+    sizes: Sizes,
+) -> io::Result<Sizes> {
+    match call {
+        2 => new_table(input, table, starts, sizes),
+        7 => new_list(input, starts, sizes),
+        _ => Ok(sizes),
     }
-    if call == 7 {
-        return new_list(starts, sizes);
-    }
-    sizes
 }
 
-fn main() {
+fn main(rt: HostRuntime) -> io::Result<()> {
+    let mut input = rt.stdin();
+    let mut output = rt.stdout();
     let mut table = [0u8; 70000];
     let mut starts = [0u32; 257];
     let mut memory = [0xeeu8; 16384];
     let mut sizes = Sizes { table: 0, count: 0 };
     let mut c = nothing();
-    let mut calls: usize = 0;
-    while calls < 65536 {
-        let call = lines::byte();
+    for _ in 0..65536u32 {
+        let call = lines::byte(&mut input)?;
         if call == 0 {
             break;
         }
-        let others = next_table(call, &mut table, &mut starts, sizes);
-        sizes = others;
-        let next = once(call, c, &table, &starts, sizes, &mut memory);
-        c = next;
-        calls += 1;
+        sizes = next_table(&mut input, call, &mut table, &mut starts, sizes)?;
+        c = once(
+            &mut input,
+            &mut output,
+            call,
+            c,
+            &table,
+            &starts,
+            sizes,
+            &mut memory,
+        )?;
     }
+    Ok(())
 }

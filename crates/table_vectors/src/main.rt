@@ -9,139 +9,163 @@
 // third field, and in three bytes the length that is told to be the table's.
 #![tactic(auto)]
 
-ghost use Rattle.std.specs.Prelude.{◌≤◌};
+ghost use Rattle.std.specs.Prelude.{◌≤◌, IfOk};
 
 use keytable::Judged;
 use refusal::Written;
+use std::io;
+use std::io::{Read, Write};
 
 // A line: the bytes, and whether they are UTF-8.
-fn print_text(text: &[u8]) {
-    lines::hex(text);
+fn print_text(output: &mut impl Write, text: &[u8]) -> io::Result<()> {
+    lines::hex(output, text)?;
     if utf8::valid_utf8(text) {
-        lines::text(b" UTF-8\n");
+        lines::text(output, b" UTF-8\n")?;
     } else {
-        lines::text(b" bad\n");
+        lines::text(output, b" bad\n")?;
     }
+    Ok(())
 }
 
 // A line: a name, and whether the table is well formed.
-fn print_table(name: &[u8], table: &[u8]) {
-    lines::text(name);
+fn print_table(output: &mut impl Write, name: &[u8], table: &[u8]) -> io::Result<()> {
+    lines::text(output, name)?;
     if keytable::well_formed(table) {
-        lines::text(b": well formed\n");
+        lines::text(output, b": well formed\n")?;
     } else {
-        lines::text(b": R2\n");
+        lines::text(output, b": R2\n")?;
     }
+    Ok(())
 }
 
 // How many numbers a list's memory has, of those that there is room for.
-fn list_room() -> usize
-    ensures { result ≤ 300 }
+fn list_room(input: &mut impl Read) -> io::Result<usize>
+    ensures { IfOk result (λ n. n ≤ 300) }
 {
-    let n = lines::number16();
+    let n = lines::number16(input)?;
     if 300 < n {
-        return 300;
+        return Ok(300);
     }
-    n
+    Ok(n)
 }
 
 // The number in the next four bytes.
-fn number32() -> u32 {
-    let high = lines::number16() as u32;
-    let low = lines::number16() as u32;
-    high * 65536 + low
+fn number32(input: &mut impl Read) -> io::Result<u32> {
+    let high = lines::number16(input)? as u32;
+    let low = lines::number16(input)? as u32;
+    Ok(high * 65536 + low)
 }
 
 // Reads the numbers of a list's memory.
-fn read_list(starts: &mut [u32]) {
-    let mut i: usize = 0;
-    while i < starts.len() {
-        let n = number32();
-        starts[i] = n;
-        i += 1;
+fn read_list(input: &mut impl Read, starts: &mut [u32]) -> io::Result<()> {
+    for start in starts {
+        *start = number32(input)?;
     }
+    Ok(())
 }
 
-fn print_start(start: u32) {
-    lines::text(b" ");
-    lines::number(start as usize);
+fn print_start(output: &mut impl Write, start: u32) -> io::Result<()> {
+    lines::text(output, b" ")?;
+    lines::number(output, start as usize)?;
+    Ok(())
 }
 
 // All numbers of a list's memory, those behind the count too.
-fn print_starts(starts: &[u32]) {
-    let mut i: usize = 0;
-    while i < starts.len() {
-        print_start(starts[i]);
-        i += 1;
+fn print_starts(output: &mut impl Write, starts: &[u32]) -> io::Result<()> {
+    for start in starts {
+        print_start(output, *start)?;
     }
+    Ok(())
 }
 
 // The end of a line that has a list's memory.
-fn print_list(starts: &[u32]) {
-    lines::text(b":");
-    print_starts(starts);
-    lines::text(b"\n");
+fn print_list(output: &mut impl Write, starts: &[u32]) -> io::Result<()> {
+    lines::text(output, b":")?;
+    print_starts(output, starts)?;
+    lines::text(output, b"\n")?;
+    Ok(())
 }
 
 // A number, or the refusal.
-fn print_number(said: Written) {
+fn print_number(output: &mut impl Write, said: Written) -> io::Result<()> {
     match said {
         Written::Wrote(n) => {
-            lines::number(n);
+            lines::number(output, n)?;
         }
         Written::Refused(r) => {
-            lines::refused(r);
+            lines::refused(output, r)?;
         }
     }
+    Ok(())
 }
 
 // A line: a name, how many lines the table has or the refusal, and the list's memory afterwards.
-fn print_made(name: &[u8], table: &[u8], starts: &mut [u32]) {
-    lines::text(name);
-    lines::text(b": list ");
+fn print_made(
+    output: &mut impl Write,
+    name: &[u8],
+    table: &[u8],
+    starts: &mut [u32],
+) -> io::Result<()> {
+    lines::text(output, name)?;
+    lines::text(output, b": list ")?;
     let said = keytable::make_list(table, starts);
-    print_number(said);
-    print_list(starts);
+    print_number(output, said)?;
+    print_list(output, starts)
 }
 
 // A line: a name, and whether the list is the table's.
-fn print_judged(name: &[u8], table: &[u8], starts: &[u32], count: usize) {
-    lines::text(name);
+fn print_judged(
+    output: &mut impl Write,
+    name: &[u8],
+    table: &[u8],
+    starts: &[u32],
+    count: usize,
+) -> io::Result<()> {
+    lines::text(output, name)?;
     let judged = keytable::judge(table, starts, count);
     match judged {
         Judged::Good => {
-            lines::text(b": its list");
+            lines::text(output, b": its list")?;
         }
         Judged::Refused(r) => {
-            lines::text(b": ");
-            lines::refused(r);
+            lines::text(output, b": ")?;
+            lines::refused(output, r)?;
         }
     }
-    lines::text(b"\n");
+    lines::text(output, b"\n")?;
+    Ok(())
 }
 
 // A line: the identity, and its key by that list or the refusal, with that room for the key.
-fn print_key(identity: &[u8], table: &[u8], starts: &[u32], count: usize, room: &mut [u8]) {
-    lines::hex(identity);
-    lines::text(b" ");
+fn print_key(
+    output: &mut impl Write,
+    identity: &[u8],
+    table: &[u8],
+    starts: &[u32],
+    count: usize,
+    room: &mut [u8],
+) -> io::Result<()> {
+    lines::hex(output, identity)?;
+    lines::text(output, b" ")?;
     let answer = keytable::lookup(table, starts, count, identity, room);
     match answer {
         Written::Wrote(n) => {
-            lines::hex(lines::part(room, 0, n));
+            lines::hex(output, lines::part(room, 0, n))?;
         }
         Written::Refused(r) => {
-            lines::refused(r);
+            lines::refused(output, r)?;
         }
     }
-    lines::text(b"\n");
+    lines::text(output, b"\n")?;
+    Ok(())
 }
 
 // The start of a line; answers how long it is.
-fn print_name(kind: u8) -> usize {
+fn print_name(output: &mut impl Write, kind: u8) -> io::Result<usize> {
     match kind {
-        4 => lines::text(b"add "),
-        5 => lines::text(b"replace "),
-        _ => lines::text(b"retire "),
+        4 => lines::text(output, b"add "),
+        5 => lines::text(output, b"replace "),
+        _ => lines::text(output, b"retire "),
     }
 }
 
@@ -162,25 +186,34 @@ fn edit(
 }
 
 // The new length or the refusal, and the memory afterwards; that of a long table is not printed.
-fn print_said(said: Written, memory: &[u8]) {
-    print_number(said);
+fn print_said(output: &mut impl Write, said: Written, memory: &[u8]) -> io::Result<()> {
+    print_number(output, said)?;
     if memory.len() <= 512 {
-        lines::text(b" [");
-        lines::hex(memory);
-        lines::text(b"]");
+        lines::text(output, b" [")?;
+        lines::hex(output, memory)?;
+        lines::text(output, b"]")?;
     }
+    Ok(())
 }
 
 // A line: the edit, the identity, what came of it, the count afterwards and the list's memory. Reads the key and the
 // length.
-fn print_edit(kind: u8, identity: &[u8], memory: &mut [u8], starts: &mut [u32], told: usize) {
+fn print_edit(
+    input: &mut impl Read,
+    output: &mut impl Write,
+    kind: u8,
+    identity: &[u8],
+    memory: &mut [u8],
+    starts: &mut [u32],
+    told: usize,
+) -> io::Result<()> {
     let mut buffer = [0u8; 65];
     let mut count = told;
-    let size = lines::field(&mut buffer);
-    let length = lines::number24();
-    print_name(kind);
-    lines::hex(identity);
-    lines::text(b" ");
+    let size = lines::field(input, &mut buffer)?;
+    let length = lines::number24(input)?;
+    print_name(output, kind)?;
+    lines::hex(output, identity)?;
+    lines::text(output, b" ")?;
     let said = edit(
         kind,
         memory,
@@ -190,46 +223,50 @@ fn print_edit(kind: u8, identity: &[u8], memory: &mut [u8], starts: &mut [u32], 
         identity,
         lines::part(&buffer, 0, size),
     );
-    print_said(said, memory);
-    lines::text(b" ");
-    lines::number(count);
-    print_list(starts);
+    print_said(output, said, memory)?;
+    lines::text(output, b" ")?;
+    lines::number(output, count)?;
+    print_list(output, starts)
 }
 
 // A call of the input, and whether there was one: 1 a text, 2 a table after its name, 3 an identity and
 // the table that it is looked for in, 4 to 6 an identity and the memory whose table is edited, 7 a table after its name
 // whose list is made, 8 a table after its name and a list that is held to it.
-fn call() -> bool {
-    let kind = lines::byte();
-    let room = lines::byte() as usize;
+fn call(input: &mut impl Read, output: &mut impl Write) -> io::Result<bool> {
+    let kind = lines::byte(input)?;
+    let room = lines::byte(input)? as usize;
     let mut a = [0u8; 129];
     let mut b = lines::buffer();
     let mut key = [0u8; 255];
     let mut list = [0u32; 300];
-    let a_size = lines::field(&mut a);
-    let b_size = lines::field(&mut b);
-    let list_size = list_room();
+    let a_size = lines::field(input, &mut a)?;
+    let b_size = lines::field(input, &mut b)?;
+    let list_size = list_room(input)?;
     let first = lines::part(&a, 0, a_size);
     let second = &mut b[..b_size];
     let starts = &mut list[300 - list_size..];
-    read_list(starts);
-    let count = lines::number24();
+    read_list(input, starts)?;
+    let count = lines::number24(input)?;
     match kind {
-        1 => print_text(first),
-        2 => print_table(first, second),
-        3 => print_key(first, second, starts, count, &mut key[255 - room..]),
-        4..=6 => print_edit(kind, first, second, starts, count),
-        7 => print_made(first, second, starts),
-        8 => print_judged(first, second, starts, count),
+        1 => print_text(output, first)?,
+        2 => print_table(output, first, second)?,
+        3 => print_key(output, first, second, starts, count, &mut key[255 - room..])?,
+        4..=6 => print_edit(input, output, kind, first, second, starts, count)?,
+        7 => print_made(output, first, second, starts)?,
+        8 => print_judged(output, first, second, starts, count)?,
         _ => {}
     }
-    kind != 0
+    Ok(kind != 0)
 }
 
-// Nothing says that input ends, so the calls are counted, from a number that no input has.
-fn main() {
-    let mut left: u32 = 1000000;
-    while 0 < left && call() {
-        left -= 1;
+// Nothing says that input ends, so the calls are counted, up to a number that no input has.
+fn main(rt: HostRuntime) -> io::Result<()> {
+    let mut input = rt.stdin();
+    let mut output = rt.stdout();
+    for _ in 0..1000000u32 {
+        if !call(&mut input, &mut output)? {
+            break;
+        }
     }
+    Ok(())
 }
