@@ -23,12 +23,11 @@ use Rattle.utf8.specs.Utf8.{valid_utf8}
 use Rattle.keytable.specs.Starts.{is_list}
 use Rattle.keytable.specs.Table.{well_formed, key_of}
 use Rattle.layout.specs.Layout.{bytes}
-use Rattle.hellos.specs.ClientHello.{client_hello}
 use Rattle.hellos.specs.ServerHello as Hellos
 use Rattle.hellos.specs.ServerHello.{server_hello}
 use Rattle.hellos.proofs.ClientHellos.{client-inverse}
 use Rattle.hellos.proofs.ServerHellos.{server-inverse}
-use Rattle.messages.specs.KeyExchange.{client_key_exchange, server_key_exchange}
+use Rattle.messages.specs.KeyExchange.{server_key_exchange}
 use Rattle.messages.specs.Fixed as Fixed
 use Rattle.messages.specs.Fixed.{server_hello_done}
 use Rattle.messages.proofs.KeyExchanges.{vector-valid, vector-inverse}
@@ -53,7 +52,7 @@ use Rattle.server.specs.Connection as ServerStart
 use Rattle.server.specs.Hello as ServerHello
 use Rattle.server.specs.Hello.{hint_message, flight}
 use Rattle.server.specs.KeyExchange.{View, view_of}
-use Rattle.server.specs.Finished.{finished_flight, judged}
+use Rattle.server.specs.Finished.{finished_flight}
 use Rattle.server.specs.Message as ServerMessage
 use Rattle.server.proofs.Hellos as ServerHellos
 use Rattle.theorems.specs.Series as ServerSeries

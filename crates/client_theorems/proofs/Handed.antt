@@ -13,7 +13,6 @@ use Rattle.refusal.specs.declared.Refusal.TheVariants.{ConnectionOver, Unexpecte
 use Rattle.refusal.specs.declared.Refusal.TheVariants.{UnsupportedExtension}
 use Rattle.keys.specs.declared.Side.TheVariants.{Server}
 use Rattle.keys.specs.Secrets.{finished_of}
-use Rattle.refusal.specs.declared.Written.TheVariants.{Refused}
 use Rattle.layout.specs.declared.Verdict.{Verdict}
 use Rattle.hellos.specs.ServerHello.{ServerHello, server_body, server_fields}
 use Rattle.layout.specs.Place.{filled_by, contents}

@@ -9,7 +9,7 @@ use lib.ListN.{length, length-append}
 use Rattle.refusal.specs.Lent.{gives}
 use Rattle.sha256.specs.declared.Sha256.{Sha256}
 use Rattle.sha256.specs.Hash.{digest}
-use Rattle.sha256.specs.State.{fresh, absorb, finished}
+use Rattle.sha256.specs.State.{fresh, absorb}
 use Rattle.sha256.proofs.Absorb.{absorb-append}
 use Rattle.sha256.proofs.Finish.{finished-within, length-digest, sha256-within}
 use Rattle.keys.specs.declared.Side.TheVariants.{Client, Server}

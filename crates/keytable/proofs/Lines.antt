@@ -7,10 +7,10 @@ use native.Mathlib.Omega.{arith}
 use mathlib.Core.Bool.{Bool, true, false}
 use mathlib.Core.List.{List, [], ◌∷◌}
 use lib.ListN.{length, take, drop, get_or, length-drop, drop_of_length-le}
-use lib.Seq.{drop-cons, drop-drop, drop_at, take-add, length-take-le}
+use lib.Seq.{drop-cons, drop-drop}
 use lib.Dec.{eqb}
 use Rattle.lists.specs.Lists.{part}
-use Rattle.keytable.specs.Table.{line_end, before, lines, upto, past, ended}
+use Rattle.keytable.specs.Table.{line_end, before, lines, upto, ended}
 
 -- what stands before the first x is a part of the list
 upto-parts : (x : ℕ) (s : List ℕ) → (length (upto x s) ≤ length s) × (take (length (upto x s)) s ≡ upto x s)

@@ -36,7 +36,7 @@ use Rattle.record_theorems.specs.Series.{Call, takes, sends, Kept}
 use Rattle.record_theorems.specs.Terms.{under, PlainRecord, Plain, ChangeCame, named, client_key}
 use Rattle.record_theorems.proofs.Taking.{held-front, held-short, read-alerts, ignored-warning}
 use Rattle.record_theorems.proofs.Reaching.{keys_made, change-judged}
-use Rattle.record_theorems.proofs.Standing.{plainly, changed_to, changes, plain_step, step_of}
+use Rattle.record_theorems.proofs.Standing.{plainly, changed_to, plain_step, step_of}
 use Rattle.record_theorems.proofs.Standing.{alone, plain_more, plain-warned, quiet, change-step, empty-is}
 use Rattle.record_theorems.proofs.FirstRecord.{first_refusal, first-alerts, first-refused}
 use Rattle.record_theorems.proofs.Seeing.{Near, unsent-seen}

@@ -1,7 +1,7 @@
 -- A connection that is over answers R4 to every call and stays as it was.
 -- Assumes nothing.
 use mathlib.Core.Path.{◌≡◌, refl, ap}
-use mathlib.Core.Bool.{true, false, false≢true}
+use mathlib.Core.Bool.{true, false≢true}
 use mathlib.Core.List.{[]}
 use Rattle.refusal.specs.declared.Refusal.TheVariants.{ConnectionOver}
 use Rattle.handshake.specs.Series.{message, change_of_cipher, alert}

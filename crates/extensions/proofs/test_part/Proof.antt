@@ -10,7 +10,7 @@ use mathlib.Core.Option.{Option}
 use lib.ListN.{length, drop, set, length-set}
 use Rattle.extensions.specs.declared.Pass.{Pass}
 use Rattle.extensions.specs.Extensions.{Ext, adding, extensions_in}
-use Rattle.extensions.specs.Parts.{nearer, pass_over}
+use Rattle.extensions.specs.Parts.{pass_over}
 use Rattle.extensions.proofs.Blocks.{ext_at, Found, step-found, step-ended, step-refused}
 use Rattle.extensions.proofs.Flags.{pass_in, pass-over, pass-repeat, pass-marked, pass-other}
 use Rattle.extensions.proofs.test_part.Statement.{statement}

@@ -1,9 +1,7 @@
 -- `keys::prf` meets its contract: the tests in their order, and then the first n bytes.
 -- Assumes nothing.
-use mathlib.Core.Path.{◌≡◌, sym}
-use native.Mathlib.Omega.{arith}
+use mathlib.Core.Path.{sym}
 use mathlib.Core.Bool.{and-false}
-use lib.ListN.{length}
 use lib.Seq.{length-take-le}
 use borrow.Author.Tests.{le-leb, lt-leb}
 use Rattle.refusal.proofs.Laws.{refuses-answers}

@@ -4,7 +4,6 @@ use mathlib.Core.Path.{◌≡◌, sym, ap}
 use Prim.Native.Nat.{ℕ, ◌-◌, ◌≤◌, ◌<◌}
 use native.Mathlib.Omega.{arith}
 use mathlib.Core.List.{List}
-use mathlib.Core.Logic.{⊎_elim}
 use lib.ListN.{length}
 use borrow.Author.Rules.{rules}
 use Rattle.lists.proofs.Equal.{same_not, Left, alike, unlike, counted}
@@ -41,8 +40,8 @@ loop-again c =
     let la : l.i < length (a at) = search rules in
     let lb : l.i < length (b at) = omega (arith, lengths at) in
     elim c.if-a-i.branch [
-      then-a-i w ↦ (omega arith, omega arith, rw w.different-is (unlike (a at) (b at) l.different l.i l.invariant.2 la lb w.if-a-i.true))
-    | else-a-i w ↦ (omega arith, omega arith, rw w.different-is (alike (a at) (b at) l.different l.i l.invariant.2 la lb w.if-a-i.false))
+      | then-a-i w ↦ (omega arith, omega arith, rw w.different-is (unlike (a at) (b at) l.different l.i l.invariant.2 la lb w.if-a-i.true))
+      | else-a-i w ↦ (omega arith, omega arith, rw w.different-is (alike (a at) (b at) l.different l.i l.invariant.2 la lb w.if-a-i.false))
     ]
 
 returns-2 : tie.Need-returns invariant-loop decreases-loop

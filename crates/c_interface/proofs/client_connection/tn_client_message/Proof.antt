@@ -1,7 +1,6 @@
 -- `c_interface::client_connection::tn_client_message` meets its contract: what `client::message` replied, kept, and the master secret with its number where one is handed over.
 -- Assumes nothing.
 use mathlib.Core.Path.{◌≡◌, ap, ◌∙◌}
-use mathlib.Core.Logic.{⊎_elim}
 use mathlib.Core.Option.{Option}
 use Rattle.handshake.specs.Handed.{Derived}
 use Rattle.client.specs.declared.Phase.{Phase}
@@ -47,8 +46,8 @@ returns c =
     let blocks = a.blocks.now in
     let given : (c.if-reply.master ≡ master_after (over c.before.before.before.before.before.before (was c.before.before.before.before.before.before)) master) × (c.if-reply.blocks ≡ blocks_after (over c.before.before.before.before.before.before (was c.before.before.before.before.before.before)) blocks) =
     elim c.if-reply.branch [
-      then-reply w ↦ let told = was-handed master blocks (parts c.before.before.before.before.before.before).2 w.if-reply.true in (w.master-is ∙ told.0, w.blocks-is ∙ told.1)
-    | else-reply w ↦ let told = was-kept master blocks (parts c.before.before.before.before.before.before).2 w.if-reply.false in (w.master-is ∙ told.0, w.blocks-is ∙ told.1)
+      | then-reply w ↦ let told = was-handed master blocks (parts c.before.before.before.before.before.before).2 w.if-reply.true in (w.master-is ∙ told.0, w.blocks-is ∙ told.1)
+      | else-reply w ↦ let told = was-kept master blocks (parts c.before.before.before.before.before.before).2 w.if-reply.false in (w.master-is ∙ told.0, w.blocks-is ∙ told.1)
     ] in (
       step_keeps (ended Phase.Closed) a.client.now a.out.now (λ (x : Connection). message_step x a.message.now x.phase)
           (restored-as c.before.before.before.before.before.before) (parts c.before.before.before.before.before.before).0 (parts c.before.before.before.before.before.before).1 c.keep.type_inv c.keep.ensures.0 c.keep.ensures.1,

@@ -2,7 +2,6 @@
 -- Assumes nothing.
 use borrow.Author.Rules.{rules}
 use mathlib.Core.Path.{sym, ap, ◌∙◌}
-use mathlib.Core.Logic.{⊎_elim}
 use Rattle.saved.specs.Saved.{restored}
 use Rattle.c_interface.proofs.Signed.{handed-on}
 use Rattle.c_interface.proofs.Keeping.{kept-changed, kept_same}
@@ -15,8 +14,8 @@ returns c =
     let told = sym c.changes.ensures in (
       handed-on _ c.of_answer.type_inv ∙ c.of_answer.ensures,
       elim c.if-changes.branch [
-        then-changes w ↦ kept-changed (told ∙ w.if-changes.true) (w.connection-is ∙ w.save.ensures.0) (ap restored w.connection-is ∙ w.save.ensures.1)
-      | else-changes w ↦ kept_same (told ∙ w.if-changes.false) w.connection-is
+        | then-changes w ↦ kept-changed (told ∙ w.if-changes.true) (w.connection-is ∙ w.save.ensures.0) (ap restored w.connection-is ∙ w.save.ensures.1)
+        | else-changes w ↦ kept_same (told ∙ w.if-changes.false) w.connection-is
       ],
     )
 

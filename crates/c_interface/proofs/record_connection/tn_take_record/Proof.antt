@@ -3,7 +3,6 @@
 -- Assumes nothing.
 use borrow.Author.Rules.{rules}
 use mathlib.Core.Path.{◌≡◌, ap, ◌∙◌}
-use mathlib.Core.Logic.{⊎_elim}
 use Rattle.server.specs.KeyExchange.{View, view_of}
 use Rattle.record_server.specs.declared.RecordConnection.{RecordConnection}
 use Rattle.record_server.specs.Taking.{Settled, take_call, taken}
@@ -52,8 +51,8 @@ returns c =
     let blocks = a.blocks.now in
     let handed : (c.if-taken.master ≡ master_after w.master master) × (c.if-taken.blocks ≡ blocks_after w.master blocks) =
     elim c.if-taken.branch [
-      then-taken x ↦ let told = was-handed master blocks over x.if-taken.true in (x.master-is ∙ told.0, x.blocks-is ∙ told.1)
-    | else-taken x ↦ let told = was-kept master blocks over x.if-taken.false in (x.master-is ∙ told.0, x.blocks-is ∙ told.1)
+      | then-taken x ↦ let told = was-handed master blocks over x.if-taken.true in (x.master-is ∙ told.0, x.blocks-is ∙ told.1)
+      | else-taken x ↦ let told = was-kept master blocks over x.if-taken.false in (x.master-is ∙ told.0, x.blocks-is ∙ told.1)
     ] in (
       took-keeps (view c.before.before.before.before.before.before.before.before.before) a.connection.now a.received.now a.memory.now a.out.now (given c.before.before.before.before.before.before.before.before.before) c.keep.type_inv c.keep.ensures.0
           c.keep.ensures.1,
@@ -62,9 +61,9 @@ returns c =
         memory-left = c.take-taken.ensures.0.memory-left ∙ ap (λ (x : RecordConnection). (taken_on c.before.before.before.before.before.before.before.before.before x).memory) (same c.before.before.before.before.before.before.before.before.before);
         handed = handed.0;
         fields =
-        elim c.match-said.branch [
-              in-Wrote x ↦ told-accepted w a.told.now (given c.before.before.before.before.before.before.before.before.before) x.in-Wrote.is (x.told-is ∙ x.told_of.ensures)
-            | in-Refused x ↦ told-refused w a.told.now (given c.before.before.before.before.before.before.before.before.before) x.in-Refused.is x.told-is
+            elim c.match-said.branch [
+              | in-Wrote x ↦ told-accepted w a.told.now (given c.before.before.before.before.before.before.before.before.before) x.in-Wrote.is (x.told-is ∙ x.told_of.ensures)
+              | in-Refused x ↦ told-refused w a.told.now (given c.before.before.before.before.before.before.before.before.before) x.in-Refused.is x.told-is
             ];
         counted = handed.1;
       },

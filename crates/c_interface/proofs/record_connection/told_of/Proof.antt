@@ -2,7 +2,6 @@
 -- Assumes nothing.
 use borrow.Author.Rules.{rules}
 use mathlib.Core.Path.{◌≡◌, ◌∙◌}
-use mathlib.Core.Logic.{⊎_elim}
 use mathlib.Core.Bool.{cond}
 use Rattle.c_interface.proofs.record_connection.told_of.Statement.{statement}
 use Rattle.c_interface.proofs.record_connection.told_of.Lts.{then-handed, else-handed}
@@ -14,8 +13,8 @@ cast-t7 c = record { fits = rw c.in-Bytes.is at c.requires }
 first-is : (c : tie.Joined-handed) → c.if-handed.first ≡ cond c.args.handed 1 0
 first-is c =
     elim c.if-handed.branch [
-      then-handed w ↦ w.first-is ∙ rw w.if-handed.true
-    | else-handed w ↦ w.first-is ∙ rw w.if-handed.false
+      | then-handed w ↦ w.first-is ∙ rw w.if-handed.true
+      | else-handed w ↦ w.first-is ∙ rw w.if-handed.false
     ]
 
 returns : tie.Need-returns-in-Nothing

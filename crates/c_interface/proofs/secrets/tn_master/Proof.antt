@@ -1,7 +1,6 @@
 -- `c_interface::secrets::tn_master` meets its contract: the code of what `keys::master` said, and its number where a secret was given.
 -- Assumes nothing.
 use mathlib.Core.Path.{◌∙◌}
-use mathlib.Core.Logic.{⊎_elim}
 use lib.ListN.{length}
 use Rattle.refusal.specs.Lent.{within}
 use Rattle.keys.specs.Secrets.{master}
@@ -28,8 +27,8 @@ returns c =
       value = codes-answer made.0 c.of_answer.type_inv c.of_answer.ensures;
       counted =
           elim c.match-said.branch [
-            in-Wrote x ↦ x.blocks-is ∙ report-wrote wanted n a.blocks.now made.0.told x.in-Wrote.is made.1
-          | in-Refused x ↦ x.blocks-is ∙ report-refused wanted n a.blocks.now made.0.told x.in-Refused.is
+            | in-Wrote x ↦ x.blocks-is ∙ report-wrote wanted n a.blocks.now made.0.told x.in-Wrote.is made.1
+            | in-Refused x ↦ x.blocks-is ∙ report-refused wanted n a.blocks.now made.0.told x.in-Refused.is
           ];
     }
 

@@ -34,12 +34,11 @@ returns c =
     (failed _ _ c.belongs.ensures (ap not c.if-not-belongs.true))
 
 loop-again : tie.Need-loop-i-preserved invariant-loop decreases-loop
-loop-again c =
-    (
-      search rules,
-      each_more (test c.before.before.before.before) (text c.before.before.before.before) _ c.loop-i.invariant.1 (left-cons _ _ c.loop-i-test.true)
-          (passed _ _ c.belongs.ensures (ap not c.if-not-belongs.false)),
-    )
+loop-again c = (
+  search rules,
+  each_more (test c.before.before.before.before) (text c.before.before.before.before) _ c.loop-i.invariant.1 (left-cons _ _ c.loop-i-test.true)
+      (passed _ _ c.belongs.ensures (ap not c.if-not-belongs.false)),
+)
 
 returns-2 : tie.Need-returns invariant-loop decreases-loop
 returns-2 c = each-end (test c.before) (text c.before) _ c.loop-i.invariant.1 (drop_of_length-le _ c.loop-i-test.false)

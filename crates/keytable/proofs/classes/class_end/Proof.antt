@@ -40,12 +40,11 @@ returns c =
     (failed _ _ c.belongs.ensures (ap not c.if-not-belongs.true))
 
 loop-again : tie.Need-loop-i-preserved invariant-loop decreases-loop
-loop-again c =
-    (
-      search rules,
-      leading-more (test c.before.before.before.before) (text c.before.before.before.before) (first c.before.before.before.before) _ c.loop-i.invariant.1 c.loop-i-test.true
-          (passed _ _ c.belongs.ensures (ap not c.if-not-belongs.false)),
-    )
+loop-again c = (
+  search rules,
+  leading-more (test c.before.before.before.before) (text c.before.before.before.before) (first c.before.before.before.before) _ c.loop-i.invariant.1 c.loop-i-test.true
+      (passed _ _ c.belongs.ensures (ap not c.if-not-belongs.false)),
+)
 
 returns-2 : tie.Need-returns invariant-loop decreases-loop
 returns-2 c = leading_end (test c.before) (text c.before) (first c.before) _ c.loop-i.invariant.1 c.loop-i-test.false

@@ -2,7 +2,6 @@
 -- Assumes nothing.
 use borrow.Author.Rules.{rules}
 use mathlib.Core.Path.{◌≡◌, sym, ◌∙◌}
-use mathlib.Core.Logic.{⊎_elim}
 use Prim.Native.Nat.{ℕ, suc, ◌-◌, ◌<◌}
 use native.Mathlib.Omega.{arith}
 use mathlib.Core.Bool.{false}
@@ -69,8 +68,8 @@ returns c =
 missed : (c : tie.Joined-tags-c invariant-loop decreases-loop) → same (identity c.before.before.before) (identity_at (table c.before.before.before) (get_or (starts c.before.before.before) (line c.before.before.before) 0)) ≡ false
 missed c =
     elim c.if-tags-c.branch [
-      then-tags-c+else-begins o ↦ sym (own c.before.before.before) ∙ sym o.begins.ensures ∙ o.if-begins.false
-    | else-tags-c o ↦ other_tag (table c.before.before.before) (starts c.before.before.before) (identity c.before.before.before) (start c.before.before.before).args.n (line c.before.before.before) _ _ (linked c.before.before.before).tagged (start c.before.before.before).requires.1.1.1.0 o.if-tags-c.false
+      | then-tags-c+else-begins o ↦ sym (own c.before.before.before) ∙ sym o.begins.ensures ∙ o.if-begins.false
+      | else-tags-c o ↦ other_tag (table c.before.before.before) (starts c.before.before.before) (identity c.before.before.before) (start c.before.before.before).args.n (line c.before.before.before) _ _ (linked c.before.before.before).tagged (start c.before.before.before).requires.1.1.1.0 o.if-tags-c.false
     ]
 
 cast-c : tie.Need-overflow_cast-c invariant-loop decreases-loop

@@ -3,7 +3,6 @@
 -- Assumes nothing.
 use borrow.Author.Rules.{rules}
 use mathlib.Core.Path.{◌≡◌, sym, ap, ◌∙◌}
-use mathlib.Core.Logic.{⊎_elim}
 use Prim.Native.Nat.{ℕ, ◌+◌, ◌-◌, ◌≤◌, ◌<◌}
 use native.Mathlib.Nat.{add-zero}
 use native.Mathlib.Omega.{arith}
@@ -79,12 +78,12 @@ missed c =
     let m = c.loop-i.invariant.1 in
     let few = c.loop-i.invariant.0 in
     elim c.loop-i-test.branch [
-      else-loop-i-test o ↦ match-end _ _ _ _ o.loop-i-test.false m
-    | then-loop-i-test+then-i-identity+else-b-eq58 o ↦
+      | else-loop-i-test o ↦ match-end _ _ _ _ o.loop-i-test.false m
+      | then-loop-i-test+then-i-identity+else-b-eq58 o ↦
           match-longer _ _ _ _ o.loop-i-test.true m o.if-i-identity.true o.if-b-eq58.false
-    | then-loop-i-test+else-i-identity+then-b-identity o ↦
+      | then-loop-i-test+else-i-identity+then-b-identity o ↦
           match-other _ _ _ _ o.loop-i-test.true m (below few o.if-i-identity.false) o.if-b-identity.true
-    | then-loop-i-test+else-i-identity+else-b-identity+then-b-eq10 o ↦
+      | then-loop-i-test+else-i-identity+else-b-identity+then-b-eq10 o ↦
           match-ended _ _ _ _ o.loop-i-test.true m (below few o.if-i-identity.false) o.if-b-eq10.true
     ]
 

@@ -1,8 +1,8 @@
 -- `keytable::entries::line_end`: a byte that does not end the line is one of it, and none is left where the search ends.
-use Rattle.std.proofs.Common.{◌≡◌, ◌+◌, suc, length, drop, slice_index_or, refl, arith, ap, ◌∙◌}
-use borrow.Author.Tests.{eq-eqb, ne_eqb}
-use Rattle.keytable.specs.Table.{line_end, upto}
-use Rattle.keytable.proofs.Lines.{upto-step, upto-found, upto-none}
+use Rattle.std.proofs.Common.{refl, arith}
+use borrow.Author.Tests.{ne_eqb}
+use Rattle.keytable.specs.Table.{line_end}
+use Rattle.keytable.proofs.Lines.{upto-step}
 use Rattle.keytable.proofs.entries.line_end.Goals as goal
 
 pub loop-end-init : goal.loop-end-init

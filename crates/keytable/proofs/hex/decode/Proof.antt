@@ -6,7 +6,7 @@ use Prim.Native.Nat.{ℕ, ◌+◌, ◌-◌, ◌*◌, ◌/◌, ◌≤◌, ◌<◌
 use native.Mathlib.Omega.{arith}
 use mathlib.Core.List.{List}
 use lib.ListN.{length, get_or, length-set}
-use Rattle.keytable.specs.Table.{decoded, digit}
+use Rattle.keytable.specs.Table.{decoded}
 use Rattle.lists.proofs.Copies.{filled, fill-turn, filled-all}
 use Rattle.keytable.proofs.Pairs.{digit-small, length-decoded, decoded-at}
 use Rattle.keytable.proofs.hex.decode.Statement.{statement}

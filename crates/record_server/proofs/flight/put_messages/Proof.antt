@@ -3,7 +3,6 @@
 use borrow.Author.Rules.{rules}
 use Prim.Native.Nat.{◌+◌, ◌-◌}
 use mathlib.Core.Path.{◌≡◌, ap, ◌∙◌}
-use mathlib.Core.Logic.{⊎_elim}
 use native.Mathlib.Omega.{arith}
 use lib.ListN.{length, get_or, drop}
 use Rattle.lists.proofs.Parts.{length_part}
@@ -46,11 +45,11 @@ loop-again : tie.Need-loop-i-preserved invariant-loop decreases-loop
 loop-again c =
     let left = left-cons (entry c.before.before.before).args.lengths.now c.loop-i.i c.loop-i-test.true in
     elim c.if-n-ne0.branch [
-      then-n-ne0 o ↦
+      | then-n-ne0 o ↦
           next c.loop-i.invariant c.loop-i-test.true left o.if-n-ne0.true (entry c.before.before.before).requires.0
           (entry c.before.before.before).requires.1 o.seal-said.ensures o.out-is (o.writing-is ∙ o.counted-writing.ensures)
           (o.len-is ∙ rw o.count-len.ensures) o.used-is
-    | else-n-ne0 o ↦
+      | else-n-ne0 o ↦
           rw (o.out-is, o.writing-is, o.len-is, o.used-is) (skip c.loop-i.invariant c.loop-i-test.true left o.if-n-ne0.false)
     ]
 

@@ -3,7 +3,6 @@
 use Prim.Native.Nat.{ℕ, ◌+◌, ◌-◌, ◌<◌}
 use native.Mathlib.Omega.{arith}
 use mathlib.Core.Path.{◌≡◌, sym, ap, ◌∙◌}
-use mathlib.Core.Logic.{⊎_elim}
 use mathlib.Core.Bool.{false, not, ◌&&◌, and-false}
 use mathlib.Core.List.{List, ◌++◌}
 use lib.ListN.{length, drop, length-append, length-drop}
@@ -43,8 +42,8 @@ awaits c =
     let start = entry c.before in
     let left = drop start.args.p.at (bytes start) in
     elim c.if-left-ne0.branch [
-      then-left-ne0+else-is_complete w ↦ rw (sym w.is_complete.ensures ∙ w.if-is_complete.false)
-    | else-left-ne0 w ↦ rw (is-empty left (left-size start ∙ w.if-left-ne0.false), and-false (is_complete start.args.p.connection.phase))
+      | then-left-ne0+else-is_complete w ↦ rw (sym w.is_complete.ensures ∙ w.if-is_complete.false)
+      | else-left-ne0 w ↦ rw (is-empty left (left-size start ∙ w.if-left-ne0.false), and-false (is_complete start.args.p.connection.phase))
     ]
 
 -- the verdict on the header is that on the bytes

@@ -1,9 +1,7 @@
 -- `record_server::taking::decide_opened` meets its contract: the tests on the record, and then those on what it holds.
 -- Assumes nothing.
-use Rattle.std.specs.Prelude.{not}
 use mathlib.Core.Path.{◌≡◌, sym, ap, ◌∙◌}
 use mathlib.Core.Bool.{false, cond}
-use mathlib.Core.Logic.{⊎_elim}
 use lib.ListN.{take}
 use Rattle.lists.specs.Lists.{part}
 use Rattle.refusal.specs.declared.Refusal.TheVariants.{DecryptError}
@@ -52,8 +50,8 @@ listed : (c : tie.Joined-is_first) → unlisted_first (entry c.before.before.bef
 listed c =
     let first = c.is_first.ensures in
     elim c.if-is_first.branch [
-      then-is_first+else-not-client w ↦ rw (← first, w.if-is_first.true, w.if-not-client.false)
-    | else-is_first w ↦ rw (← first, w.if-is_first.false)
+      | then-is_first+else-not-client w ↦ rw (← first, w.if-is_first.true, w.if-not-client.false)
+      | else-is_first w ↦ rw (← first, w.if-is_first.false)
     ]
 
 decide-content-requires : tie.Need-decide_content-requires

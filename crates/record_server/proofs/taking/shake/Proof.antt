@@ -19,12 +19,11 @@ slice-aggregate-judge : tie.Need-slice_bounds-judge-end
 slice-aggregate-judge c = sym (length-held c.requires)
 
 judge-requires : tie.Need-judge-p-requires
-judge-requires c κs =
-    (
-      c.requires.going,
-      rw (length-held c.requires, as_lent c.args.n, length-content c.requires)
-          (omega (arith, c.requires.kept-few, c.requires.few)),
-    )
+judge-requires c κs = (
+  c.requires.going,
+  rw (length-held c.requires, as_lent c.args.n, length-content c.requires)
+      (omega (arith, c.requires.kept-few, c.requires.few)),
+)
 
 -- the entry, seen from where the bytes were judged
 abbrev entry : tie.After-judge-p → tie.Start

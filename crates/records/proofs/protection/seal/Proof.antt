@@ -1,7 +1,5 @@
 -- `records::protection::seal` meets its contract: R5 past the limit, then R1; else header, content and, where there is protection, the MAC behind them.
 -- Assumes nothing.
-use Rattle.std.specs.Prelude.{not}
-use Rattle.std.proofs.Common.{ap}
 use borrow.Author.Rules.{rules}
 use borrow.Author.Tests.{le-leb, lt-leb, not-true, not-false}
 use Prim.Native.Nat.{ℕ, ◌+◌, ◌-◌, ◌≤◌, ◌<◌}
