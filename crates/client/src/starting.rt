@@ -16,7 +16,7 @@ const OFFERED: [u8; 6] = [0x00, 0xae, 0x00, 0x8c, 0x00, 0xb0];
 
 // Whether a connection can be started with these.
 fn acceptable(random: &[u8], identity: &[u8], key: &[u8]) -> bool
-    ensures { result ≡ Conn.acceptable (record { random = random.entry.now; identity = identity.now; key = key.now }) }
+    ensures { result ≡ Conn.acceptable (record { random = random.now; identity = identity.now; key = key.now }) }
 {
     if random.len() != 32 {
         return false;
@@ -67,7 +67,7 @@ fn setup(random: &[u8], identity: &[u8], key: &[u8]) -> Setup
     requires random_len { length random.now ≡ 32 }
     requires identity_len_bound { length identity.now ≤ 128 }
     requires key_len_bound { length key.now ≤ 64 }
-    ensures { result ≡ setup_of (record { random = random.entry.now; identity = identity.now; key = key.now }) }
+    ensures { result ≡ setup_of (record { random = random.now; identity = identity.now; key = key.now }) }
 {
     let named = identity_field(identity);
     let secret = key_field(key);
@@ -100,8 +100,8 @@ fn started(setup: Setup, hello: &[u8; 49]) -> Connection
 // A connection that has a ClientHello to send and awaits the server's, or R3, or R1 where the output is
 // shorter than the hello.
 pub fn start(random: &[u8], identity: &[u8], key: &[u8], out: &mut [u8]) -> Answer
-    ensures { (result ≡ answered (start_call (record { random = random.entry.now; identity = identity.now; key = key.now }) out.old))
-        × (out.new ≡ (start_call (record { random = random.entry.now; identity = identity.now; key = key.now }) out.old).out) }
+    ensures { (result ≡ answered (start_call (record { random = random.now; identity = identity.now; key = key.now }) out.old))
+        × (out.new ≡ (start_call (record { random = random.now; identity = identity.now; key = key.now }) out.old).out) }
 {
     if !acceptable(random, identity, key) {
         let next = ended(Phase::Closed);

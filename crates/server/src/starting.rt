@@ -37,7 +37,7 @@ fn setup(random: &[u8], hint: &[u8], stand_in: &[u8], named: Named, suites: [u16
     requires random_len { length random.now ≡ 32 }
     requires hint_len_bound { length hint.now ≤ 128 }
     requires stand_in_len { length stand_in.now ≡ 32 }
-    ensures { result ≡ setup_of (record { random = random.entry.now; hint = hint.now; stand_in = stand_in.now; named = named; suites = suites }) }
+    ensures { result ≡ setup_of (record { random = random.now; hint = hint.now; stand_in = stand_in.now; named = named; suites = suites }) }
 {
     let rule = rule_of(named);
     let field = hint_field(hint);
@@ -86,7 +86,7 @@ pub fn start_with(
     named: Named,
     suites: [u16; 3],
 ) -> Answer
-    ensures { result ≡ start_answer (record { random = random.entry.now; hint = hint.now; stand_in = stand_in.now; named = named; suites = suites }) }
+    ensures { result ≡ start_answer (record { random = random.now; hint = hint.now; stand_in = stand_in.now; named = named; suites = suites }) }
 {
     if random.len() != 32 {
         return bad_setting();
@@ -109,7 +109,7 @@ pub fn start_with(
 
 // The same with document 01's three suites.
 pub fn start(random: &[u8], hint: &[u8], stand_in: &[u8], named: Named) -> Answer
-    ensures { result ≡ start_answer (record { random = random.entry.now; hint = hint.now; stand_in = stand_in.now; named = named; suites = Protocol.suites }) }
+    ensures { result ≡ start_answer (record { random = random.now; hint = hint.now; stand_in = stand_in.now; named = named; suites = Protocol.suites }) }
 {
     start_with(random, hint, stand_in, named, SUITES)
 }
