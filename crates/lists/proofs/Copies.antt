@@ -1,4 +1,4 @@
--- What `bytes::copy` leaves, into a part of an array or into an array of the part's size, and a list that is filled from the front.
+-- What `lists::copy` leaves, into a part of an array or into an array of the part's size, and a list that is filled from the front.
 -- Assumes nothing.
 use mathlib.Core.Path.{◌≡◌, refl, sym, ◌∙◌}
 use Prim.Native.Nat.{ℕ, suc, ◌+◌, ◌-◌, ◌≤◌, ◌<◌}

@@ -1,4 +1,4 @@
--- `refusal::put`: the two cases of its test are the laws `short` and `gave`, the second with what `bytes::copy` left.
+-- `refusal::put`: the two cases of its test are the laws `short` and `gave`, the second with what `lists::copy` left.
 -- Assumes nothing.
 use borrow.Author.Rules.{rules}
 use mathlib.Core.Path.{◌∙◌, ap}
