@@ -829,11 +829,11 @@ int32_t tn_valid_utf8(const uint8_t *bytes, size_t bytes_len);
  * the call or in one above it, with more depth for the frames between; and clears its own copies. gateway/wipe.c and gateway/connection.c show it.
  *
  * Both limits are measured, not proved (`make bench`, bench/frames). TN_STACK_LIMIT is for all calls but one: the deepest of them, tn_client_message
- * with a ServerHelloDone, reaches less than 10,000 bytes below its caller. TN_RECORD_STACK_LIMIT is for tn_take_record, which has room on the stack to join a
- * message that came in several records, and reaches less than 26 KiB.
+ * with a ServerHelloDone, reaches less than 13,000 bytes below its caller. TN_RECORD_STACK_LIMIT is for tn_take_record, which has room on the stack to join a
+ * message that came in several records, and reaches less than 41,000; on a closed connection, too, it touches most of that.
  */
 #define TN_STACK_LIMIT 16384
-#define TN_RECORD_STACK_LIMIT 32768
+#define TN_RECORD_STACK_LIMIT 49152
 
 /* Registers may hold a part of a key too, and a later call may put them on the stack, as the dynamic linker does at the first call of a function. */
 #ifdef __has_attribute
