@@ -6,13 +6,12 @@ use Prim.Native.Nat.{ℕ}
 use mathlib.Core.Bool.{cond}
 use lib.Dec.{eqb}
 use lib.IntN.{ℤ, pos, negsuc}
+use Rattle.std.specs.Prelude.{Result, Ok, Err}
 use Rattle.refusal.specs.declared.Refusal.{Refusal}
 use Rattle.refusal.specs.declared.Refusal.TheVariants.{ShortOutput, BadTable, BadSetting, ConnectionOver, BadValue}
 use Rattle.refusal.specs.declared.Refusal.TheVariants.{AlreadyListed, NotListed, TableFull, SequenceSpent, BadList, BadRecordMac, RecordOverflow}
 use Rattle.refusal.specs.declared.Refusal.TheVariants.{UnexpectedMessage, HandshakeFailure, IllegalParameter, DecodeError, DecryptError}
 use Rattle.refusal.specs.declared.Refusal.TheVariants.{ProtocolVersion, UnsupportedExtension, UnknownPskIdentity}
-use Rattle.refusal.specs.declared.Written.{Written}
-use Rattle.refusal.specs.declared.Written.TheVariants.{Wrote, Refused}
 use Rattle.c_interface.specs.Codes.{refusal_code, coded}
 
 -- what was said, from its code: -1 - n is a refusal
@@ -39,11 +38,11 @@ refusal_below n =
     (cond (eqb n 1109) UnsupportedExtension
     UnknownPskIdentity))))))))))))))))))
 
-said : ℤ → Written
-said (pos n) = Wrote n
-said (negsuc n) = Refused (refusal_below n)
+said : ℤ → Result ℕ Refusal
+said (pos n) = Ok n
+said (negsuc n) = Err (refusal_below n)
 
-refusal-said : (r : Refusal) → said (refusal_code r) ≡ Refused r
+refusal-said : (r : Refusal) → said (refusal_code r) ≡ Err r
 unfolding said refusal_below
 refusal-said ShortOutput = refl
 refusal-said BadTable = refl
@@ -66,10 +65,10 @@ refusal-said ProtocolVersion = refl
 refusal-said UnsupportedExtension = refl
 refusal-said UnknownPskIdentity = refl
 
-all_said : (w : Written) → said (coded w) ≡ w
+all_said : (w : Result ℕ Refusal) → said (coded w) ≡ w
 unfolding said
-all_said (Wrote n) = refl
-all_said (Refused r) = refusal-said r
+all_said (Ok n) = refl
+all_said (Err r) = refusal-said r
 
-pub codes-apart : (v w : Written) → coded v ≡ coded w → v ≡ w
+pub codes-apart : (v w : Result ℕ Refusal) → coded v ≡ coded w → v ≡ w
 codes-apart v w e = sym (all_said v) ∙ ap said e ∙ all_said w

@@ -1,13 +1,13 @@
 -- What is the client's own of what Keeping says: how long a ClientHello is, and the parts of a reply.
 -- Assumes nothing.
-use mathlib.Core.Path.{◌≡◌, refl}
+use mathlib.Core.Path.{◌≡◌, refl, ap}
 use Prim.Native.Nat.{ℕ, ◌<◌, ◌^◌}
 use native.Mathlib.Omega.{arith}
 use mathlib.Core.List.{List}
-use mathlib.Core.Option.{Option, none, some}
+use Rattle.std.specs.Prelude.{Result, Option}
+use Rattle.refusal.specs.declared.Refusal.{Refusal}
 use Rattle.refusal.specs.declared.Refusal.TheVariants.{BadSetting}
-use Rattle.refusal.specs.declared.Written.{Written}
-use Rattle.handshake.specs.Handed.{Derived}
+use Rattle.handshake.specs.declared.Derived.{Derived}
 use Rattle.client.specs.declared.Connection.{Connection}
 use Rattle.client.specs.declared.Reply.{Reply}
 use Rattle.client.specs.Connection.{Settings, acceptable, hello, start_outcome, start_call}
@@ -17,14 +17,12 @@ use Rattle.client.proofs.Starts.{allowed}
 use Rattle.c_interface.specs.Inner.{count}
 use Rattle.c_interface.proofs.Answers.{answer-count-small}
 use Rattle.c_interface.proofs.Sizes.{bytes-if-small}
-use Rattle.c_interface.proofs.Keeping.{Handed, nothing, handed}
 
-pub hello-count : (s : Settings) (out : List ℕ) {said : Written} → said ≡ (start_call s out).said → count said < 2 ^ 31
+pub hello-count : (s : Settings) (out : List ℕ) {said : Result ℕ Refusal} → said ≡ (start_call s out).said → count said < 2 ^ 31
 hello-count s out e =
     answer-count-small {wanted = start_outcome s} {out = out} (record { told = e; left = refl })
     (bytes-if-small (acceptable s) (hello s.random) BadSetting (λ ok. omega (arith, hello-length s.random (allowed s ok).random)))
 
-pub reply-parts : (said : Written) (next : Connection) (o : Option Derived) {r : Reply} → r ≡ with_master said next o
-    → (r.said ≡ said) × (r.next ≡ next) × Handed o r.handed r.master r.blocks
-reply-parts said next none e = rw e (refl, refl, nothing)
-reply-parts said next (some d) e = rw e (refl, refl, handed)
+pub reply-parts : (said : Result ℕ Refusal) (next : Connection) (o : Option Derived) {r : Reply} → r ≡ with_master said next o
+    → (r.said ≡ said) × (r.next ≡ next) × (r.handed ≡ o)
+reply-parts said next o e = (ap (λ (r : Reply). r.said) e, ap (λ (r : Reply). r.next) e, ap (λ (r : Reply). r.handed) e)

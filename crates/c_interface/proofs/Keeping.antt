@@ -6,7 +6,6 @@ use Prim.Native.Nat.{ℕ, ◌<◌, ◌^◌}
 use native.Mathlib.Omega.{arith}
 use mathlib.Core.Bool.{Bool, true, false, cond, true≢false}
 use mathlib.Core.List.{List}
-use mathlib.Core.Option.{Option, none, some}
 use lib.ListN.{length}
 use lib.Dec.{leb}
 use lib.IntN.{ℤ}
@@ -14,12 +13,12 @@ use lib.Signed.{mag}
 use mir.Syntax.{w32}
 use mir.Val.{to_z, of_z}
 use borrow.Author.Tests.{leb-true}
+use Rattle.std.specs.Prelude.{Result, Ok, Err, Option, None, Some}
+use Rattle.refusal.specs.declared.Refusal.{Refusal}
 use Rattle.refusal.specs.declared.Refusal.TheVariants.{ShortOutput}
-use Rattle.refusal.specs.declared.Written.{Written}
-use Rattle.refusal.specs.declared.Written.TheVariants.{Wrote, Refused}
 use Rattle.refusal.specs.Table.{to_peer}
 use Rattle.refusal.specs.Lent.{Outcome, gives, refuses, within, answer}
-use Rattle.handshake.specs.Handed.{Derived}
+use Rattle.handshake.specs.declared.Derived.{Derived}
 use Rattle.handshake.specs.Step.{Step, outcome, next_after, settled}
 use Rattle.handshake.proofs.Refusals.{alerts-close}
 use Rattle.server.specs.declared.Answer.{Answer}
@@ -36,14 +35,14 @@ use Rattle.c_interface.proofs.Signed.{handed-on}
 
 -- whatever kind of connection it is, and however it is saved
 module _ {A : Type 0} {save : A → List ℕ} {restore : List ℕ → A} {next : A} {bytes bytes' : List ℕ} where
-  pub kept-changed : {said : Written} → changes said ≡ true → bytes' ≡ save next → restore bytes' ≡ next → KeptAs save restore said next bytes bytes'
-  kept-changed {said = Wrote n} t left read = record { left = left; read = read }
-  kept-changed {said = Refused r} t left read = record { left = rw t left; read = rw t read }
+  pub kept-changed : {said : Result ℕ Refusal} → changes said ≡ true → bytes' ≡ save next → restore bytes' ≡ next → KeptAs save restore said next bytes bytes'
+  kept-changed {said = Ok n} t left read = record { left = left; read = read }
+  kept-changed {said = Err r} t left read = record { left = rw t left; read = rw t read }
 
   -- an R number
-  pub kept_same : {said : Written} → changes said ≡ false → bytes' ≡ bytes → KeptAs save restore said next bytes bytes'
-  kept_same {said = Wrote n} t same = absurd (true≢false t)
-  kept_same {said = Refused r} t same = record { left = rw t same; read = rw t (ap restore same) }
+  pub kept_same : {said : Result ℕ Refusal} → changes said ≡ false → bytes' ≡ bytes → KeptAs save restore said next bytes bytes'
+  kept_same {said = Ok n} t same = absurd (true≢false t)
+  kept_same {said = Err r} t same = record { left = rw t same; read = rw t (ap restore same) }
 
 -- an alert's connection is written, and an R number's is the one that the bytes stand for
 pub closed-read : {A : Type 0} (t : Bool) (closed c : A) {next : A} → next ≡ cond t closed c → cond t next c ≡ next
@@ -57,7 +56,7 @@ next-read over c step (refuses r) = closed-read (to_peer r) over c (alerts-close
 -- ---- a call
 
 -- one that is lent no output writes nothing
-pub silent-count : (o : Outcome) {said : Written} → said ≡ answer (within 0 o) → count said < 2 ^ 31
+pub silent-count : (o : Outcome) {said : Result ℕ Refusal} → said ≡ answer (within 0 o) → count said < 2 ^ 31
 silent-count (refuses r) e = rw e (omega arith)
 silent-count (gives bytes) e = rw e (go (leb (length bytes) 0) refl)
   where
@@ -65,7 +64,7 @@ silent-count (gives bytes) e = rw e (go (leb (length bytes) 0) refl)
     go true empty = omega (arith, leb-true (length bytes) 0 empty)
     go false empty = omega arith
 
-module _ {A : Type 0} {save : A → List ℕ} {restore : List ℕ → A} {bytes bytes' : List ℕ} {result : ℤ} {said said' : Written} {next next' : A}
+module _ {A : Type 0} {save : A → List ℕ} {restore : List ℕ → A} {bytes bytes' : List ℕ} {result : ℤ} {said said' : Result ℕ Refusal} {next next' : A}
     (e : said ≡ said') (f : next ≡ next') (fits : mag result < 2 ^ 31) (told : result ≡ coded said) (kept : KeptAs save restore said next bytes bytes') where
   pub call-keeps : read_after said' next' (restore bytes) ≡ next' → KeepsAs save restore said' next' bytes (to_z w32 (of_z w32 result)) bytes'
   call-keeps reads =
@@ -85,7 +84,7 @@ module _ {A : Type 0} {save : A → List ℕ} {restore : List ℕ → A} {bytes 
       }
 
 -- of a step on the connection that was restored, `over` being a closed one
-pub step_keeps : {A : Type 0} {save : A → List ℕ} {restore : List ℕ → A} (over : A) (bytes out : List ℕ) (step : A → Step A) {c : A} {said : Written}
+pub step_keeps : {A : Type 0} {save : A → List ℕ} {restore : List ℕ → A} (over : A) (bytes out : List ℕ) (step : A → Step A) {c : A} {said : Result ℕ Refusal}
     {next : A} {bytes' : List ℕ} {result : ℤ} → c ≡ restore bytes → said ≡ (settled over c out (step c)).said → next ≡ (settled over c out (step c)).next
     → mag result < 2 ^ 31 → result ≡ coded said → KeptAs save restore said next bytes bytes'
     → KeepsAs save restore (settled over (restore bytes) out (step (restore bytes))).said (settled over (restore bytes) out (step (restore bytes))).next bytes
@@ -97,31 +96,22 @@ step_keeps {A} {restore = restore} over bytes out step same e f fits told kept =
 
 -- ---- a master secret, and the number of its blocks
 
--- what a reply says of what is handed over, if something is
-pub data Handed : Option Derived → Bool → List ℕ → ℕ → Type 0 where
-  nothing : {zeros : List ℕ} {n : ℕ} → Handed none false zeros n
-  handed : {d : Derived} → Handed (some d) true d.master d.blocks
+module _ {o given : Option Derived} (same : given ≡ o) (master : List ℕ) (blocks : ℕ) where
+  pub was-handed : {d : Derived} → given ≡ Some d → (d.master ≡ master_after o master) × (d.blocks ≡ blocks_after o blocks)
+  was-handed e = rw (sym same ∙ e) (refl, refl)
 
-pub was-handed : {o : Option Derived} {told : Bool} {secret : List ℕ} {n : ℕ} (master : List ℕ) (blocks : ℕ) → Handed o told secret n → told ≡ true
-    → (secret ≡ master_after o master) × (n ≡ blocks_after o blocks)
-was-handed master blocks nothing t = absurd (true≢false (sym t))
-was-handed master blocks handed t = (refl, refl)
-
-pub was-kept : {o : Option Derived} {told : Bool} {secret : List ℕ} {n : ℕ} (master : List ℕ) (blocks : ℕ) → Handed o told secret n → told ≡ false
-    → (master ≡ master_after o master) × (blocks ≡ blocks_after o blocks)
-was-kept master blocks nothing t = (refl, refl)
-was-kept master blocks handed t = absurd (true≢false t)
+  pub was-kept : given ≡ None → (master ≡ master_after o master) × (blocks ≡ blocks_after o blocks)
+  was-kept e = rw (sym same ∙ e) (refl, refl)
 
 -- ---- the server's own
 
 pub start-count : (s : Settings) {a : Answer} → a ≡ start_answer s → count a.said < 2 ^ 31
 start-count s e = rw e (go (acceptable s))
   where
-    go : (t : Bool) → count (cond t (record { said = Wrote 0; next = started s }) bad_setting).said < 2 ^ 31
+    go : (t : Bool) → count (cond t (record { said = Ok 0; next = started s }) bad_setting).said < 2 ^ 31
     go true = omega arith
     go false = omega arith
 
 pub reply-parts : (s : Settled) (o : Option Derived) {r : Reply} → r ≡ with_master (answered s) o
-    → (r.said ≡ s.said) × (r.next ≡ s.next) × Handed o r.handed r.master r.blocks
-reply-parts s none e = rw e (refl, refl, nothing)
-reply-parts s (some d) e = rw e (refl, refl, handed)
+    → (r.said ≡ s.said) × (r.next ≡ s.next) × (r.handed ≡ o)
+reply-parts s o e = (ap (λ (r : Reply). r.said) e, ap (λ (r : Reply). r.next) e, ap (λ (r : Reply). r.handed) e)

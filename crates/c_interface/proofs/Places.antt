@@ -9,19 +9,18 @@ use mathlib.Core.List.{List, [], ◌∷◌}
 use lib.ListN.{length, take, drop, length-drop}
 use lib.Dec.{leb, eqb}
 use borrow.Author.Tests.{leb-true, eqb-true}
+use Rattle.std.specs.Prelude.{Result, Ok, Err, Option, None, Some}
+use Rattle.refusal.specs.declared.Refusal.{Refusal}
 use Rattle.endian.specs.Number.{Bytes, number}
 use Rattle.endian.specs.Vector.{stated}
 use Rattle.endian.proofs.Numbers.{bytes_drop}
-use Rattle.layout.specs.declared.Verdict.{Verdict}
 use Rattle.layout.specs.declared.Part.{Part}
-use Rattle.hellos.specs.declared.Block.{Block}
-use Rattle.hellos.specs.declared.BlockFound.{BlockFound}
 use Rattle.messages.specs.declared.ticket.Ticket.{Ticket}
 use Rattle.hellos.specs.declared.server_hello.Server.{Server}
 use Rattle.hellos.specs.declared.client_hello.Client.{Client}
 use Rattle.extensions.specs.declared.Step.{Step}
 use Rattle.layout.specs.Header.{header}
-use Rattle.layout.specs.Place.{end_at, last_at, filled_by, after_header}
+use Rattle.layout.specs.Place.{standing, end_at, last_at, filled_by, after_header}
 use Rattle.messages.specs.KeyExchange.{vector_place}
 use Rattle.messages.specs.Fixed.{fixed_place}
 use Rattle.messages.specs.NewSessionTicket.{with_hint, ticket_place}
@@ -33,7 +32,7 @@ use Rattle.layout.proofs.Headers.{header_read}
 use Rattle.layout.proofs.Places.{ruled-inside}
 use Rattle.hellos.proofs.ServerHellos as ServerHellos
 use Rattle.hellos.proofs.ClientHellos as ClientHellos
-use Rattle.c_interface.specs.Inner.{Fits, PartFits, BlockFits}
+use Rattle.c_interface.specs.Inner.{Fits, PartFits}
 
 pub two_bytes : (bs : List ℕ) → Bytes bs → number (take 2 bs) < 65536
 two_bytes [] b = omega arith
@@ -43,7 +42,7 @@ two_bytes (x ∷ y ∷ bs) b = omega (arith, b 0, b 1)
 number_fits : (m : List ℕ) (at : ℕ) → Bytes m → number (take 2 (drop at m)) < 2 ^ 32
 number_fits m at b = omega (arith, two_bytes (drop at m) (bytes_drop at m b))
 
-accepted-length : (kind : ℕ) (m : List ℕ) → Bytes m → header kind m ≡ Verdict.Accepted → length m ≤ 16384
+accepted-length : (kind : ℕ) (m : List ℕ) → Bytes m → header kind m ≡ Ok tt → length m ≤ 16384
 accepted-length kind m b e =
     let body : length m - 4 ≤ 16380 = rw (length-drop 4 m) at (header_read kind m b e).1 in
     omega arith
@@ -51,7 +50,7 @@ accepted-length kind m b e =
 -- ---- the parts of a message
 
 -- a part that is there only where a test holds
-part-if-fits : (t : Bool) (s n : ℕ) → (t ≡ true → Fits s n) → PartFits (cond t (Part.At s n) Part.Refused)
+part-if-fits : (t : Bool) (s n : ℕ) → (t ≡ true → Fits s n) → PartFits (cond t (standing s n) None)
 part-if-fits true s n h = h refl
 part-if-fits false s n h = tt
 
@@ -60,12 +59,12 @@ last_fits m at size = part-if-fits (eqb (end_at 2 m at) (length m)) (at + 2) (st
     let ends : end_at 2 m at ≡ length m = eqb-true (end_at 2 m at) (length m) t in
     record { start_fits = omega arith; len-fits = omega arith })
 
-behind-header : (kind : ℕ) (m : List ℕ) (p : Part) → Bytes m → (length m ≤ 16384 → PartFits p) → PartFits (after_header (header kind m) p)
+behind-header : (kind : ℕ) (m : List ℕ) (p : Option Part) → Bytes m → (length m ≤ 16384 → PartFits p) → PartFits (after_header (header kind m) p)
 behind-header kind m p b h = go (header kind m) refl
   where
-    go : (v : Verdict) → header kind m ≡ v → PartFits (after_header v p)
-    go Verdict.Accepted e = h (accepted-length kind m b e)
-    go (Verdict.Refused r) e = tt
+    go : (v : Result Unit Refusal) → header kind m ≡ v → PartFits (after_header v p)
+    go (Ok tt) e = h (accepted-length kind m b e)
+    go (Err r) e = tt
 
 -- ---- the messages with one part
 
@@ -77,50 +76,50 @@ finished-fits m b =
     behind-header 20 m (filled_by 12 m) b
     (λ _. part-if-fits (eqb (length m) 16) 4 12 (λ _. record { start_fits = omega arith; len-fits = omega arith }))
 
-abbrev pub TicketFits : Ticket → Type 0
-TicketFits (Ticket.Read hint s n) = Fits s n
-TicketFits Ticket.Refused = Unit
+abbrev pub TicketFits : Option Ticket → Type 0
+TicketFits (Some t) = Fits t.ticket.start t.ticket.len
+TicketFits None = Unit
 
 pub ticket-fits : (m : List ℕ) → Bytes m → TicketFits (ticket_place m)
 ticket-fits m b = go (after_header (header 4 m) (last_at 2 m 8)) (behind-header 4 m (last_at 2 m 8) b (last_fits m 8))
   where
-    go : (p : Part) → PartFits p → TicketFits (with_hint m p)
-    go (Part.At s n) h = h
-    go Part.Refused h = tt
+    go : (p : Option Part) → PartFits p → TicketFits (with_hint m p)
+    go (Some p) h = h
+    go None h = tt
 
 -- ---- the hellos
 
-abbrev FoundFits : BlockFound → Type 0
-FoundFits (BlockFound.Found b) = BlockFits b
-FoundFits BlockFound.Refused = Unit
+abbrev FoundFits : Option (Option Part) → Type 0
+FoundFits (Some b) = PartFits b
+FoundFits None = Unit
 
 block-fits : (m : List ℕ) (at : ℕ) → length m ≤ 16384 → FoundFits (block_at m at)
 block-fits m at size = go (eqb at (length m))
   where
-    held : (t : Bool) (s n : ℕ) → Fits s n → FoundFits (cond t (BlockFound.Found (Block.At s n)) BlockFound.Refused)
+    held : (t : Bool) (s n : ℕ) → Fits s n → FoundFits (cond t (Some (standing s n)) None)
     held true s n h = h
     held false s n h = tt
 
-    in-part : (p : Part) → PartFits p → FoundFits (block_in m p)
-    in-part (Part.At s n) h = held (block_rule (take n (drop s m))) s n h
-    in-part Part.Refused h = tt
+    in-part : (p : Option Part) → PartFits p → FoundFits (block_in m p)
+    in-part (Some p) h = held (block_rule (take p.len (drop p.start m))) p.start p.len h
+    in-part None h = tt
 
-    go : (t : Bool) → FoundFits (cond t (BlockFound.Found Block.Absent) (block_in m (last_at 2 m at)))
+    go : (t : Bool) → FoundFits (cond t (Some None) (block_in m (last_at 2 m at)))
     go true = tt
     go false = in-part (last_at 2 m at) (last_fits m at size)
 
-found-fits : (m : List ℕ) (at : ℕ) (b : Block) → length m ≤ 16384 → block_at m at ≡ BlockFound.Found b → BlockFits b
+found-fits : (m : List ℕ) (at : ℕ) (b : Option Part) → length m ≤ 16384 → block_at m at ≡ Some b → PartFits b
 found-fits m at b size e = rw e at (block-fits m at size)
 
-pub record ServerNumbers (version n suite : ℕ) (b : Block) : Type 0 where
-  pub version-fits : version < 2 ^ 32
-  pub session-fits : n < 2 ^ 32
-  pub suite-fits : suite < 2 ^ 32
-  pub block : BlockFits b
+pub record ServerNumbers (s : Server) : Type 0 where
+  pub version-fits : s.version < 2 ^ 32
+  pub session-fits : s.session_len < 2 ^ 32
+  pub suite-fits : s.suite < 2 ^ 32
+  pub block : PartFits s.block
 
-abbrev pub ServerFits : Server → Type 0
-ServerFits (Server.Read version n suite compression b) = ServerNumbers version n suite b
-ServerFits Server.Refused = Unit
+abbrev pub ServerFits : Option Server → Type 0
+ServerFits (Some s) = ServerNumbers s
+ServerFits None = Unit
 
 pub server-fits : (m : List ℕ) → Bytes m → ServerFits (server_place m)
 server-fits m b = ServerHellos.by-header m ServerFits tt (λ a x n c p.
@@ -133,16 +132,16 @@ server-fits m b = ServerHellos.by-header m ServerFits tt (λ a x n c p.
       block = found-fits m (42 + n) c size p.block;
     })
 
-pub record ClientNumbers (version n s k t j : ℕ) (b : Block) : Type 0 where
-  pub version-fits : version < 2 ^ 32
-  pub session-fits : n < 2 ^ 32
-  pub suites : Fits s k
-  pub methods : Fits t j
-  pub block : BlockFits b
+pub record ClientNumbers (c : Client) : Type 0 where
+  pub version-fits : c.version < 2 ^ 32
+  pub session-fits : c.session_len < 2 ^ 32
+  pub suites : Fits c.suites.start c.suites.len
+  pub methods : Fits c.methods.start c.methods.len
+  pub block : PartFits c.block
 
-abbrev pub ClientFits : Client → Type 0
-ClientFits (Client.Read version n s k t j b) = ClientNumbers version n s k t j b
-ClientFits Client.Refused = Unit
+abbrev pub ClientFits : Option Client → Type 0
+ClientFits (Some c) = ClientNumbers c
+ClientFits None = Unit
 
 pub client-fits : (m : List ℕ) → Bytes m → ClientFits (client_place m)
 client-fits m b = ClientHellos.by-header m ClientFits tt (λ a x n s k t j c p.

@@ -2,21 +2,20 @@
 -- Assumes nothing.
 use mathlib.Core.Path.{◌≡◌, refl, sym, ap, ◌∙◌}
 use Prim.Native.Nat.{ℕ, ◌<◌, ◌^◌}
-use mathlib.Core.Bool.{Bool, true, false, cond, ◌&&◌}
+use mathlib.Core.Bool.{Bool, true, false, cond, ◌&&◌, true≢false}
 use mathlib.Core.List.{List, ◌∷◌}
-use mathlib.Core.Option.{Option, none, some}
 use lib.ListN.{length}
 use lib.Dec.{leb}
 use lib.IntN.{ℤ}
 use lib.Signed.{mag}
 use mir.Syntax.{w32}
 use mir.Val.{to_z, of_z}
+use Rattle.std.specs.Prelude.{Result, Ok, Err, Option, None, Some, is_some, is_ok}
 use Rattle.refusal.specs.declared.Refusal.{Refusal}
 use Rattle.refusal.specs.declared.Refusal.TheVariants.{ShortOutput}
-use Rattle.refusal.specs.declared.Written.TheVariants.{Wrote, Refused}
 use Rattle.refusal.specs.Table.{to_peer, number_of}
 use Rattle.refusal.specs.Lent.{Outcome, gives, refuses, within, answer}
-use Rattle.handshake.specs.Handed.{Derived}
+use Rattle.handshake.specs.declared.Derived.{Derived}
 use Rattle.server.specs.KeyExchange.{View}
 use Rattle.server.specs.Connection.{Settings, start_answer}
 use Rattle.record_server.specs.declared.RecordConnection.{RecordConnection}
@@ -26,15 +25,15 @@ use Rattle.record_server.specs.Connection.{closed_with, closing_alert, after_ref
 use Rattle.record_server.specs.Sending as Sending
 use Rattle.record_server.specs.Sending.{settled, answered, next_after}
 use Rattle.record_server.specs.Taking as Taking
-use Rattle.record_server.specs.Taking.{Step, Settled, refuse, accept, refused, front, take_call, take_step, taken, handed}
+use Rattle.record_server.specs.Taking.{Step, Settled, refuse, accept, refused, front, take_call, take_step, taken}
 use Rattle.record_server.proofs.Settling.{alerts-close}
 use Rattle.saved_records.specs.Saved.{restored}
 use Rattle.c_interface.specs.Codes.{coded}
-use Rattle.c_interface.specs.Records.{KeepsRecord, handed_field, data_fields, told_after}
+use Rattle.c_interface.specs.Records.{KeepsRecord, data_fields, told_after}
 use Rattle.c_interface.specs.Inner.{count, read_after, KeptRecord}
 use Rattle.c_interface.proofs.Answers.{answer-count-small}
 use Rattle.c_interface.proofs.Sizes.{Small}
-use Rattle.c_interface.proofs.Keeping.{closed-read, start-count, call-keeps, Handed, nothing}
+use Rattle.c_interface.proofs.Keeping.{closed-read, start-count, call-keeps}
 
 -- ---- what the bytes stand for
 
@@ -53,7 +52,7 @@ took-read c out memory (accept a) = go (leb (length a.answer) (length out) && le
     wrote : Settled
     wrote =
         record {
-          said = Wrote (length a.answer);
+          said = Ok (length a.answer);
           next = a.next;
           out = front a.answer out;
           memory = front a.held memory;
@@ -98,25 +97,29 @@ module _ (bytes out : List ℕ) (next : RecordConnection → RecordConnection) (
 -- ---- a record that was taken
 
 module _ (s : Settled) where
-  pub taken-parts : (o : Option Derived) {t : Taken} → t ≡ handed o s
-      → (t.said ≡ s.said) × (t.next ≡ s.next) × (t.holds ≡ s.holds) × (cond t.handed 1 0 ≡ handed_field o)
-      × Handed o t.handed t.master t.blocks
-  taken-parts none e = rw e (refl, refl, refl, refl, nothing)
-  taken-parts (some d) e = rw e (refl, refl, refl, refl, Handed.handed)
+  pub taken-parts : {t : Taken} → t ≡ taken s → (t.said ≡ s.said) × (t.next ≡ s.next) × (t.holds ≡ s.holds) × (t.handed ≡ s.master)
+  taken-parts e =
+      (ap (λ (t : Taken). t.said) e, ap (λ (t : Taken). t.next) e, ap (λ (t : Taken). t.holds) e, ap (λ (t : Taken). t.handed) e)
 
   -- the four numbers
-  pub told-accepted : (told : List ℕ) {t : Taken} {n : ℕ} {told' : List ℕ} → t ≡ taken s → t.said ≡ Wrote n
-      → told' ≡ cond t.handed 1 0 ∷ data_fields t.holds → told' ≡ told_after s.said s told
+  pub told-accepted : (told : List ℕ) {t : Taken} {told' : List ℕ} → t ≡ taken s → is_ok t.said ≡ true
+      → told' ≡ cond (is_some t.handed) 1 0 ∷ data_fields t.holds → told' ≡ told_after s.said s told
   told-accepted told e wrote f =
-      let p = taken-parts s.master e in
-      let said = sym p.0 ∙ wrote in
-      f ∙ rw (said, p.2, p.3)
+      let p = taken-parts e in
+      f ∙ rw (p.2, p.3) (of-said s.said (rw p.0 at wrote) s.master)
+    where
+      of-said : (r : Result ℕ Refusal) → is_ok r ≡ true → (o : Option Derived) → cond (is_some o) 1 0 ∷ data_fields s.holds ≡ told_after r (record { said = s.said; next = s.next; out = s.out; memory = s.memory; master = o; holds = s.holds }) told
+      of-said (Ok n) t None = refl
+      of-said (Ok n) t (Some d) = refl
+      of-said (Err r) t o = absurd (true≢false (sym t))
 
-  pub told-refused : (told : List ℕ) {t : Taken} {r : Refusal} {told' : List ℕ} → t ≡ taken s → t.said ≡ Refused r → told' ≡ told
+  pub told-refused : (told : List ℕ) {t : Taken} {told' : List ℕ} → t ≡ taken s → is_ok t.said ≡ false → told' ≡ told
       → told' ≡ told_after s.said s told
-  told-refused told e r f =
-      let said = sym (taken-parts s.master e).0 ∙ r in
-      f ∙ rw said
+  told-refused told e r f = f ∙ of-said s.said (rw (taken-parts e).0 at r)
+    where
+      of-said : (r : Result ℕ Refusal) → is_ok r ≡ false → told ≡ told_after r s told
+      of-said (Ok n) t = absurd (true≢false t)
+      of-said (Err r) t = refl
 
 module _ (v : View) (bytes received memory out : List ℕ) where
   pub took-keeps : {t : Taken} {bytes' : List ℕ} {result : ℤ} → t ≡ taken (take_call v (restored bytes) received memory out) → mag result < 2 ^ 31
@@ -126,5 +129,5 @@ module _ (v : View) (bytes received memory out : List ℕ) where
   took-keeps e fits told kept =
       let now = restored bytes in
       let s = take_call v now received memory out in
-      let p = taken-parts s s.master e in
+      let p = taken-parts s e in
       call-keeps p.0 p.1 fits told kept (took-read now out memory (take_step v now memory received))

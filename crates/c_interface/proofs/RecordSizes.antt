@@ -8,10 +8,12 @@ use mathlib.Core.List.{List, [], ◌∷◌, ◌++◌}
 use lib.ListN.{length, drop, get_or, length-take}
 use lib.Dec.{leb}
 use borrow.Author.Tests.{leb-true, eqb-true}
+use Rattle.std.specs.Prelude.{Result, Ok, Err}
+use Rattle.records.specs.declared.Content.{Content}
+use Rattle.refusal.specs.declared.Refusal.{Refusal}
 use Rattle.lists.proofs.Tests.{and_right}
 use Rattle.refusal.specs.declared.Refusal.TheVariants.{BadValue, DecodeError, DecryptError}
 use Rattle.refusal.specs.Lent.{Outcome, gives}
-use Rattle.layout.specs.declared.Verdict.{Verdict}
 use Rattle.endian.specs.Number.{Bytes}
 use Rattle.endian.specs.Vector.{stated}
 use Rattle.endian.proofs.Numbers.{bytes_drop}
@@ -23,10 +25,8 @@ use Rattle.server.specs.Change.{change_step}
 use Rattle.server.specs.KeyExchange.{View}
 use Rattle.records.specs.declared.ContentType.{ContentType}
 use Rattle.records.specs.declared.State.{State}
-use Rattle.records.specs.declared.Read.{Read}
-use Rattle.records.specs.declared.Opened.{Opened}
 use Rattle.records.specs.Record.{content_limit, whole, type_of, type_read, record_read}
-use Rattle.records.specs.Protection.{sealed, sealing, opened, content_of}
+use Rattle.records.specs.Protection.{sealed, sealing, opened, content_of, holding}
 use Rattle.records.specs.Joining.{held_in}
 use Rattle.records.proofs.Reading.{record-inside}
 use Rattle.records.proofs.Opening.{few-added, length-sealed, opened_inside}
@@ -48,9 +48,9 @@ sealing-small s kind content = bytes-if-small (leb (length content) content_limi
     let most : length content ≤ 16384 = leb-true (length content) 16384 ok in
     omega (arith, length-sealed s kind content, few-added s))
 
-over-small : (v : Verdict) (o : Outcome) → Small o → Small (after_over v o)
-over-small Verdict.Accepted o h = h
-over-small (Verdict.Refused r) o h = omega arith
+over-small : (v : Result Unit Refusal) (o : Outcome) → Small o → Small (after_over v o)
+over-small (Ok tt) o h = h
+over-small (Err r) o h = omega arith
 
 pub data-small : (c : RecordConnection) (content : List ℕ) → Small (data_record c content)
 data-small c content =
@@ -69,7 +69,7 @@ alert-small c h = omega (arith, length-take c.alert.length c.alert.bytes)
 -- ---- a record that came
 
 -- the content is as long as `opened` says, at most
-content-short : (s : State) (b : List ℕ) {kind : ContentType} {n : ℕ} → opened s b ≡ Opened.Content kind n → length (content_of s b) ≤ 16384
+content-short : (s : State) (b : List ℕ) {kind : ContentType} {n : ℕ} → opened s b ≡ holding kind n → length (content_of s b) ≤ 16384
 content-short s b {kind} {n} e =
     let inside = opened_inside s b e in
     rw inside.3 (omega (arith, length-take n (drop 5 b), inside.1))
@@ -98,22 +98,22 @@ module _ (v : View) (c : RecordConnection) where
       go (Judging.refuse r) = tt
       go (goes_on p) = tt
 
-  test_fits : (t : Verdict) (step : Step) → StepFits step → StepFits (after_test t step)
-  test_fits Verdict.Accepted step h = h
-  test_fits (Verdict.Refused r) step h = tt
+  test_fits : (t : Result Unit Refusal) (step : Step) → StepFits step → StepFits (after_test t step)
+  test_fits (Ok tt) step h = h
+  test_fits (Err r) step h = tt
 
-  opened-fits : (held b : List ℕ) (o : Opened) → opened c.reading b ≡ o → StepFits (opened_step v c held b o)
-  opened-fits held b (Opened.Refused r) e = tt
-  opened-fits held b (Opened.Content kind n) e = go (unlisted_first c)
+  opened-fits : (held b : List ℕ) (o : Result Content Refusal) → opened c.reading b ≡ o → StepFits (opened_step v c held b o)
+  opened-fits held b (Err r) e = tt
+  opened-fits held b (Ok opens) e = go (unlisted_first c)
     where
       content : List ℕ
       content = content_of c.reading b
 
-      go : (t : Bool) → StepFits (cond t (refuse DecryptError) (content_decided v c held content kind))
+      go : (t : Bool) → StepFits (cond t (refuse DecryptError) (content_decided v c held content opens.kind))
       go true = tt
       go false =
-          test_fits (content_test kind (is_complete c.handshake.phase) (not (is_empty held)) content) _
-          (content-fits held content kind (content-short c.reading b e))
+          test_fits (content_test opens.kind (is_complete c.handshake.phase) (not (is_empty held)) content) _
+          (content-fits held content opens.kind (content-short c.reading b e))
 
   taken-fits : (memory b : List ℕ) → StepFits (take_step v c memory b)
   taken-fits memory b =
@@ -135,14 +135,14 @@ data-fits v c b memory out = settled-fits c out memory (take_step v c memory b) 
 -- ---- numbers in bytes
 
 -- a record whose layout passed has a header, and is no longer than that can say
-pub read_length : (added : ℕ) (b : List ℕ) {kind : ContentType} → Bytes b → record_read added b ≡ Read.Record kind
+pub read_length : (added : ℕ) (b : List ℕ) {kind : ContentType} → Bytes b → record_read added b ≡ Ok kind
     → (5 ≤ length b) × (length b ≤ 65540)
 read_length added b {kind} bytes e =
     let inside = record-inside added b e in
     let few : length b - 5 < 65536 = go (whole b) refl e in
     (inside.0, omega arith)
   where
-    go : (t : Bool) → whole b ≡ t → cond t (type_read added b (type_of (get_or b 0 0))) (Read.Refused DecodeError) ≡ Read.Record kind
+    go : (t : Bool) → whole b ≡ t → cond t (type_read added b (type_of (get_or b 0 0))) (Err DecodeError) ≡ Ok kind
         → length b - 5 < 65536
     go true w f =
         let says : stated 2 (drop 3 b) ≡ length b - 5 = eqb-true (stated 2 (drop 3 b)) (length b - 5) (and_right (leb 5 (length b)) _ w) in

@@ -6,10 +6,10 @@ use Prim.Native.Nat.{ℕ, ◌-◌, ◌≤◌, ◌<◌, ◌^◌}
 use native.Mathlib.Omega.{arith}
 use mathlib.Core.Bool.{Bool, true, false, cond, ◌&&◌, and-eq-true_iff}
 use mathlib.Core.List.{List, ◌++◌, map}
-use mathlib.Core.Option.{Option, none, some}
 use lib.ListN.{length, take, length-take}
 use lib.Dec.{leb, ltb, eqb}
 use borrow.Author.Tests.{leb-true, ltb-true}
+use Rattle.std.specs.Prelude.{Option, None, Some}
 use Rattle.refusal.specs.declared.Refusal.{Refusal}
 use Rattle.refusal.specs.declared.Refusal.TheVariants.{ShortOutput, BadTable, BadList, BadValue, TableFull}
 use Rattle.refusal.specs.Lent.{Outcome, gives, refuses}
@@ -116,10 +116,10 @@ extension-small e = bytes-if-small (ltb e.kind 65536 && writable 2 e.contents) (
 
 -- a key has at most 64 bytes, whatever text it is read from
 text-key-small : (text : Option (List ℕ)) → Small (found (key_of_text text))
-text-key-small none = omega arith
-text-key-small (some s) = go (valid_key s) refl
+text-key-small None = omega arith
+text-key-small (Some s) = go (valid_key s) refl
   where
-    go : (t : Bool) → valid_key s ≡ t → Small (found (cond t (some (decoded s)) none))
+    go : (t : Bool) → valid_key s ≡ t → Small (found (cond t (Some (decoded s)) None))
     go true valid = let key = key-sound s valid in rw (length-decoded s) (omega arith)
     go false valid = omega arith
 
@@ -141,8 +141,8 @@ sized-small ls = bytes-if-small (leb (length ls) 256 && leb (length (joined ls))
     omega arith)
 
 unless-small : (r : Option Refusal) (o : Outcome) → Small o → Small (unless r o)
-unless-small none o h = h
-unless-small (some r) o h = omega arith
+unless-small None o h = h
+unless-small (Some r) o h = omega arith
 
 roomed-small : (room : ℕ) (o : Outcome) → Small o → Small (roomed room o)
 roomed-small room (gives table) h = bytes-if-small (leb (length (lines table)) room) table ShortOutput (λ _. h)
@@ -154,11 +154,11 @@ edit-small memory n starts count e =
     let t = take n memory in
     let made : Outcome = sized (lines_after e (lines t)) in
     let placed : Outcome = unless (misplaced e (listed (subject e) (lines t))) made in
-    let named : Outcome = unless (cond (allowed e) none (some BadValue)) placed in
+    let named : Outcome = unless (cond (allowed e) None (Some BadValue)) placed in
     let roomy : Outcome = roomed (length starts) (edited e t) in
     outcome-if-small (leb n (length memory)) (unless (list_refusal t starts count) roomy) BadTable
     (unless-small (list_refusal t starts count) roomy
     (roomed-small (length starts) (edited e t)
     (unless-small (table_refusal t) named
-    (unless-small (cond (allowed e) none (some BadValue)) placed
+    (unless-small (cond (allowed e) None (Some BadValue)) placed
     (unless-small (misplaced e (listed (subject e) (lines t))) made (sized-small (lines_after e (lines t))))))))

@@ -1,7 +1,7 @@
 -- The client's calls as C makes them: the connection in lent bytes (crates/saved_client/specs/Saved.antt).
-use Rattle.std.specs.Prelude.{◌≡◌, ℕ, List, ℤ}
-use Rattle.std.proofs.Math.Option.{Option}
-use Rattle.handshake.specs.Handed.{Derived, derived}
+use Rattle.std.specs.Prelude.{◌≡◌, ℕ, List, ℤ, Option}
+use Rattle.handshake.specs.Handed.{derived}
+use Rattle.handshake.specs.declared.Derived.{Derived}
 use Rattle.client.specs.declared.Connection.{Connection}
 use Rattle.client.specs.Step.{Settled}
 use Rattle.client.specs.Message.{message_call, handed_over, blocks_in}

@@ -1,10 +1,7 @@
 -- What comes back to C: one number for each answer, and what is left in the memory that was lent.
 -- n bytes written is n (and so 0 where something is accepted), R1 to R10 are -1 to -10, and the alert a is -1000 - a.
-use Rattle.std.specs.Prelude.{◌≡◌, ℕ, ◌+◌, cond, List, length, ℤ, pos, neg_ℤ}
-use Rattle.std.proofs.Math.Option.{Option, none, some}
+use Rattle.std.specs.Prelude.{◌≡◌, ℕ, ◌+◌, cond, List, length, ℤ, pos, neg_ℤ, Result, Ok, Err, Option, None, Some}
 use Rattle.refusal.specs.declared.Refusal.{Refusal}
-use Rattle.refusal.specs.declared.Written.{Written}
-use Rattle.refusal.specs.declared.Written.TheVariants.{Wrote, Refused}
 use Rattle.refusal.specs.Table.{number_of, to_peer}
 use Rattle.refusal.specs.Lent.{Outcome, gives, refuses, within, answer, after}
 use Rattle.table_edits.specs.Edits.{starts_after, count_after}
@@ -12,9 +9,9 @@ use Rattle.table_edits.specs.Edits.{starts_after, count_after}
 abbrev pub refusal_code : Refusal → ℤ
 refusal_code r = neg_ℤ (pos (cond (to_peer r) (1000 + number_of r) (number_of r)))
 
-abbrev pub coded : Written → ℤ
-coded (Wrote n) = pos n
-coded (Refused r) = refusal_code r
+abbrev pub coded : Result ℕ Refusal → ℤ
+coded (Ok n) = pos n
+coded (Err r) = refusal_code r
 
 -- ---- a call that is lent an output
 
@@ -47,15 +44,15 @@ pub record Reading : Type 0 where
   pub fields : Option (List ℕ)
 
 abbrev pub accepted : List ℕ → Reading
-accepted fields = record { code = pos 0; fields = some fields }
+accepted fields = record { code = pos 0; fields = Some fields }
 
 abbrev pub rejected : Refusal → Reading
-rejected r = record { code = refusal_code r; fields = none }
+rejected r = record { code = refusal_code r; fields = None }
 
 -- the lent fields afterwards
 abbrev pub fields_after : Option (List ℕ) → List ℕ → List ℕ
-fields_after none fields = fields
-fields_after (some given) fields = given
+fields_after None fields = fields
+fields_after (Some given) fields = given
 
 -- A reader that was lent `fields` for the reading `wanted` returned `result` and left `fields'`.
 pub record Reads (wanted : Reading) (fields : List ℕ) (result : ℤ) (fields' : List ℕ) : Type 0 where

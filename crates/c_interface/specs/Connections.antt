@@ -1,9 +1,9 @@
 -- The server's calls as C makes them: the connection in lent bytes (crates/saved/specs/Saved.antt).
-use Rattle.std.specs.Prelude.{◌≡◌, ℕ, cond, List, leb, eqb, ℤ}
-use Rattle.std.proofs.Math.Option.{Option}
-use Rattle.handshake.specs.Handed.{Derived, derived}
+use Rattle.std.specs.Prelude.{◌≡◌, ℕ, cond, List, leb, eqb, ℤ, Option, None, Some}
+use Rattle.handshake.specs.Handed.{derived}
+use Rattle.handshake.specs.declared.Derived.{Derived}
 use Rattle.handshake.specs.Protocol.{suites}
-use Rattle.server.specs.declared.Named.{Named}
+use Rattle.server.specs.declared.Rule.{Rule}
 use Rattle.server.specs.declared.Connection.{Connection}
 use Rattle.server.specs.declared.Answer.{Answer}
 use Rattle.server.specs.Connection.{bad_setting, start_answer}
@@ -20,8 +20,8 @@ Keeps wanted = KeepsAs saved restored wanted.said wanted.next
 -- ---- start
 
 -- the rule as C names it; 3 and above are none
-abbrev pub named_of : ℕ → Named
-named_of n = cond (eqb n 0) Named.Nothing (cond (eqb n 1) Named.Tell Named.Hide)
+abbrev pub named_of : ℕ → Option Rule
+named_of n = cond (eqb n 0) None (cond (eqb n 1) (Some Rule.Tell) (Some Rule.Hide))
 
 abbrev pub start_call : (random hint stand_in : List ℕ) → ℕ → Answer
 start_call random hint stand_in rule =

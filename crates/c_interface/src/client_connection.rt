@@ -13,10 +13,10 @@ ghost use Rattle.c_interface.specs.Inner.{count, KeptClient};
 
 use crate::code;
 use client::Connection;
-use refusal::Written;
+use refusal::Refusal;
 
 // The code of what was said; the connection's bytes change unless it is an R number.
-fn keep(said: Written, next: Connection, client: &mut [u8; 413]) -> i32
+fn keep(said: Result<usize, Refusal>, next: Connection, client: &mut [u8; 413]) -> i32
     requires { count said < 2 ^ 31 }
     ensures value { result ≡ coded said }
     ensures kept_client { KeptClient said next client.old client.new }
@@ -40,9 +40,7 @@ pub fn tn_client_start(
     ensures out_after { out.new ≡ (start_call (record { random = random.now; identity = identity.now; key = key.now }) out.old).out }
 {
     let answer = client::start(random, identity, key, out);
-    let said = answer.said;
-    let next = answer.next;
-    keep(said, next, client)
+    keep(answer.said, answer.next, client)
 }
 
 // A handshake message. The answer to a ServerHelloDone has the ClientKeyExchange, and the Finished in
@@ -61,14 +59,12 @@ pub fn tn_client_message(
 {
     let bytes = *client;
     let reply = client::message(saved_client::restore(bytes), message, out);
-    if reply.handed {
-        let secret = reply.master;
+    if let Some(derived) = reply.handed {
+        let secret = derived.master;
         *master = secret;
-        *blocks = reply.blocks;
+        *blocks = derived.blocks;
     }
-    let said = reply.said;
-    let next = reply.next;
-    keep(said, next, client)
+    keep(reply.said, reply.next, client)
 }
 
 // The server's change of cipher.
@@ -77,9 +73,7 @@ pub fn tn_client_change_of_cipher(client: &mut [u8; 413]) -> i32
 {
     let bytes = *client;
     let answer = client::change_of_cipher(saved_client::restore(bytes));
-    let said = answer.said;
-    let next = answer.next;
-    keep(said, next, client)
+    keep(answer.said, answer.next, client)
 }
 
 // A received alert.
@@ -88,9 +82,7 @@ pub fn tn_client_alert(client: &mut [u8; 413], level: u8, description: u8) -> i3
 {
     let bytes = *client;
     let answer = client::alert(saved_client::restore(bytes), level, description);
-    let said = answer.said;
-    let next = answer.next;
-    keep(said, next, client)
+    keep(answer.said, answer.next, client)
 }
 
 // What the connection awaits: 0 closed, 1 ServerHello, 2 ServerKeyExchange or ServerHelloDone, 3

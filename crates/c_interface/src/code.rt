@@ -4,7 +4,7 @@ ghost use Rattle.c_interface.specs.Codes.{coded, refusal_code};
 ghost use Rattle.c_interface.specs.Inner as Inner;
 ghost use Rattle.c_interface.specs.Inner.{count};
 
-use refusal::{Refusal, Written};
+use refusal::Refusal;
 
 fn below_zero(n: u16) -> i32
     ensures { result ≡ neg_ℤ (pos n) }
@@ -24,22 +24,22 @@ pub(crate) fn of_refusal(r: Refusal) -> i32
 }
 
 // The code of what a call said that was lent an output.
-pub(crate) fn of_answer(said: Written) -> i32
+pub(crate) fn of_answer(said: Result<usize, Refusal>) -> i32
     requires { count said < 2 ^ 31 }
     ensures { result ≡ coded said }
 {
     match said {
-        Written::Wrote(n) => n as i32,
-        Written::Refused(r) => of_refusal(r),
+        Ok(n) => n as i32,
+        Err(r) => of_refusal(r),
     }
 }
 
 // Whether the bytes of a connection change with this answer: not with an R number.
-pub(crate) fn changes(said: Written) -> bool
+pub(crate) fn changes(said: Result<usize, Refusal>) -> bool
     ensures { result ≡ Inner.changes said }
 {
     match said {
-        Written::Wrote(_) => true,
-        Written::Refused(r) => refusal::for_peer(r),
+        Ok(_) => true,
+        Err(r) => refusal::for_peer(r),
     }
 }

@@ -12,11 +12,11 @@ ghost use Rattle.c_interface.specs.Connections.{Keeps, Starts, Replies, start_ca
 ghost use Rattle.c_interface.specs.Inner.{count, Kept};
 
 use crate::code;
-use refusal::{Refusal, Written};
-use server::{Connection, Named};
+use refusal::Refusal;
+use server::{Connection, Rule};
 
 // The code of what was said; the connection's bytes change unless it is an R number.
-fn keep(said: Written, next: Connection, connection: &mut [u8; 388]) -> i32
+fn keep(said: Result<usize, Refusal>, next: Connection, connection: &mut [u8; 388]) -> i32
     requires { count said < 2 ^ 31 }
     ensures value { result ≡ coded said }
     ensures kept { Kept said next connection.old connection.new }
@@ -28,13 +28,13 @@ fn keep(said: Written, next: Connection, connection: &mut [u8; 388]) -> i32
 }
 
 // The rule of a number below 3.
-pub(crate) fn named(rule: u8) -> Named
+pub(crate) fn named(rule: u8) -> Option<Rule>
     ensures { result ≡ named_of rule }
 {
     match rule {
-        0 => Named::Nothing,
-        1 => Named::Tell,
-        _ => Named::Hide,
+        0 => None,
+        1 => Some(Rule::Tell),
+        _ => Some(Rule::Hide),
     }
 }
 
@@ -52,9 +52,7 @@ pub fn tn_start(
         return code::of_refusal(Refusal::BadSetting);
     }
     let answer = server::start(random, hint, stand_in, named(rule));
-    let said = answer.said;
-    let next = answer.next;
-    keep(said, next, connection)
+    keep(answer.said, answer.next, connection)
 }
 
 // A handshake message. The master secret, and how many blocks were hashed for it, are written where a
@@ -76,14 +74,12 @@ pub fn tn_message(
 {
     let bytes = *connection;
     let reply = server::message(saved::restore(bytes), table, starts, count, message, out);
-    if reply.handed {
-        let secret = reply.master;
+    if let Some(derived) = reply.handed {
+        let secret = derived.master;
         *master = secret;
-        *blocks = reply.blocks;
+        *blocks = derived.blocks;
     }
-    let said = reply.said;
-    let next = reply.next;
-    keep(said, next, connection)
+    keep(reply.said, reply.next, connection)
 }
 
 // A change of cipher.
@@ -92,9 +88,7 @@ pub fn tn_change_of_cipher(connection: &mut [u8; 388]) -> i32
 {
     let bytes = *connection;
     let answer = server::change_of_cipher(saved::restore(bytes));
-    let said = answer.said;
-    let next = answer.next;
-    keep(said, next, connection)
+    keep(answer.said, answer.next, connection)
 }
 
 // A received alert.
@@ -103,9 +97,7 @@ pub fn tn_alert(connection: &mut [u8; 388], level: u8, description: u8) -> i32
 {
     let bytes = *connection;
     let answer = server::alert(saved::restore(bytes), level, description);
-    let said = answer.said;
-    let next = answer.next;
-    keep(said, next, connection)
+    keep(answer.said, answer.next, connection)
 }
 
 // What the connection awaits: 0 closed, 1 ClientHello, 2 ClientKeyExchange, 3 a change of cipher, 4

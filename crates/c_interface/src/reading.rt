@@ -8,26 +8,23 @@ ghost use Rattle.hellos.specs.ClientHello.{client_place};
 ghost use Rattle.hellos.specs.ServerHello.{server_place};
 ghost use Rattle.c_interface.specs.Codes.{Reads};
 ghost use Rattle.c_interface.specs.Fields.{part_read, block_fields, ticket_read, server_read, client_read, extension_read};
-ghost use Rattle.c_interface.specs.Inner.{PartFits, BlockFits};
+ghost use Rattle.c_interface.specs.Inner.{PartFits};
 
 use crate::code;
 use extensions::Step;
-use hellos::client_hello::Client;
-use hellos::server_hello::Server;
-use hellos::{Block, client_hello, server_hello};
+use hellos::{client_hello, server_hello};
 use layout::Part;
-use messages::ticket::Ticket;
 use messages::{fixed, key_exchange, ticket};
 use refusal::Refusal;
 
 // What a block's three fields are.
-fn block_fields(block: Block) -> [u32; 3]
-    requires { BlockFits block }
+fn block_fields(block: Option<Part>) -> [u32; 3]
+    requires { PartFits block }
     ensures { result ≡ block_fields block }
 {
     match block {
-        Block::Absent => [0, 0, 0],
-        Block::At { start, len } => [1, start as u32, len as u32],
+        Some(part) => [1, part.start as u32, part.len as u32],
+        None => [0, 0, 0],
     }
 }
 
@@ -36,32 +33,22 @@ fn block_fields(block: Block) -> [u32; 3]
 pub fn tn_read_client_hello(message: &[u8], fields: &mut [u32; 9]) -> i32
     ensures { Reads (client_read (client_place message.now)) fields.old result fields.new }
 {
-    match client_hello::read(message) {
-        Client::Read {
-            version,
-            session_len,
-            suites_start,
-            suites_len,
-            methods_start,
-            methods_len,
-            block,
-        } => {
-            let last = block_fields(block);
-            *fields = [
-                version as u32,
-                session_len as u32,
-                suites_start as u32,
-                suites_len as u32,
-                methods_start as u32,
-                methods_len as u32,
-                last[0],
-                last[1],
-                last[2],
-            ];
-            0
-        }
-        Client::Refused => code::of_refusal(Refusal::DecodeError),
-    }
+    let Some(hello) = client_hello::read(message) else {
+        return code::of_refusal(Refusal::DecodeError);
+    };
+    let [present, start, len] = block_fields(hello.block);
+    *fields = [
+        hello.version as u32,
+        hello.session_len as u32,
+        hello.suites.start as u32,
+        hello.suites.len as u32,
+        hello.methods.start as u32,
+        hello.methods.len as u32,
+        present,
+        start,
+        len,
+    ];
+    0
 }
 
 // Version, length of the session id, suite, compression method, then the block: whether it is present,
@@ -69,42 +56,32 @@ pub fn tn_read_client_hello(message: &[u8], fields: &mut [u32; 9]) -> i32
 pub fn tn_read_server_hello(message: &[u8], fields: &mut [u32; 7]) -> i32
     ensures { Reads (server_read (server_place message.now)) fields.old result fields.new }
 {
-    match server_hello::read(message) {
-        Server::Read {
-            version,
-            session_len,
-            suite,
-            compression,
-            block,
-        } => {
-            let last = block_fields(block);
-            *fields = [
-                version as u32,
-                session_len as u32,
-                suite as u32,
-                compression as u32,
-                last[0],
-                last[1],
-                last[2],
-            ];
-            0
-        }
-        Server::Refused => code::of_refusal(Refusal::DecodeError),
-    }
+    let Some(hello) = server_hello::read(message) else {
+        return code::of_refusal(Refusal::DecodeError);
+    };
+    let [present, start, len] = block_fields(hello.block);
+    *fields = [
+        hello.version as u32,
+        hello.session_len as u32,
+        hello.suite as u32,
+        hello.compression as u32,
+        present,
+        start,
+        len,
+    ];
+    0
 }
 
 // A part's start and length.
-fn put_part(part: Part, fields: &mut [u32; 2]) -> i32
+fn put_part(part: Option<Part>, fields: &mut [u32; 2]) -> i32
     requires { PartFits part }
     ensures { Reads (part_read part) fields.old result fields.new }
 {
-    match part {
-        Part::At { start, len } => {
-            *fields = [start as u32, len as u32];
-            0
-        }
-        Part::Refused => code::of_refusal(Refusal::DecodeError),
-    }
+    let Some(part) = part else {
+        return code::of_refusal(Refusal::DecodeError);
+    };
+    *fields = [part.start as u32, part.len as u32];
+    0
 }
 
 // Start and length of the hint.
@@ -125,10 +102,10 @@ pub fn tn_read_client_key_exchange(message: &[u8], fields: &mut [u32; 2]) -> i32
 pub fn tn_read_server_hello_done(message: &[u8]) -> i32
     ensures { result ≡ (part_read (fixed_place 14 0 message.now)).code }
 {
-    match fixed::read_done(message) {
-        Part::At { start: _, len: _ } => 0,
-        Part::Refused => code::of_refusal(Refusal::DecodeError),
+    if fixed::read_done(message).is_none() {
+        return code::of_refusal(Refusal::DecodeError);
     }
+    0
 }
 
 // Start and length of the verify data.
@@ -142,17 +119,15 @@ pub fn tn_read_finished(message: &[u8], fields: &mut [u32; 2]) -> i32
 pub fn tn_read_new_session_ticket(message: &[u8], fields: &mut [u32; 3]) -> i32
     ensures { Reads (ticket_read (ticket_place message.now)) fields.old result fields.new }
 {
-    match ticket::read(message) {
-        Ticket::Read {
-            lifetime_hint,
-            start,
-            len,
-        } => {
-            *fields = [lifetime_hint, start as u32, len as u32];
-            0
-        }
-        Ticket::Refused => code::of_refusal(Refusal::DecodeError),
-    }
+    let Some(read) = ticket::read(message) else {
+        return code::of_refusal(Refusal::DecodeError);
+    };
+    *fields = [
+        read.lifetime_hint,
+        read.ticket.start as u32,
+        read.ticket.len as u32,
+    ];
+    0
 }
 
 // The extension at `at`: 1 and its type, its data's start and length, or 0 at the end of the block.

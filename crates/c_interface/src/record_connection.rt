@@ -14,11 +14,11 @@ ghost use Rattle.c_interface.specs.Inner.{count, KeptRecord, DataFits};
 
 use crate::code;
 use crate::connection::named;
-use record_server::{Data, RecordConnection};
-use refusal::{Refusal, Written};
+use record_server::RecordConnection;
+use refusal::Refusal;
 
 // The code of what was said; the connection's bytes change unless it is an R number.
-fn keep(said: Written, next: RecordConnection, connection: &mut [u8; 576]) -> i32
+fn keep(said: Result<usize, Refusal>, next: RecordConnection, connection: &mut [u8; 576]) -> i32
     requires { count said < 2 ^ 31 }
     ensures value { result ≡ coded said }
     ensures kept_record { KeptRecord said next connection.old connection.new }
@@ -44,23 +44,18 @@ pub fn tn_record_start(
         return code::of_refusal(Refusal::BadSetting);
     }
     let answer = record_server::start(random, hint, stand_in, named(rule));
-    let said = answer.said;
-    let next = answer.next;
-    keep(said, next, connection)
+    keep(answer.said, answer.next, connection)
 }
 
 // The four numbers of a record that was accepted.
-fn told_of(handed: bool, holds: Data) -> [u32; 4]
+fn told_of(handed: bool, holds: Option<usize>) -> [u32; 4]
     requires { DataFits holds }
     ensures { result ≡ cond handed 1 0 ∷ data_fields holds }
 {
-    let mut first: u32 = 0;
-    if handed {
-        first = 1;
-    }
+    let first = u32::from(handed);
     match holds {
-        Data::Nothing => [first, 0, 0, 0],
-        Data::Bytes(n) => [first, 1, 5, n as u32],
+        None => [first, 0, 0, 0],
+        Some(n) => [first, 1, 5, n as u32],
     }
 }
 
@@ -108,16 +103,13 @@ pub fn tn_take_record(
     let said = taken.said;
     let holds = taken.holds;
     let next = taken.next;
-    if taken.handed {
-        let secret = taken.master;
+    if let Some(derived) = taken.handed {
+        let secret = derived.master;
         *master = secret;
-        *blocks = taken.blocks;
+        *blocks = derived.blocks;
     }
-    match said {
-        Written::Wrote(_) => {
-            *told = told_of(taken.handed, holds);
-        }
-        Written::Refused(_) => {}
+    if said.is_ok() {
+        *told = told_of(taken.handed.is_some(), holds);
     }
     keep(said, next, connection)
 }
@@ -131,9 +123,7 @@ pub fn tn_send_data(connection: &mut [u8; 576], content: &[u8], out: &mut [u8]) 
 {
     let bytes = *connection;
     let answer = record_server::send(saved_records::restore(bytes), content, out);
-    let said = answer.said;
-    let next = answer.next;
-    keep(said, next, connection)
+    keep(answer.said, answer.next, connection)
 }
 
 // A close_notify, and the connection closed.
@@ -144,9 +134,7 @@ pub fn tn_send_close(connection: &mut [u8; 576], out: &mut [u8]) -> i32
 {
     let bytes = *connection;
     let answer = record_server::close(saved_records::restore(bytes), out);
-    let said = answer.said;
-    let next = answer.next;
-    keep(said, next, connection)
+    keep(answer.said, answer.next, connection)
 }
 
 // The record of the alert that closed the connection.

@@ -6,7 +6,7 @@ ghost use Rattle.c_interface.specs.Codes.{Codes, Reads};
 ghost use Rattle.c_interface.specs.Records.{read_record, under, sealing_as, opened_code};
 
 use crate::code;
-use records::{ContentType, Opened, Read, State, header, joining, protection};
+use records::{ContentType, State, header, joining, protection};
 use refusal::Refusal;
 
 // Type, version, length of the fragment; the protection may add so many bytes to the content.
@@ -14,15 +14,15 @@ pub fn tn_read_record(received: &[u8], added: usize, fields: &mut [u32; 3]) -> i
     ensures { Reads (read_record added received.now) fields.old result fields.new }
 {
     match header::read(received, added) {
-        Read::Record(kind) => {
+        Ok(kind) => {
             *fields = [
-                header::type_number(kind) as u32,
+                u32::from(u8::from(kind)),
                 endian::number16(received[1], received[2]) as u32,
                 (received.len() - 5) as u32,
             ];
             0
         }
-        Read::Refused(r) => code::of_refusal(r),
+        Err(r) => code::of_refusal(r),
     }
 }
 
@@ -30,12 +30,9 @@ pub fn tn_read_record(received: &[u8], added: usize, fields: &mut [u32; 3]) -> i
 fn seal(s: State, kind: u8, content: &[u8], out: &mut [u8]) -> i32
     ensures { Codes (sealing_as s kind content.now) out.old result out.new }
 {
-    match kind {
-        20 => code::of_answer(protection::seal(s, ContentType::ChangeCipherSpec, content, out)),
-        21 => code::of_answer(protection::seal(s, ContentType::Alert, content, out)),
-        22 => code::of_answer(protection::seal(s, ContentType::Handshake, content, out)),
-        23 => code::of_answer(protection::seal(s, ContentType::ApplicationData, content, out)),
-        _ => code::of_refusal(Refusal::BadValue),
+    match ContentType::try_from(kind) {
+        Ok(kind) => code::of_answer(protection::seal(s, kind, content, out)),
+        Err(_) => code::of_refusal(Refusal::BadValue),
     }
 }
 
@@ -76,8 +73,8 @@ pub fn tn_open_record(key: &[u8; 32], sequence: u64, received: &[u8]) -> i32
 {
     let bytes = *key;
     match protection::open(state(bytes, sequence), received) {
-        Opened::Content { kind: _, len } => len as i32,
-        Opened::Refused(r) => code::of_refusal(r),
+        Ok(content) => content.len as i32,
+        Err(r) => code::of_refusal(r),
     }
 }
 

@@ -9,7 +9,7 @@ ghost use Rattle.c_interface.specs.Numbered.{label_of, side_of, prf, finished};
 
 use crate::code;
 use keys::{Label, Side};
-use refusal::{Refusal, Written};
+use refusal::Refusal;
 
 pub fn tn_sha256(message: &[u8], out: &mut [u8]) -> i32
     ensures { Codes (sha256 message.now) out.old result out.new }
@@ -66,11 +66,8 @@ pub fn tn_master(
 {
     let done = keys::master(premaster, client, server, out);
     let said = done.said;
-    match said {
-        Written::Wrote(_) => {
-            *blocks = done.blocks;
-        }
-        Written::Refused(_) => {}
+    if said.is_ok() {
+        *blocks = done.blocks;
     }
     code::of_answer(said)
 }
@@ -85,7 +82,7 @@ pub fn tn_key_block(master: &[u8], server: &[u8], client: &[u8], suite: u16, out
 pub fn tn_key_block_length(suite: u16) -> i32
     ensures { result ≡ pos (Secrets.key_block_length suite) }
 {
-    code::of_answer(Written::Wrote(keys::key_block_length(suite)))
+    code::of_answer(Ok(keys::key_block_length(suite)))
 }
 
 // The side of a number below 2.

@@ -6,7 +6,7 @@ use native.Mathlib.Omega.{arith}
 use mathlib.Core.List.{List, [], ◌∷◌, ◌++◌, append_assoc}
 use lib.ListN.{length, take, drop}
 use lib.Seq.{drop_at}
-use Rattle.refusal.specs.declared.Written.{Written}
+use Rattle.std.specs.Prelude.{Result}
 use Rattle.refusal.specs.declared.Refusal.{Refusal}
 use Rattle.refusal.specs.declared.Refusal.TheVariants.{DecryptError}
 use Rattle.refusal.specs.Lent.{gives, refuses, Answers}
@@ -29,14 +29,14 @@ use Rattle.client.specs.Exchange.{exchange_of, before_finished, finished_with}
 use Rattle.client.specs.Inner.{after_done_with}
 
 -- a ClientKeyExchange that was written to an output with room for it
-pub exchange-put : (identity : List ℕ) {out left : List ℕ} {said : Written} → length identity ≤ 128 → length out ≡ 134
+pub exchange-put : (identity : List ℕ) {out left : List ℕ} {said : Result ℕ Refusal} → length identity ≤ 128 → length out ≡ 134
     → Answers (written client_key_exchange identity) out said left → take (6 + length identity) left ≡ bytes client_key_exchange identity
 exchange-put identity {left = left} few room a =
     let size : 6 + length identity ≡ length (bytes client_key_exchange identity) = omega arith in
     ap (λ (n : ℕ). take n left) size ∙ answer-first (rw (vector-valid 16 identity (omega arith)) at a) (omega arith)
 
 -- a Finished that was written to one of its length
-pub finished-put : (value : List ℕ) {out left : List ℕ} {said : Written} → length value ≡ 12 → length out ≡ 16
+pub finished-put : (value : List ℕ) {out left : List ℕ} {said : Result ℕ Refusal} → length value ≡ 12 → length out ≡ 16
     → Answers (written finished value) out said left → left ≡ bytes finished value
 finished-put value size room a = answer-fills (rw (fixed-valid 20 12 value size (omega arith)) at a) (omega arith)
 

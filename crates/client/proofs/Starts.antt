@@ -7,12 +7,11 @@ use mathlib.Core.List.{List}
 use lib.ListN.{length}
 use lib.Dec.{leb, eqb}
 use borrow.Author.Tests.{le-leb, lt-leb, leb-true, eqb-true}
+use Rattle.std.specs.Prelude.{Result, Ok, Err}
 use Rattle.lists.specs.Lists.{each}
 use Rattle.utf8.specs.Utf8.{valid_utf8}
 use Rattle.refusal.specs.declared.Refusal.{Refusal}
 use Rattle.refusal.specs.declared.Refusal.TheVariants.{BadSetting}
-use Rattle.refusal.specs.declared.Written.{Written}
-use Rattle.refusal.specs.declared.Written.TheVariants.{Wrote, Refused}
 use Rattle.refusal.specs.Lent.{gives, Answers}
 use Rattle.refusal.proofs.Laws.{wrote-all, refused-short}
 use Rattle.keytable.specs.Table.{plain, between, valid_identity, valid_secret}
@@ -43,13 +42,13 @@ allowed s h =
 
 module _ (s : Settings) {out : List ℕ} where
   -- R3
-  pub not-started : acceptable s ≡ false → start_call s out ≡ record { said = Refused BadSetting; out = out; next = ended Phase.Closed }
+  pub not-started : acceptable s ≡ false → start_call s out ≡ record { said = Err BadSetting; out = out; next = ended Phase.Closed }
   not-started bad = rw bad
 
-  module _ (ok : acceptable s ≡ true) {left : List ℕ} {said : Written} (a : Answers (gives (hello s.random)) out said left) where
-    pub hello-sent : {n : ℕ} → said ≡ Wrote n → start_call s out ≡ record { said = said; out = left; next = started s }
+  module _ (ok : acceptable s ≡ true) {left : List ℕ} {said : Result ℕ Refusal} (a : Answers (gives (hello s.random)) out said left) where
+    pub hello-sent : {n : ℕ} → said ≡ Ok n → start_call s out ≡ record { said = said; out = left; next = started s }
     hello-sent e = rw (ok, a.told, a.left, le-leb (length (hello s.random)) (length out) (wrote-all a e).0)
 
     -- R1
-    pub hello-short : {r : Refusal} → said ≡ Refused r → start_call s out ≡ record { said = said; out = left; next = ended Phase.Closed }
+    pub hello-short : {r : Refusal} → said ≡ Err r → start_call s out ≡ record { said = said; out = left; next = ended Phase.Closed }
     hello-short e = rw (ok, a.told, a.left, lt-leb (length (hello s.random)) (length out) (refused-short a e))

@@ -1,6 +1,5 @@
 -- A client's connection, and start (document 02, P7; RFC 5246, section 7.4.1.2).
-use Rattle.std.specs.Prelude.{ℕ, ◌-◌, Bool, true, false, cond, ◌&&◌, List, [], ◌∷◌, ◌++◌, map, length, take, replicate, eqb}
-use Rattle.std.proofs.Math.Option.{none}
+use Rattle.std.specs.Prelude.{ℕ, ◌-◌, Bool, true, false, cond, ◌&&◌, List, [], ◌∷◌, ◌++◌, map, length, take, replicate, eqb, None}
 use Rattle.endian.specs.Number.{be}
 use Rattle.refusal.specs.Lent.{Outcome, gives, refuses, within, answer, after}
 use Rattle.refusal.specs.declared.Refusal.TheVariants.{BadSetting}
@@ -36,7 +35,7 @@ offered = joined (map (be 2) suites)
 
 abbrev pub hello_fields : List ℕ → ClientHello
 hello_fields random =
-    record { version = tls12; random = random; session_id = []; suites = offered; methods = 0 ∷ []; extensions = none }
+    record { version = tls12; random = random; session_id = []; suites = offered; methods = 0 ∷ []; extensions = None }
 
 abbrev pub hello : List ℕ → List ℕ
 hello random = bytes client_hello (hello_fields random)

@@ -1,7 +1,6 @@
 -- A ServerKeyExchange, which brings a hint, and a ServerHelloDone, which is answered with ClientKeyExchange and Finished (document 02, P7; RFC 4279, sections 2
 -- and 5.2; RFC 5246, sections 7.4.7 and 7.4.9).
-use Rattle.std.specs.Prelude.{ℕ, List, [], ◌∷◌}
-use Rattle.std.proofs.Math.Option.{Option, none, some}
+use Rattle.std.specs.Prelude.{ℕ, List, [], ◌∷◌, Option, None, Some}
 use Rattle.refusal.specs.declared.Refusal.TheVariants.{DecodeError, DecryptError}
 use Rattle.refusal.specs.Lent.{Outcome, gives, refuses}
 use Rattle.sha256.specs.declared.Sha256.{Sha256}
@@ -27,8 +26,8 @@ after_hint c m =
     record { phase = Phase.Done; setup = c.setup; server = c.server; secrets = c.secrets; transcript = absorb c.transcript m }
 
 abbrev pub hint_step : Connection → List ℕ → Option (List ℕ) → Step
-hint_step c m none = refuse DecodeError
-hint_step c m (some hint) = accept silence (after_hint c m)
+hint_step c m None = refuse DecodeError
+hint_step c m (Some hint) = accept silence (after_hint c m)
 
 -- ---- the answer to ServerHelloDone: ClientKeyExchange, and Finished behind the client's change of cipher
 
@@ -72,5 +71,5 @@ blocks_under c = master_under_blocks (key_of c.setup) c.setup.random c.server.ra
 
 -- 50 for a body that is not empty
 abbrev pub done_step : Connection → List ℕ → Option (List ℕ) → Step
-done_step c m none = refuse DecodeError
-done_step c m (some body) = exchanged c m
+done_step c m None = refuse DecodeError
+done_step c m (Some body) = exchanged c m

@@ -1,6 +1,5 @@
 -- A ServerHello (document 02, P7; RFC 5246, section 7.4.1.3).
-use Rattle.std.specs.Prelude.{ℕ, Bool, true, false, cond, not, ◌||◌, List, [], ◌∷◌, eqb}
-use Rattle.std.proofs.Math.Option.{Option, none, some}
+use Rattle.std.specs.Prelude.{ℕ, Bool, true, false, cond, not, ◌||◌, List, [], ◌∷◌, eqb, Option, None, Some}
 use Rattle.refusal.specs.declared.Refusal.{Refusal}
 use Rattle.refusal.specs.declared.Refusal.TheVariants.{DecodeError, IllegalParameter, ProtocolVersion, UnsupportedExtension}
 use Rattle.sha256.specs.State.{absorb}
@@ -24,9 +23,9 @@ other_version suite = cond (eqb suite 0x008c) ProtocolVersion IllegalParameter
 
 -- no extension: the block is absent or empty
 abbrev pub bare : Option (List ℕ) → Bool
-bare none = true
-bare (some []) = true
-bare (some (b ∷ block)) = false
+bare None = true
+bare (Some []) = true
+bare (Some (b ∷ block)) = false
 
 -- after the hello m
 abbrev pub after_hello : Connection → List ℕ → ServerHello → Connection
@@ -42,8 +41,8 @@ after_hello c m f =
 -- In order: 50 for the layout, 47 for a suite that was not offered, 47 or 70 for another version, 47 for a compression other than null, 110 for any extension.
 -- The session id is not judged.
 abbrev pub hello_step : Connection → List ℕ → Option ServerHello → Step
-hello_step c m none = refuse DecodeError
-hello_step c m (some f) =
+hello_step c m None = refuse DecodeError
+hello_step c m (Some f) =
     cond (not (among suites f.suite)) (refuse IllegalParameter)
     (cond (not (eqb f.version tls12)) (refuse (other_version f.suite))
     (cond (not (eqb f.compression 0)) (refuse IllegalParameter)

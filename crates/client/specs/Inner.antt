@@ -1,31 +1,12 @@
 -- What the contracts of private functions cite: results as the code's own types have them, and parts of a step. Nothing that a public contract says stands here.
-use Rattle.std.specs.Prelude.{ℕ, ◌≤◌, ◌≡◌, Bool, true, List, take, drop, eqb}
+use Rattle.std.specs.Prelude.{ℕ, ◌≤◌, ◌≡◌, List, take, drop}
 use Rattle.sha256.specs.declared.Sha256.{Sha256}
 use Rattle.sha256.specs.State.{absorb}
-use Rattle.layout.specs.declared.Verdict.{Verdict}
-use Rattle.hellos.specs.declared.Block.{Block}
 use Rattle.handshake.specs.Flight.{counted, longest}
-use Rattle.handshake.specs.Handed.{step_blocks}
-use Rattle.handshake.specs.Outgoing.{flight_of}
-use Rattle.handshake.specs.Step.{refuse, accept}
 use Rattle.client.specs.declared.Phase.{Phase}
 use Rattle.client.specs.declared.Connection.{Connection}
 use Rattle.client.specs.declared.Answer.{Answer}
-use Rattle.client.specs.declared.step.Decision.{Decision}
 use Rattle.client.specs.Step.{Step, settled, answered}
-
--- the step that a decision stands for
-abbrev pub decided_by : Verdict → Decision → Step
-decided_by Verdict.Accepted d = accept (flight_of d.outgoing) d.next
-decided_by (Verdict.Refused r) d = refuse r
-
-abbrev pub decided : Decision → Step
-decided d = decided_by d.verdict d
-
--- it stands for the step, and reports this number of blocks where the step does not refuse
-pub record Decides (d : Decision) (step : Step) (blocks : ℕ) : Type 0 where
-  pub means : decided d ≡ step
-  pub counts : d.blocks ≡ step_blocks step blocks
 
 -- what a call gives back for a step, and what it leaves in the lent output
 pub record Does (c : Connection) (out : List ℕ) (step : Step) (given : Answer) (left : List ℕ) : Type 0 where
@@ -34,11 +15,6 @@ pub record Does (c : Connection) (out : List ℕ) (step : Step) (given : Answer)
   pub brief : counted given.said ≤ longest
 
 -- ---- parts of the steps
-
--- the block has no extension, by its length
-abbrev pub no_extension : Block → Bool
-no_extension Block.Absent = true
-no_extension (Block.At start len) = eqb len 0
 
 -- after the hello m, whose random stands at 6
 abbrev pub after_hello_with : Connection → List ℕ → ℕ → Connection

@@ -1,15 +1,14 @@
 -- A handshake message of the server: which one is awaited, the order of its tests, and what the call gives back (document 01, "Numbers that come back"; document
 -- 02, P7).
-use Rattle.std.specs.Prelude.{ℕ, Bool, true, false, cond, List, get_or, replicate, eqb}
-use Rattle.std.proofs.Math.Option.{Option, none, some}
+use Rattle.std.specs.Prelude.{ℕ, Bool, cond, List, get_or, eqb, Result, Ok, Err, Option, None, Some}
+use Rattle.refusal.specs.declared.Refusal.{Refusal}
 use Rattle.refusal.specs.declared.Refusal.TheVariants.{ConnectionOver, UnexpectedMessage}
-use Rattle.refusal.specs.declared.Written.{Written}
-use Rattle.refusal.specs.declared.Written.TheVariants.{Wrote, Refused}
 use Rattle.layout.specs.Types.{server_hello_type, server_key_exchange_type, server_hello_done_type, finished_type}
 use Rattle.layout.specs.Place.{last_at, filled_by, contents}
 use Rattle.hellos.specs.ServerHello.{server_body, server_fields}
 use Rattle.handshake.specs.Finished.{verify_data_length}
-use Rattle.handshake.specs.Handed.{Derived, derived}
+use Rattle.handshake.specs.Handed.{derived}
+use Rattle.handshake.specs.declared.Derived.{Derived}
 use Rattle.handshake.specs.Header.{header_test}
 use Rattle.handshake.specs.Step.{refuse, after_tests}
 use Rattle.client.specs.declared.Phase.{Phase}
@@ -28,13 +27,13 @@ brings_hint m = eqb (get_or m 0 0) server_key_exchange_type
 -- The type of the message that is awaited in each phase, if one is. A server without a hint sends no ServerKeyExchange (RFC 4279, section 2), so that
 -- ServerHelloDone is awaited in its place too; after one there is no second.
 abbrev pub awaited : Phase → List ℕ → Option ℕ
-awaited Phase.Hello m = some server_hello_type
-awaited Phase.KeyExchange m = some (cond (brings_hint m) server_key_exchange_type server_hello_done_type)
-awaited Phase.Done m = some server_hello_done_type
-awaited Phase.Change m = none
-awaited Phase.Finished m = some finished_type
-awaited Phase.Complete m = none
-awaited Phase.Closed m = none
+awaited Phase.Hello m = Some server_hello_type
+awaited Phase.KeyExchange m = Some (cond (brings_hint m) server_key_exchange_type server_hello_done_type)
+awaited Phase.Done m = Some server_hello_done_type
+awaited Phase.Change m = None
+awaited Phase.Finished m = Some finished_type
+awaited Phase.Complete m = None
+awaited Phase.Closed m = None
 
 -- The step of each phase, of a message that passed the tests on its header. No message passes in the other phases.
 abbrev pub body_step : Connection → List ℕ → Phase → Step
@@ -57,17 +56,17 @@ message_call c m out = settled c out (message_step c m c.phase)
 -- The master secret that the host is handed for its records: with the answer to ServerHelloDone, behind which the connection awaits the change of cipher. R1
 -- hands over none.
 abbrev pub master_in : Phase → List ℕ → Option (List ℕ)
-master_in Phase.Hello master = none
-master_in Phase.KeyExchange master = none
-master_in Phase.Done master = none
-master_in Phase.Change master = some master
-master_in Phase.Finished master = none
-master_in Phase.Complete master = none
-master_in Phase.Closed master = none
+master_in Phase.Hello master = None
+master_in Phase.KeyExchange master = None
+master_in Phase.Done master = None
+master_in Phase.Change master = Some master
+master_in Phase.Finished master = None
+master_in Phase.Complete master = None
+master_in Phase.Closed master = None
 
-abbrev pub handed_over : Written → Connection → Option (List ℕ)
-handed_over (Wrote n) next = master_in next.phase next.secrets.master
-handed_over (Refused r) next = none
+abbrev pub handed_over : Result ℕ Refusal → Connection → Option (List ℕ)
+handed_over (Ok n) next = master_in next.phase next.secrets.master
+handed_over (Err r) next = None
 
 -- how many blocks were hashed for it (document 02, P8)
 abbrev pub blocks_in : Connection → List ℕ → Phase → ℕ
@@ -79,10 +78,9 @@ blocks_in c m Phase.Finished = 0
 blocks_in c m Phase.Complete = 0
 blocks_in c m Phase.Closed = 0
 
--- what a message is answered with: zeros where no master is handed over
-abbrev pub with_master : Written → Connection → Option Derived → Reply
-with_master said next none = record { said = said; handed = false; master = replicate 48 0; blocks = 0; next = next }
-with_master said next (some d) = record { said = said; handed = true; master = d.master; blocks = d.blocks; next = next }
+-- what a message is answered with
+abbrev pub with_master : Result ℕ Refusal → Connection → Option Derived → Reply
+with_master said next o = record { said = said; handed = o; next = next }
 
 abbrev pub replied : Connection → List ℕ → Settled → Reply
 replied c m s = with_master s.said s.next (derived (handed_over s.said s.next) (blocks_in c m c.phase))

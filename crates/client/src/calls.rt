@@ -1,36 +1,25 @@
 // The calls of a connection: a message, a change of cipher, a received alert.
 ghost use Rattle.std.specs.Prelude.{◌≡◌, ◌≤◌};
-ghost use Rattle.std.proofs.Math.Option.{none};
+ghost use Rattle.handshake.specs.Decision.{Decides, blocks_in};
 ghost use Rattle.handshake.specs.Flight.{longest, counted};
 ghost use Rattle.handshake.specs.Handed.{derived};
-ghost use Rattle.handshake.specs.Header.{kind_awaited};
 ghost use Rattle.client.specs.Connection.{is_over};
 ghost use Rattle.client.specs.Step.{answered};
 ghost use Rattle.client.specs.Message as Message;
-ghost use Rattle.client.specs.Message.{brings_hint, body_step, message_step, message_call, master_in, handed_over, blocks_in, with_master, replied};
+ghost use Rattle.client.specs.Message.{brings_hint, body_step, message_step, message_call, handed_over, replied};
 ghost use Rattle.client.specs.Change.{after_change, change_call};
 ghost use Rattle.client.specs.Alert.{alert_call};
-ghost use Rattle.client.specs.Inner.{Decides};
 
-use crate::step::Decision;
 use crate::{Answer, Connection, Phase, Reply, ended, exchange, finished, hello, step};
-use handshake::{Awaited, Heard};
-use layout::{Verdict, types};
-use refusal::{Refusal, Written};
+use handshake::{Decision, Derived, Heard};
+use layout::types;
+use refusal::Refusal;
 
 // Whether a connection is complete or closed.
 fn is_over(phase: Phase) -> bool
     ensures { result ≡ is_over phase }
 {
-    match phase {
-        Phase::Hello => false,
-        Phase::KeyExchange => false,
-        Phase::Done => false,
-        Phase::Change => false,
-        Phase::Finished => false,
-        Phase::Complete => true,
-        Phase::Closed => true,
-    }
+    matches!(phase, Phase::Complete | Phase::Closed)
 }
 
 // ---- a message
@@ -39,43 +28,37 @@ fn is_over(phase: Phase) -> bool
 fn brings_hint(m: &[u8]) -> bool
     ensures { result ≡ brings_hint m.now }
 {
-    if m.len() == 0 {
-        return false;
-    }
-    m[0] == types::SERVER_KEY_EXCHANGE
+    m.first() == Some(&types::SERVER_KEY_EXCHANGE)
 }
 
 // The ServerKeyExchange, or the ServerHelloDone that comes in its place.
-fn hint_or_done(m: &[u8]) -> Awaited
-    ensures { kind_awaited result ≡ Message.awaited Phase.KeyExchange m.now }
+fn hint_or_done(m: &[u8]) -> Option<u8>
+    ensures { result ≡ Message.awaited Phase.KeyExchange m.now }
 {
     if brings_hint(m) {
-        return Awaited::Message(types::SERVER_KEY_EXCHANGE);
+        return Some(types::SERVER_KEY_EXCHANGE);
     }
-    Awaited::Message(types::SERVER_HELLO_DONE)
+    Some(types::SERVER_HELLO_DONE)
 }
 
 // The table of what is awaited.
-fn awaited_in(phase: Phase, m: &[u8]) -> Awaited
-    ensures { kind_awaited result ≡ Message.awaited phase m.now }
+fn awaited_in(phase: Phase, m: &[u8]) -> Option<u8>
+    ensures { result ≡ Message.awaited phase m.now }
 {
     match phase {
-        Phase::Hello => Awaited::Message(types::SERVER_HELLO),
+        Phase::Hello => Some(types::SERVER_HELLO),
         Phase::KeyExchange => hint_or_done(m),
-        Phase::Done => Awaited::Message(types::SERVER_HELLO_DONE),
-        Phase::Change => Awaited::Nothing,
-        Phase::Finished => Awaited::Message(types::FINISHED),
-        Phase::Complete => Awaited::Nothing,
-        Phase::Closed => Awaited::Nothing,
+        Phase::Done => Some(types::SERVER_HELLO_DONE),
+        Phase::Finished => Some(types::FINISHED),
+        Phase::Change | Phase::Complete | Phase::Closed => None,
     }
 }
 
 // The step of a message whose header is tested already.
-fn body(c: Connection, m: &[u8]) -> Decision
-    ensures { Decides result (body_step c m.now c.phase) (blocks_in c m.now c.phase) }
+fn body(c: Connection, m: &[u8]) -> Result<Decision<Connection>, Refusal>
+    ensures { Decides result (body_step c m.now c.phase) (Message.blocks_in c m.now c.phase) }
 {
-    let phase = c.phase;
-    match phase {
+    match c.phase {
         Phase::Hello => hello::body(c, m),
         Phase::KeyExchange => {
             if brings_hint(m) {
@@ -84,78 +67,44 @@ fn body(c: Connection, m: &[u8]) -> Decision
             exchange::done(c, m)
         }
         Phase::Done => exchange::done(c, m),
-        Phase::Change => step::refused(c, Refusal::UnexpectedMessage),
         Phase::Finished => finished::body(c, m),
-        Phase::Complete => step::refused(c, Refusal::UnexpectedMessage),
-        Phase::Closed => step::refused(c, Refusal::UnexpectedMessage),
+        Phase::Change | Phase::Complete | Phase::Closed => Err(Refusal::UnexpectedMessage),
     }
 }
 
 // What a message comes to, whatever the room.
-fn decide(c: Connection, m: &[u8]) -> Decision
-    ensures { Decides result (message_step c m.now c.phase) (blocks_in c m.now c.phase) }
+fn decide(c: Connection, m: &[u8]) -> Result<Decision<Connection>, Refusal>
+    ensures { Decides result (message_step c m.now c.phase) (Message.blocks_in c m.now c.phase) }
 {
     let phase = c.phase;
     if is_over(phase) {
-        return step::refused(c, Refusal::ConnectionOver);
+        return Err(Refusal::ConnectionOver);
     }
-    match handshake::test_header(awaited_in(phase, m), m) {
-        Verdict::Accepted => body(c, m),
-        Verdict::Refused(r) => step::refused(c, r),
-    }
+    handshake::test_header(awaited_in(phase, m), m)?;
+    body(c, m)
 }
 
-// The reply to a message that hands over no master secret.
-fn without_master(a: Answer) -> Reply
-    ensures { result ≡ with_master a.said a.next none }
+// The master secret that an answer hands over, with the number of its blocks: with the answer to ServerHelloDone.
+fn handed(said: Result<usize, Refusal>, next: Connection, blocks: u64) -> Option<Derived>
+    ensures { result ≡ derived (handed_over said next) blocks }
 {
-    let said = a.said;
-    let next = a.next;
-    Reply {
-        said,
-        handed: false,
-        master: [0u8; 48],
-        blocks: 0,
-        next,
-    }
-}
-
-// The reply to a message that was accepted: the master secret and the number of its blocks are handed over with
-// the answer to ServerHelloDone.
-fn accepted(a: Answer, blocks: u64) -> Reply
-    ensures { result ≡ with_master a.said a.next (derived (master_in a.next.phase a.next.secrets.master) blocks) }
-{
-    let said = a.said;
-    let next = a.next;
-    let phase = next.phase;
-    match phase {
-        Phase::Hello => without_master(a),
-        Phase::KeyExchange => without_master(a),
-        Phase::Done => without_master(a),
-        Phase::Change => {
+    match (said, next.phase) {
+        (Ok(_), Phase::Change) => {
             let secrets = next.secrets;
             let master = secrets.master;
-            Reply {
-                said,
-                handed: true,
-                master,
-                blocks,
-                next,
-            }
+            Some(Derived { master, blocks })
         }
-        Phase::Finished => without_master(a),
-        Phase::Complete => without_master(a),
-        Phase::Closed => without_master(a),
+        _ => None,
     }
 }
 
-fn reply(a: Answer, blocks: u64) -> Reply
-    ensures { result ≡ with_master a.said a.next (derived (handed_over a.said a.next) blocks) }
+// The number of blocks that a decision reports.
+fn blocks_in(d: Result<Decision<Connection>, Refusal>) -> u64
+    ensures { result ≡ blocks_in d }
 {
-    let said = a.said;
-    match said {
-        Written::Wrote(_) => accepted(a, blocks),
-        Written::Refused(_) => without_master(a),
+    match d {
+        Ok(d) => d.blocks,
+        Err(_) => 0,
     }
 }
 
@@ -166,8 +115,12 @@ pub fn message(c: Connection, m: &[u8], out: &mut [u8]) -> Reply
     ensures said_bound { counted result.said ≤ longest }
 {
     let d = decide(c, m);
-    let a = step::settle(c, d, out);
-    reply(a, d.blocks)
+    let answer = step::settle(c, d, out);
+    Reply {
+        said: answer.said,
+        handed: handed(answer.said, answer.next, blocks_in(d)),
+        next: answer.next,
+    }
 }
 
 // ---- a change of cipher
@@ -193,21 +146,15 @@ fn after_change(c: Connection) -> Connection
 pub fn change_of_cipher(c: Connection) -> Answer
     ensures { result ≡ answered (change_call c) }
 {
-    let phase = c.phase;
-    match phase {
-        Phase::Hello => step::refuse(c, Refusal::UnexpectedMessage),
-        Phase::KeyExchange => step::refuse(c, Refusal::UnexpectedMessage),
-        Phase::Done => step::refuse(c, Refusal::UnexpectedMessage),
-        Phase::Change => {
-            let next = after_change(c);
-            Answer {
-                said: Written::Wrote(0),
-                next,
-            }
+    match c.phase {
+        Phase::Hello | Phase::KeyExchange | Phase::Done | Phase::Finished => {
+            step::refuse(c, Refusal::UnexpectedMessage)
         }
-        Phase::Finished => step::refuse(c, Refusal::UnexpectedMessage),
-        Phase::Complete => step::refuse(c, Refusal::ConnectionOver),
-        Phase::Closed => step::refuse(c, Refusal::ConnectionOver),
+        Phase::Change => Answer {
+            said: Ok(0),
+            next: after_change(c),
+        },
+        Phase::Complete | Phase::Closed => step::refuse(c, Refusal::ConnectionOver),
     }
 }
 
@@ -217,21 +164,17 @@ pub fn change_of_cipher(c: Connection) -> Answer
 pub fn alert(c: Connection, level: u8, description: u8) -> Answer
     ensures { result ≡ answered (alert_call c level description) }
 {
-    let phase = c.phase;
-    if is_over(phase) {
+    if is_over(c.phase) {
         return step::refuse(c, Refusal::ConnectionOver);
     }
     match handshake::hear(level, description) {
         Heard::Illegal => step::refuse(c, Refusal::IllegalParameter),
-        Heard::Ends => {
-            let next = ended(Phase::Closed);
-            Answer {
-                said: Written::Wrote(0),
-                next,
-            }
-        }
+        Heard::Ends => Answer {
+            said: Ok(0),
+            next: ended(Phase::Closed),
+        },
         Heard::Ignored => Answer {
-            said: Written::Wrote(0),
+            said: Ok(0),
             next: c,
         },
     }

@@ -7,18 +7,18 @@ ghost use Rattle.messages.specs.KeyExchange.{client_key_exchange};
 ghost use Rattle.messages.specs.Fixed as Fixed;
 ghost use Rattle.keys.specs.declared.Side.TheVariants.{Client};
 ghost use Rattle.keys.specs.Secrets.{finished_of};
+ghost use Rattle.handshake.specs.Decision.{Decides};
 ghost use Rattle.handshake.specs.Outgoing.{Sends};
 ghost use Rattle.client.specs.Connection.{identity_of};
 ghost use Rattle.client.specs.Exchange as Exchange;
 ghost use Rattle.client.specs.Exchange.{after_hint, hint_step, blocks_under, done_step};
-ghost use Rattle.client.specs.Inner.{Decides, after_done_with};
+ghost use Rattle.client.specs.Inner.{after_done_with};
 
-use crate::step::Decision;
-use crate::{Connection, Phase, Secrets, Setup, step};
-use handshake::Outgoing;
+use crate::{Connection, Phase, Secrets, Setup};
+use handshake::{Decision, Outgoing};
 use keys::Side;
-use layout::{Part, Verdict, put};
-use refusal::{Refusal, Written};
+use layout::put;
+use refusal::Refusal;
 
 // ---- the hint
 
@@ -40,13 +40,13 @@ fn after_hint(c: Connection, m: &[u8]) -> Connection
 }
 
 // A ServerKeyExchange whose header is tested already.
-pub(crate) fn hint(c: Connection, m: &[u8]) -> Decision
+pub(crate) fn hint(c: Connection, m: &[u8]) -> Result<Decision<Connection>, Refusal>
     ensures { Decides result (hint_step c m.now (contents m.now (last_at 2 m.now 4))) 0 }
 {
-    match messages::key_exchange::read_hint_body(m) {
-        Part::At { start: _, len: _ } => step::silent(after_hint(c, m)),
-        Part::Refused => step::refused(c, Refusal::DecodeError),
+    if messages::key_exchange::read_hint_body(m).is_none() {
+        return Err(Refusal::DecodeError);
     }
+    Ok(handshake::silent(after_hint(c, m), 0))
 }
 
 // ---- the answer
@@ -68,7 +68,7 @@ fn put_exchange(setup: Setup, out: &mut [u8; 134]) -> usize
 {
     let identity = setup.identity;
     let n = in_field(setup.identity_length, 128);
-    messages::key_exchange::write_identity(&identity[..n], out);
+    let _ = messages::key_exchange::write_identity(&identity[..n], out);
     6 + n
 }
 
@@ -77,7 +77,7 @@ fn finished(value: &[u8; 12]) -> [u8; 16]
     ensures { result ≡ bytes Fixed.finished value.now }
 {
     let mut message = [0u8; 16];
-    messages::fixed::write_finished(value, &mut message);
+    let _ = messages::fixed::write_finished(value, &mut message);
     message
 }
 
@@ -87,7 +87,7 @@ fn two(first: &[u8], second: &[u8; 16]) -> Outgoing
     ensures { Sends result (record { plain = first.now ∷ []; protected = second.now ∷ [] }) }
 {
     let mut bytes = [0u8; 180];
-    put::two(first, second, &mut bytes);
+    let _ = put::two(first, second, &mut bytes);
     Outgoing {
         bytes,
         lengths: [first.len(), 16, 0],
@@ -111,7 +111,12 @@ fn after_done(c: Connection, master: [u8; 48], transcript: sha256::Sha256) -> Co
 }
 
 // The answer under this master secret, for which so many blocks were hashed.
-fn answer(c: Connection, m: &[u8], master: [u8; 48], blocks: u64) -> Decision
+fn answer(
+    c: Connection,
+    m: &[u8],
+    master: [u8; 48],
+    blocks: u64,
+) -> Result<Decision<Connection>, Refusal>
     ensures { Decides result
         (Exchange.finished_with c m.now master (finished_of Client master (Exchange.before_finished c m.now))) blocks }
 {
@@ -121,23 +126,22 @@ fn answer(c: Connection, m: &[u8], master: [u8; 48], blocks: u64) -> Decision
     let before = transcript::with_message(with_done, &exchange[..n]);
     let mut value = [0u8; 12];
     match keys::finished_of(Side::Client, &master, before, &mut value) {
-        Written::Wrote(_) => {
+        Ok(_) => {
             let message = finished(&value);
             let outgoing = two(&exchange[..n], &message);
             let next = after_done(c, master, transcript::with_message(before, &message));
-            Decision {
-                verdict: Verdict::Accepted,
+            Ok(Decision {
                 outgoing,
                 next,
                 blocks,
-            }
+            })
         }
-        Written::Refused(_) => step::refused(c, Refusal::DecryptError),
+        Err(_) => Err(Refusal::DecryptError),
     }
 }
 
 // The answer under the master secret of the connection's key.
-fn exchanged(c: Connection, m: &[u8]) -> Decision
+fn exchanged(c: Connection, m: &[u8]) -> Result<Decision<Connection>, Refusal>
     ensures { Decides result (Exchange.exchanged c m.now) (blocks_under c) }
 {
     let setup = c.setup;
@@ -150,17 +154,17 @@ fn exchanged(c: Connection, m: &[u8]) -> Decision
     let told = keys::master_under(&key[..n], &own, &random, &mut master);
     let said = told.said;
     match said {
-        Written::Wrote(_) => answer(c, m, master, told.blocks),
-        Written::Refused(_) => step::refused(c, Refusal::DecryptError),
+        Ok(_) => answer(c, m, master, told.blocks),
+        Err(_) => Err(Refusal::DecryptError),
     }
 }
 
 // A ServerHelloDone whose header is tested already.
-pub(crate) fn done(c: Connection, m: &[u8]) -> Decision
+pub(crate) fn done(c: Connection, m: &[u8]) -> Result<Decision<Connection>, Refusal>
     ensures { Decides result (done_step c m.now (contents m.now (filled_by 0 m.now))) (blocks_under c) }
 {
-    match messages::fixed::read_done_body(m) {
-        Part::At { start: _, len: _ } => exchanged(c, m),
-        Part::Refused => step::refused(c, Refusal::DecodeError),
+    if messages::fixed::read_done_body(m).is_none() {
+        return Err(Refusal::DecodeError);
     }
+    exchanged(c, m)
 }

@@ -1,16 +1,16 @@
 // A ServerHello, judged by what was offered.
 ghost use Rattle.std.specs.Prelude.{◌≡◌, ◌≤◌, length};
+ghost use Rattle.handshake.specs.Decision.{Decides};
 ghost use Rattle.handshake.specs.Protocol.{suites};
+ghost use Rattle.hellos.specs.Hello.{block_contents};
 ghost use Rattle.hellos.specs.ServerHello.{server_body, server_fields};
 ghost use Rattle.client.specs.Hello as Hello;
-ghost use Rattle.client.specs.Hello.{among, hello_step};
-ghost use Rattle.client.specs.Inner as Inner;
-ghost use Rattle.client.specs.Inner.{Decides, after_hello_with};
+ghost use Rattle.client.specs.Hello.{among, bare, hello_step};
+ghost use Rattle.client.specs.Inner.{after_hello_with};
 
-use crate::step::Decision;
-use crate::{Connection, Negotiated, Phase, bytes32, step};
-use hellos::Block;
-use hellos::server_hello::Server;
+use crate::{Connection, Negotiated, Phase, bytes32};
+use handshake::Decision;
+use layout::Part;
 use refusal::Refusal;
 
 // TLS 1.2.
@@ -20,13 +20,7 @@ const VERSION: usize = 0x0303;
 fn offered(suite: usize) -> bool
     ensures { result ≡ among suites suite }
 {
-    if suite == 0x00ae {
-        return true;
-    }
-    if suite == 0x008c {
-        return true;
-    }
-    suite == 0x00b0
+    [0x00ae, 0x008c, 0x00b0].contains(&suite)
 }
 
 // What another version is refused with.
@@ -40,13 +34,10 @@ fn other_version(suite: usize) -> Refusal
 }
 
 // Whether there is no extension: the block is absent or empty.
-fn no_extension(block: Block) -> bool
-    ensures { result ≡ Inner.no_extension block }
+fn no_extension(block: Option<Part>, m: &[u8]) -> bool
+    ensures { result ≡ bare (block_contents m.now block) }
 {
-    match block {
-        Block::Absent => true,
-        Block::At { start: _, len } => len == 0,
-    }
+    block.is_none_or(|part| part.of(m).is_empty())
 }
 
 // The connection when the hello has come.
@@ -68,31 +59,21 @@ fn after_hello(c: Connection, m: &[u8], suite: u16) -> Connection
 }
 
 // A hello whose header is tested already.
-pub(crate) fn body(c: Connection, m: &[u8]) -> Decision
+pub(crate) fn body(c: Connection, m: &[u8]) -> Result<Decision<Connection>, Refusal>
     ensures { Decides result (hello_step c m.now (server_fields m.now (server_body m.now))) 0 }
 {
-    match hellos::server_hello::read_body(m) {
-        Server::Read {
-            version,
-            session_len: _,
-            suite,
-            compression,
-            block,
-        } => {
-            if !offered(suite) {
-                return step::refused(c, Refusal::IllegalParameter);
-            }
-            if version != VERSION {
-                return step::refused(c, other_version(suite));
-            }
-            if compression != 0 {
-                return step::refused(c, Refusal::IllegalParameter);
-            }
-            if !no_extension(block) {
-                return step::refused(c, Refusal::UnsupportedExtension);
-            }
-            step::silent(after_hello(c, m, suite as u16))
-        }
-        Server::Refused => step::refused(c, Refusal::DecodeError),
+    let hello = hellos::server_hello::read_body(m).ok_or(Refusal::DecodeError)?;
+    if !offered(hello.suite) {
+        return Err(Refusal::IllegalParameter);
     }
+    if hello.version != VERSION {
+        return Err(other_version(hello.suite));
+    }
+    if hello.compression != 0 {
+        return Err(Refusal::IllegalParameter);
+    }
+    if !no_extension(hello.block, m) {
+        return Err(Refusal::UnsupportedExtension);
+    }
+    Ok(handshake::silent(after_hello(c, m, hello.suite as u16), 0))
 }

@@ -16,7 +16,8 @@ ghost use Rattle.std.specs.Prelude.{◌≡◌, length};
 ghost use Rattle.client.specs.Connection as Conn;
 
 pub use calls::{alert, change_of_cipher, message};
-use refusal::Written;
+use handshake::Derived;
+use refusal::Refusal;
 use sha256::Sha256;
 pub use starting::start;
 
@@ -73,7 +74,7 @@ pub struct Connection {
 // connection.
 #[derive(Drop)]
 pub struct Answer {
-    pub said: Written,
+    pub said: Result<usize, Refusal>,
     pub next: Connection,
 }
 
@@ -81,10 +82,8 @@ pub struct Answer {
 // one is handed over with how many blocks were hashed for it, and the connection.
 #[derive(Drop)]
 pub struct Reply {
-    pub said: Written,
-    pub handed: bool,
-    pub master: [u8; 48],
-    pub blocks: u64,
+    pub said: Result<usize, Refusal>,
+    pub handed: Option<Derived>,
     pub next: Connection,
 }
 

@@ -5,7 +5,7 @@ ghost use Rattle.client.specs.Connection.{setup_of, begun, start_call};
 ghost use Rattle.client.specs.Step.{answered};
 
 use crate::{Answer, Connection, Phase, Secrets, Setup, bytes32, ended, nothing_said};
-use refusal::{Refusal, Written};
+use refusal::Refusal;
 use sha256::Sha256;
 
 // TLS 1.2.
@@ -36,7 +36,7 @@ fn hello(random: &[u8]) -> [u8; 49]
     let suites = OFFERED;
     let methods = [0u8];
     let mut bytes = [0u8; 49];
-    hellos::client_hello::write(
+    let _ = hellos::client_hello::write(
         VERSION, random, none, &suites, &methods, false, none, &mut bytes,
     );
     bytes
@@ -106,18 +106,18 @@ pub fn start(random: &[u8], identity: &[u8], key: &[u8], out: &mut [u8]) -> Answ
     if !acceptable(random, identity, key) {
         let next = ended(Phase::Closed);
         return Answer {
-            said: Written::Refused(Refusal::BadSetting),
+            said: Err(Refusal::BadSetting),
             next,
         };
     }
     let hello = hello(random);
     let said = refusal::put(&hello, out);
     match said {
-        Written::Wrote(_) => {
+        Ok(_) => {
             let next = started(setup(random, identity, key), &hello);
             Answer { said, next }
         }
-        Written::Refused(_) => {
+        Err(_) => {
             let next = ended(Phase::Closed);
             Answer { said, next }
         }

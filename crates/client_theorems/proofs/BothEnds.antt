@@ -5,11 +5,10 @@ use Prim.Native.Nat.{ℕ, ◌≤◌}
 use native.Mathlib.Omega.{arith}
 use mathlib.Core.Bool.{true, false, and-eq-true_iff}
 use mathlib.Core.List.{List, [], ◌∷◌, ◌++◌, append-nil, append_assoc}
-use mathlib.Core.Option.{none, some}
 use lib.ListN.{length, drop, replicate, length-append, length-replicate}
 use lib.Dec.{eqb, leb}
 use borrow.Author.Tests.{le-leb, eqb-true, leb-true}
-use Rattle.refusal.specs.declared.Written.TheVariants.{Wrote}
+use Rattle.std.specs.Prelude.{Ok, None, Some}
 use Rattle.refusal.specs.Lent.{gives, bytes_of}
 use Rattle.lists.proofs.Equal.{same_refl}
 use Rattle.sha256.specs.declared.Sha256.{Sha256}
@@ -71,7 +70,7 @@ use Rattle.client_theorems.proofs.Finishing as Finishing
 -- a step that is accepted, whole
 accepted-whole : {C : Type 0} (over c : C) (out : List ℕ) (step : Step C) (f : Flight) (next : C) (answer : List ℕ) → step ≡ accept f next
     → flight_bytes f ≡ answer → length answer ≤ length out
-    → settled over c out step ≡ record { said = Wrote (length answer); out = answer ++ drop (length answer) out; next = next }
+    → settled over c out step ≡ record { said = Ok (length answer); out = answer ++ drop (length answer) out; next = next }
 accepted-whole over c out step f next answer e b room = rw (e, b, le-leb (length answer) (length out) room)
 
 module _ (client : ClientStart.Settings) (server : ServerStart.Settings) (okClient : ClientStart.acceptable client ≡ true)
@@ -257,14 +256,14 @@ module _ (client : ClientStart.Settings) (server : ServerStart.Settings) (okClie
       read = (vector-inverse 16).reads-written client.identity (vector-valid 16 client.identity (omega (arith, (allowed client okClient).identity)));
     }
 
-    known : (rule : Rule) → ServerStages.unknown rule (some client.key) ≡ false
+    known : (rule : Rule) → ServerStages.unknown rule (Some client.key) ≡ false
     known Rule.Tell = refl
     known Rule.Hide = refl
 
     abbrev keyed : Server.Connection
-    keyed = ServerStages.keyed server legal-hello exchange (some client.key)
+    keyed = ServerStages.keyed server legal-hello exchange (Some client.key)
 
-    module _ (v : View) (good : v.refusal ≡ none) (listed : v.lookup client.identity ≡ some client.key) where
+    module _ (v : View) (good : v.refusal ≡ None) (listed : v.lookup client.identity ≡ Some client.key) where
       exchange-step : ServerMessage.message_step v (ServerStages.helloed server legal-hello) exchange ServerPhase.Phase.KeyExchange ≡ accept silence keyed
       exchange-step = ServerStages.exchange-legal server v legal-hello good legal-exchange ∙ rw (listed, known (ServerStart.rule_of server.named))
 
@@ -288,7 +287,7 @@ module _ (client : ClientStart.Settings) (server : ServerStart.Settings) (okClie
 
       -- both values, as the server makes them
       abbrev changed : Server.Connection
-      changed = ServerStages.changed server legal-hello exchange (some client.key)
+      changed = ServerStages.changed server legal-hello exchange (Some client.key)
 
       few : length (messages_before client (messages_in came ++ done)) ≤ 131072
       few = before-length client okClient (hello_in came).1.fields.random (Stages.random-size came) (messages_in came ++ done) (Stages.few came legal-done)
@@ -314,7 +313,7 @@ module _ (client : ClientStart.Settings) (server : ServerStart.Settings) (okClie
       unfolding ServerStart.started
       finished-step =
           let read-value = (fixed-inverse 20 12).reads-written shared.own (fixed-valid 20 12 shared.own shared.twelve (omega arith)) in
-          ServerFinishing.finished-read server v legal-hello exchange (some client.key) clients
+          ServerFinishing.finished-read server v legal-hello exchange (Some client.key) clients
           ∙ rw read-value (rw (clients-value, same_refl shared.own, servers-value))
 
       answers-finished : Takes (ServerSeries.call v) changed clients servers (ServerStart.ended ServerPhase.Phase.Complete)
@@ -325,11 +324,11 @@ module _ (client : ClientStart.Settings) (server : ServerStart.Settings) (okClie
   -- ---- all of it
 
   module _ (table starts : List ℕ) (count : ℕ) (formed : well_formed table ≡ true) (own : is_list table starts count ≡ true)
-      (listed : key_of table client.identity ≡ some client.key) where
+      (listed : key_of table client.identity ≡ Some client.key) where
     abbrev v : View
     v = view_of table starts count
 
-    not-refused : v.refusal ≡ none
+    not-refused : v.refusal ≡ None
     not-refused = rw (formed, own)
 
     pub handshake-done : FullHandshake client server v
@@ -371,7 +370,7 @@ module _ (client : ClientStart.Settings) (server : ServerStart.Settings) (okClie
           master = w.master;
           client_master = λ n. refl;
           server_master = ap (ServerMessage.handed_over ServerPhase.Phase.KeyExchange) (exchange-step hints-read v not-refused listed)
-              ∙ ap some (server-master hints-read v not-refused listed);
+              ∙ ap Some (server-master hints-read v not-refused listed);
           client_suite = refl;
           server_suite = refl;
           key_block = block.0;

@@ -9,8 +9,8 @@ use mathlib.Core.Bool.{Bool, true, false}
 use mathlib.Core.List.{List, [], ◌∷◌, ◌++◌, append-nil, append_assoc}
 use lib.ListN.{length}
 use lib.Dec.{leb}
+use Rattle.std.specs.Prelude.{Ok, Err}
 use Rattle.refusal.specs.declared.Refusal.{Refusal}
-use Rattle.refusal.specs.declared.Written.TheVariants.{Wrote, Refused}
 use Rattle.handshake.specs.Series.{Call, message, change_of_cipher, IgnoredWarning}
 use Rattle.handshake.proofs.Series.{run-append, run-stays, run-comes}
 use Rattle.client.specs.declared.Phase.{Phase}
@@ -116,13 +116,13 @@ module _ (s : Settings) (ok : acceptable s ≡ true) where
   )
 
 -- an accepted start: its settings are acceptable, and it gives the connection that awaits the ServerHello
-refused-wrote : {n : ℕ} {r : Refusal} → Refused r ≡ Wrote n → ⊥
+refused-wrote : {n : ℕ} {r : Refusal} → Err r ≡ Ok n → ⊥
 refused-wrote e = let z : ◌≡◌ {A = ℕ} 0 1 = cc in omega arith
 
 pub completes-exactly : ClientCompletesExactly
 completes-exactly s out n said calls = go (acceptable s) refl (leb (length (hello s.random)) (length out)) refl said
   where
-    go : (a : Bool) → acceptable s ≡ a → (b : Bool) → leb (length (hello s.random)) (length out) ≡ b → (start_call s out).said ≡ Wrote n
+    go : (a : Bool) → acceptable s ≡ a → (b : Bool) → leb (length (hello s.random)) (length out) ≡ b → (start_call s out).said ≡ Ok n
         → ((run (start_call s out).next calls).phase ≡ Phase.Complete) ↔ CameRight s calls
     go true ok true room e = rw (ok, room) (exactly s ok calls)
     go true ok false short e = absurd (refused-wrote (rw (ok, short) at e))

@@ -5,10 +5,10 @@ use mathlib.Core.Logic.{inl, inr}
 use native.Mathlib.Omega.{arith}
 use mathlib.Core.Bool.{Bool, true, false, cond}
 use mathlib.Core.List.{List}
-use mathlib.Core.Option.{Option, none, some}
 use Prim.Native.Nat.{ℕ}
 use lib.ListN.{length}
 use lib.Dec.{ltb}
+use Rattle.std.specs.Prelude.{Option, None, Some}
 use Rattle.refusal.specs.declared.Refusal.TheVariants.{UnexpectedMessage, DecodeError, DecryptError}
 use Rattle.keys.specs.declared.Side.TheVariants.{Server}
 use Rattle.keys.specs.Secrets.{finished_of}
@@ -81,7 +81,7 @@ module _ (s : Settings) (ok : acceptable s ≡ true) {calls : List Call} (came :
   abbrev step_of : List ℕ → Step
   step_of m = message_step awaiting m Phase.Finished
 
-  finished-read : (m : List ℕ) → step_of m ≡ or_refuse (unread 20 m) (λ value. finished_step awaiting (some value)) (read_fixed 20 12 m)
+  finished-read : (m : List ℕ) → step_of m ≡ or_refuse (unread 20 m) (λ value. finished_step awaiting (Some value)) (read_fixed 20 12 m)
   finished-read m = step-read (λ h. contents m (after_header h (filled_by 12 m))) (λ r. refl) (finished_step awaiting) refl (header 20 m)
 
   -- the step of a legal Finished
@@ -110,8 +110,8 @@ module _ (s : Settings) (ok : acceptable s ≡ true) {calls : List Call} (came :
           inr (inr (refused-closes (ended Phase.Closed) awaiting out (step_of m) DecryptError (judged m legal ∙ rw e) refl))
 
       of-read : (o : Option (List ℕ)) → read_fixed 20 12 m ≡ o → Fate awaiting IgnoredWarning (FinishedComes s came) (message m out)
-      of-read none read = inr (inr (refused-closes (ended Phase.Closed) awaiting out (step_of m) (unread 20 m) (finished-read m ∙ rw read) (unread-alerts 20 m)))
-      of-read (some value) read =
+      of-read None read = inr (inr (refused-closes (ended Phase.Closed) awaiting out (step_of m) (unread 20 m) (finished-read m ∙ rw read) (unread-alerts 20 m)))
+      of-read (Some value) read =
           let legal : LegalFinished m = record { value = value; read = read } in
           of-value legal (is_value value (right_value s (random_in came.came) (from_server came.came))) refl
   finished-fate change_of_cipher = inr (inr refl)

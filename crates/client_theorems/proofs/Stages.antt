@@ -7,17 +7,17 @@ use native.Mathlib.Omega.{arith}
 use native.Mathlib.Decide.{dec_le, ℕ_discrete}
 use mathlib.Core.Bool.{Bool, true, false, cond}
 use mathlib.Core.List.{List, ◌++◌}
-use mathlib.Core.Option.{Option, none, some, none-ne-some}
 use lib.ListN.{length, length-append, length-drop, get_or, drop}
 use lib.Seq.{length-take-le}
 use lib.Dec.{ltb, eqb}
 use borrow.Author.Tests.{eq-eqb, ne_eqb, eqb-true}
+use Rattle.std.proofs.lemmas.Option.{none-some}
+use Rattle.std.specs.Prelude.{Result, Ok, Err, Option, None, Some}
 use Rattle.refusal.specs.declared.Refusal.{Refusal}
 use Rattle.refusal.specs.declared.Refusal.TheVariants.{IllegalParameter, UnexpectedMessage, DecodeError, ProtocolVersion, UnsupportedExtension}
 use Rattle.refusal.specs.Table.{to_peer}
 use Rattle.sha256.specs.State.{fresh, absorb}
 use Rattle.sha256.proofs.Absorb.{absorb-append}
-use Rattle.layout.specs.declared.Verdict.{Verdict}
 use Rattle.layout.specs.Header.{header}
 use Rattle.layout.specs.Place.{last_at, filled_by, after_header, contents}
 use Rattle.layout.specs.Types.{message_limit}
@@ -82,7 +82,7 @@ module _ (s : Settings) where
   abbrev hello_step_of : List ℕ → Step
   hello_step_of m = message_step (started s) m Phase.Hello
 
-  hello-read : (m : List ℕ) → hello_step_of m ≡ or_refuse (unread 2 m) (λ f. hello_step (started s) m (some f)) (read_server_hello m)
+  hello-read : (m : List ℕ) → hello_step_of m ≡ or_refuse (unread 2 m) (λ f. hello_step (started s) m (Some f)) (read_server_hello m)
   hello-read m = step-read (λ h. server_fields m (server_header m h)) (λ r. refl) (hello_step (started s) m) refl (header 2 m)
 
   pub hello-legal : {m : List ℕ} (legal : LegalServerHello m) → hello_step_of m ≡ accept silence (helloed s legal)
@@ -93,10 +93,10 @@ module _ (s : Settings) where
   hello-other : (m : List ℕ) → LegalServerHello m ⊎ Alerts (hello_step_of m)
   hello-other m = of-read (read_server_hello m) refl
     where
-      step : (f : ServerHello) → read_server_hello m ≡ some f → hello_step_of m ≡ hello_step (started s) m (some f)
+      step : (f : ServerHello) → read_server_hello m ≡ Some f → hello_step_of m ≡ hello_step (started s) m (Some f)
       step f read = hello-read m ∙ rw read
 
-      of_fields : (f : ServerHello) → read_server_hello m ≡ some f → (a : Bool) → among suites f.suite ≡ a → Dec (f.version ≡ 0x0303)
+      of_fields : (f : ServerHello) → read_server_hello m ≡ Some f → (a : Bool) → among suites f.suite ≡ a → Dec (f.version ≡ 0x0303)
           → Dec (f.compression ≡ 0) → (b : Bool) → bare f.extensions ≡ b → LegalServerHello m ⊎ Alerts (hello_step_of m)
       of_fields f read false suite v d b e = inr (IllegalParameter, step f read ∙ rw suite, refl)
       of_fields f read true suite (no v) d b e =
@@ -109,8 +109,8 @@ module _ (s : Settings) where
           inl (record { fields = f; read = read; suite = suite; version = v; compression = d; extensions = e })
 
       of-read : (o : Option ServerHello) → read_server_hello m ≡ o → LegalServerHello m ⊎ Alerts (hello_step_of m)
-      of-read none read = inr (unread 2 m, hello-read m ∙ rw read, unread-alerts 2 m)
-      of-read (some f) read =
+      of-read None read = inr (unread 2 m, hello-read m ∙ rw read, unread-alerts 2 m)
+      of-read (Some f) read =
           of_fields f read (among suites f.suite) refl (ℕ_discrete f.version 0x0303) (ℕ_discrete f.compression 0) (bare f.extensions) refl
 
   pub hello-stays : (x : Call) → IgnoredWarning x → (call (started s) x).next ≡ started s
@@ -135,28 +135,28 @@ module _ (s : Settings) where
 -- ---- awaiting the ServerKeyExchange or the ServerHelloDone
 
 -- a message that passes the tests on its header has its type
-header-type : (kind : ℕ) (m : List ℕ) → header kind m ≡ Verdict.Accepted → get_or m 0 0 ≡ kind
+header-type : (kind : ℕ) (m : List ℕ) → header kind m ≡ Ok tt → get_or m 0 0 ≡ kind
 header-type kind m h = eqb-true (get_or m 0 0) kind (go (ltb (length m) 4) (eqb (get_or m 0 0) kind) _ h)
   where
-    go : (a b : Bool) (v : Verdict) → cond a (Verdict.Refused DecodeError) (cond b v (Verdict.Refused UnexpectedMessage)) ≡ Verdict.Accepted → b ≡ true
+    go : (a b : Bool) (v : Result Unit Refusal) → cond {A = Result Unit Refusal} a (Err DecodeError) (cond b v (Err UnexpectedMessage)) ≡ Ok tt → b ≡ true
     go true b v e = absurd (refused e)
       where
-        refused : Verdict.Refused DecodeError ≡ Verdict.Accepted → ⊥
+        refused : ◌≡◌ {A = Result Unit Refusal} (Err DecodeError) (Ok tt) → ⊥
         refused f = let z : ◌≡◌ {A = ℕ} 0 1 = cc in omega arith
     go false true v e = refl
     go false false v e = absurd (refused e)
       where
-        refused : Verdict.Refused UnexpectedMessage ≡ Verdict.Accepted → ⊥
+        refused : ◌≡◌ {A = Result Unit Refusal} (Err UnexpectedMessage) (Ok tt) → ⊥
         refused f = let z : ◌≡◌ {A = ℕ} 0 1 = cc in omega arith
 
 -- what a reader accepted passed the tests on its header
-read-header : {A : Type 0} (read : Verdict → Option A) → ((r : Refusal) → read (Verdict.Refused r) ≡ none)
-    → (kind : ℕ) (m : List ℕ) (a : A) → read (header kind m) ≡ some a → get_or m 0 0 ≡ kind
+read-header : {A : Type 0} (read : Result Unit Refusal → Option A) → ((r : Refusal) → read (Err r) ≡ None)
+    → (kind : ℕ) (m : List ℕ) (a : A) → read (header kind m) ≡ Some a → get_or m 0 0 ≡ kind
 read-header read blind kind m a e = go (header kind m) refl e
   where
-    go : (h : Verdict) → header kind m ≡ h → read h ≡ some a → get_or m 0 0 ≡ kind
-    go Verdict.Accepted h f = header-type kind m h
-    go (Verdict.Refused r) h f = absurd (none-ne-some a (sym (blind r) ∙ f))
+    go : (h : Result Unit Refusal) → header kind m ≡ h → read h ≡ Some a → get_or m 0 0 ≡ kind
+    go (Ok tt) h f = header-type kind m h
+    go (Err r) h f = absurd (none-some a (sym (blind r) ∙ f))
 
 hint-brings : {m : List ℕ} → LegalServerKeyExchange m → brings_hint m ≡ true
 hint-brings {m} legal =
@@ -192,15 +192,15 @@ module _ {s : Settings} {calls : List Call} where
 
 -- a ServerHello's random has 32 bytes, and each of the server's messages is within the limit
 abbrev random_length : Option ServerHello → ℕ
-random_length none = 0
-random_length (some f) = length f.random
+random_length None = 0
+random_length (Some f) = length f.random
 
-abbrev RandomWhole : List ℕ → Server → Type 0
-RandomWhole m server = (f : ServerHello) → server_fields m server ≡ some f → length f.random ≡ 32
+abbrev RandomWhole : List ℕ → Option Server → Type 0
+RandomWhole m server = (f : ServerHello) → server_fields m server ≡ Some f → length f.random ≡ 32
 
 hello-random : {m : List ℕ} (legal : LegalServerHello m) → length legal.fields.random ≡ 32
 hello-random {m} legal =
-    by-header m (RandomWhole m) (λ f e. absurd (none-ne-some f e))
+    by-header m (RandomWhole m) (λ f e. absurd (none-some f e))
     (λ a x n b parts f e. sym (ap random_length e) ∙ length-take-le 32 (drop 6 m) (simp length-drop (omega (arith, parts.room)))) legal.fields legal.read
 
 hello-size : {m : List ℕ} → LegalServerHello m → length m ≤ message_limit
@@ -313,9 +313,9 @@ module _ (s : Settings) (ok : acceptable s ≡ true) {calls : List Call} (came :
       legally legal (no short) = inl (inr (record { done = m; out = out; is = refl; legal = legal; short = omega arith }))
 
       of-read : (o : Option (List ℕ)) → read_fixed 14 0 m ≡ o → Fate c (Aside (ShortDone s)) (λ x. Hint x ⊎ DoneComes s x) (message m out)
-      of-read none read =
+      of-read None read =
           inr (inr (refused-closes (ended Phase.Closed) c out (step_of m) (unread 14 m) (done-step m hintless ∙ rw read) (unread-alerts 14 m)))
-      of-read (some body) read = legally (record { body = body; read = read }) (dec_le (answer_length s) (length out))
+      of-read (Some body) read = legally (record { body = body; read = read }) (dec_le (answer_length s) (length out))
 
 -- where a ServerKeyExchange may come too
 module _ (s : Settings) (ok : acceptable s ≡ true) {calls : List Call} (came : ServerHelloCame calls) where
@@ -333,10 +333,10 @@ module _ (s : Settings) (ok : acceptable s ≡ true) {calls : List Call} (came :
     where
       of-read : brings_hint m ≡ true → (o : Option (List ℕ)) → read_vector 12 m ≡ o
           → Fate (awaiting_done either) (Aside (ShortDone s)) (λ y. HintComes y ⊎ DoneComes s y) (message m out)
-      of-read brings none read =
+      of-read brings None read =
           inr (inr (refused-closes (ended Phase.Closed) (awaiting_done either) out _ (unread 12 m) (hint-read (awaiting_done either) m brings ∙ rw read)
           (unread-alerts 12 m)))
-      of-read brings (some hint) read = inr (inl (inl (record { exchange = m; out = out; is = refl; legal = record { hint = hint; read = read } })))
+      of-read brings (Some hint) read = inr (inl (inl (record { exchange = m; out = out; is = refl; legal = record { hint = hint; read = read } })))
 
       go : (b : Bool) → brings_hint m ≡ b → Fate (awaiting_done either) (Aside (ShortDone s)) (λ y. HintComes y ⊎ DoneComes s y) (message m out)
       go true brings = of-read brings (read_vector 12 m) refl
@@ -359,10 +359,10 @@ module _ (s : Settings) (ok : acceptable s ≡ true) {calls : List Call} (came :
       legally legal (no short) = inl (inr (record { done = m; out = out; is = refl; legal = legal; short = omega arith }))
 
       of-read : (o : Option (List ℕ)) → read_fixed 14 0 m ≡ o → Fate (awaiting_done behind) (Aside (ShortDone s)) (DoneComes s) (message m out)
-      of-read none read =
+      of-read None read =
           inr (inr (refused-closes (ended Phase.Closed) (awaiting_done behind) out _ (unread 14 m) (done-read (awaiting_done behind) m ∙ rw read)
           (unread-alerts 14 m)))
-      of-read (some body) read = legally (record { body = body; read = read }) (dec_le (answer_length s) (length out))
+      of-read (Some body) read = legally (record { body = body; read = read }) (dec_le (answer_length s) (length out))
   behind-fate change_of_cipher = inr (inr refl)
   behind-fate (alert level description) =
       alert-fate (awaiting_done behind) refl (Aside (ShortDone s)) (DoneComes s) (λ x. inl) level description

@@ -1,7 +1,6 @@
 -- Every headline statement on the client, as one record; docs/ASSURANCE.md has a row for each field, and tests/claims compares the two. proofs/Claims.antt proves it
 -- by one value.
-use Rattle.std.specs.Prelude.{◌≡◌, ℕ, ◌+◌, List, ◌⊎◌, length, replicate}
-use Rattle.std.proofs.Math.Option.{some}
+use Rattle.std.specs.Prelude.{◌≡◌, ℕ, ◌+◌, List, ◌⊎◌, length, replicate, Some}
 use Rattle.client.specs.declared.Phase.{Phase}
 use Rattle.client.specs.declared.Connection.{Connection}
 use Rattle.client.specs.Connection.{Settings}
@@ -27,7 +26,7 @@ pub record Claims : Type 0 where
   -- the answer to a ServerHelloDone: 22 bytes and the identity's
   pub client_answer_length : (s : Settings) → answer_length s ≡ 22 + length s.identity
   -- the master secret is handed over by a message that finds the ServerHelloDone awaited, and by no other
-  pub client_master_handed_once : (c : Connection) (m out secret : List ℕ) → handed_over (message_call c m out).said (message_call c m out).next ≡ some secret
+  pub client_master_handed_once : (c : Connection) (m out secret : List ℕ) → handed_over (message_call c m out).said (message_call c m out).next ≡ Some secret
       → (c.phase ≡ Phase.KeyExchange) ⊎ (c.phase ≡ Phase.Done)
   -- demand 3's second half for a client, and both ends together
   pub client_completes_exactly : ClientCompletesExactly

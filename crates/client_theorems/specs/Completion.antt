@@ -1,7 +1,6 @@
 -- The client's own "completes exactly when", in the form of demand 3's second half: one statement about every series of calls from an accepted start.
 -- proofs/Completion.antt proves it.
-use Rattle.std.specs.Prelude.{◌≡◌, ◌↔◌, ℕ, List, ◌∷◌, ◌++◌}
-use Rattle.refusal.specs.declared.Written.TheVariants.{Wrote}
+use Rattle.std.specs.Prelude.{◌≡◌, ◌↔◌, ℕ, List, ◌∷◌, ◌++◌, Ok}
 use Rattle.lists.specs.Lists.{Each}
 use Rattle.handshake.specs.Series.{Call, message, IgnoredWarning}
 use Rattle.client.specs.declared.Phase.{Phase}
@@ -25,5 +24,5 @@ pub record CameRight (s : Settings) (calls : List Call) : Type 0 where
 -- Nothing is assumed of the connection's state: with it in the assumption the statement would say nothing of how a client gets there.
 abbrev pub ClientCompletesExactly : Type 0
 ClientCompletesExactly =
-    (s : Settings) (out : List ℕ) (n : ℕ) → (start_call s out).said ≡ Wrote n
+    (s : Settings) (out : List ℕ) (n : ℕ) → (start_call s out).said ≡ Ok n
     → (calls : List Call) → ((run (start_call s out).next calls).phase ≡ Phase.Complete) ↔ CameRight s calls

@@ -1,9 +1,7 @@
 -- Both ends complete (document 02, P7): the full handshake between our client and our server, drawn arrow by arrow. proofs/BothEnds.antt proves it.
 -- Another exchange is another such drawing: `Starts`, `Takes` and `Changes` say what one arrow is, on either side.
-use Rattle.std.specs.Prelude.{◌≡◌, ℕ, ◌≤◌, true, List, [], ◌∷◌, ◌++◌, length, drop}
-use Rattle.std.proofs.Math.Option.{some}
+use Rattle.std.specs.Prelude.{◌≡◌, ℕ, ◌≤◌, true, List, [], ◌∷◌, ◌++◌, length, drop, Ok, Some}
 use Rattle.refusal.specs.Lent.{gives}
-use Rattle.refusal.specs.declared.Written.TheVariants.{Wrote}
 use Rattle.keys.specs.Secrets.{keys}
 use Rattle.keytable.specs.Starts.{is_list}
 use Rattle.keytable.specs.Table.{well_formed, key_of}
@@ -29,7 +27,7 @@ use Rattle.client_theorems.specs.Series as ClientSeries
 abbrev pub Takes : {C : Type 0} → (C → Call → Settled C) → (c : C) → (m answer : List ℕ) → (next : C) → Type 0
 Takes call c m answer next =
     (out : List ℕ) → length answer ≤ length out
-    → call c (message m out) ≡ record { said = Wrote (length answer); out = answer ++ drop (length answer) out; next = next }
+    → call c (message m out) ≡ record { said = Ok (length answer); out = answer ++ drop (length answer) out; next = next }
 
 -- messages one after the other, which are not answered
 abbrev pub TakesAll : {C : Type 0} → (C → Call → Settled C) → (c : C) → List (List ℕ) → (next : C) → Type 0
@@ -38,13 +36,13 @@ TakesAll {C} call c (m ∷ ms) next = (then : C) × Takes call c m [] then × Ta
 
 -- a change of cipher, which is not answered
 abbrev pub Changes : {C : Type 0} → (C → Call → Settled C) → (c next : C) → Type 0
-Changes call c next = call c change_of_cipher ≡ record { said = Wrote 0; out = []; next = next }
+Changes call c next = call c change_of_cipher ≡ record { said = Ok 0; out = []; next = next }
 
 -- the client's start, which gives its hello
 abbrev pub Starts : ClientStart.Settings → (hello : List ℕ) → (next : Client.Connection) → Type 0
 Starts s hello next =
     (out : List ℕ) → length hello ≤ length out
-    → ClientStart.start_call s out ≡ record { said = Wrote (length hello); out = hello ++ drop (length hello) out; next = next }
+    → ClientStart.start_call s out ≡ record { said = Ok (length hello); out = hello ++ drop (length hello) out; next = next }
 
 -- ---- the exchange
 
@@ -85,8 +83,8 @@ pub record FullHandshake (client : ClientStart.Settings) (server : ServerStart.S
   pub server_complete : s₄.phase ≡ ServerPhase.Phase.Complete
   -- each host was handed the same master secret: the client's with its answer to ServerHelloDone, the server's with the ClientKeyExchange
   pub master : List ℕ
-  pub client_master : (n : ℕ) → ClientMessage.handed_over (Wrote n) c₃ ≡ some master
-  pub server_master : ServerMessage.handed_over s₁.phase (ServerMessage.message_step v s₁ client_key_exchange s₁.phase) ≡ some master
+  pub client_master : (n : ℕ) → ClientMessage.handed_over (Ok n) c₃ ≡ Some master
+  pub server_master : ServerMessage.handed_over s₁.phase (ServerMessage.message_step v s₁ client_key_exchange s₁.phase) ≡ Some master
   -- each end knows the same suite, and makes the same key block of its own random and the one that it was sent
   pub client_suite : c₁.server.suite ≡ 0x00AE
   pub server_suite : s₁.client.suite ≡ 0x00AE
@@ -101,5 +99,5 @@ BothEndsComplete =
     (client : ClientStart.Settings) (server : ServerStart.Settings) → ClientStart.acceptable client ≡ true → ServerStart.acceptable server ≡ true
     → server.suites ≡ suites
     → (table starts : List ℕ) (count : ℕ) → well_formed table ≡ true → is_list table starts count ≡ true
-    → key_of table client.identity ≡ some client.key
+    → key_of table client.identity ≡ Some client.key
     → FullHandshake client server (view_of table starts count)

@@ -1,7 +1,6 @@
 -- The terms of demand 3 ("The series of demand 3") for a client, said of the calls and the settings alone: nothing here speaks of the state that a client keeps.
 -- A message is legal by the layouts' readers, and a value right by the definitions of "Secrets".
-use Rattle.std.specs.Prelude.{◌≡◌, ℕ, ◌+◌, ◌≤◌, ◌<◌, true, List, [], ◌∷◌, ◌++◌, length}
-use Rattle.std.proofs.Math.Option.{some}
+use Rattle.std.specs.Prelude.{◌≡◌, ℕ, ◌+◌, ◌≤◌, ◌<◌, true, List, [], ◌∷◌, ◌++◌, length, Some}
 use Rattle.lists.specs.Lists.{Each}
 use Rattle.refusal.specs.Lent.{Outcome, gives, and_then}
 use Rattle.sha256.specs.Hash.{sha256}
@@ -25,7 +24,7 @@ use Rattle.theorems.specs.Terms.{LegalFinished, Aside}
 -- one of our suites, our version, no compression, no extension
 pub record LegalServerHello (m : List ℕ) : Type 0 where
   pub fields : ServerHello
-  pub read : read_server_hello m ≡ some fields
+  pub read : read_server_hello m ≡ Some fields
   pub suite : among suites fields.suite ≡ true
   pub version : fields.version ≡ tls12
   pub compression : fields.compression ≡ 0
@@ -34,11 +33,11 @@ pub record LegalServerHello (m : List ℕ) : Type 0 where
 -- with a hint of any content
 pub record LegalServerKeyExchange (m : List ℕ) : Type 0 where
   pub hint : List ℕ
-  pub read : read_vector server_key_exchange_type m ≡ some hint
+  pub read : read_vector server_key_exchange_type m ≡ Some hint
 
 pub record LegalServerHelloDone (m : List ℕ) : Type 0 where
   pub body : List ℕ
-  pub read : read_fixed server_hello_done_type 0 m ≡ some body
+  pub read : read_fixed server_hello_done_type 0 m ≡ Some body
 
 -- ---- what the client sends, and what is right
 

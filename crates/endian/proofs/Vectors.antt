@@ -8,10 +8,10 @@ use native.Mathlib.Decide.{dec_le}
 use mathlib.Core.Logic.{◌↔◌}
 use mathlib.Core.Bool.{true, false}
 use mathlib.Core.List.{List, ◌++◌, append_assoc}
-use mathlib.Core.Option.{none, some}
 use lib.ListN.{length, take, drop, length-append, length-drop, take-append-drop}
 use lib.Seq.{take_at, drop_at, take-append_seam, length-take-le, drop-drop}
 use borrow.Author.Tests.{lt-ltb, ltb-true, le-leb, lt-leb}
+use Rattle.std.specs.Prelude.{None, Some}
 use Rattle.endian.specs.Number.{be, Bytes}
 use Rattle.endian.specs.Vector.{writable, vector, Split, stated, split}
 use Rattle.endian.proofs.Numbers.{length-be, number-be-lt, number_lt, be-number-at, bytes_take}
@@ -26,7 +26,7 @@ stated-vector w xs rest h =
     rw (append_assoc, take_at _ _ w (length-be w (length xs))) (number-be-lt w (length xs) (ltb-true _ _ h))
 
 pub split-vector : (w : ℕ) (xs rest : List ℕ) → writable w xs ≡ true
-    → split w (vector w xs ++ rest) ≡ some (record { contents = xs; rest = rest })
+    → split w (vector w xs ++ rest) ≡ Some (record { contents = xs; rest = rest })
 split-vector w xs rest h =
     let field : List ℕ = be w (length xs) in
     let all : vector w xs ++ rest ≡ field ++ (xs ++ rest) = append_assoc field xs rest in
@@ -55,13 +55,13 @@ vector-parts w bs h fits =
 -- by whether the vector is there
 module _ (w : ℕ) (bs : List ℕ) where
   split-there : w + stated w bs ≤ length bs
-      → split w bs ≡ some (record { contents = take (stated w bs) (drop w bs); rest = drop (w + stated w bs) bs })
+      → split w bs ≡ Some (record { contents = take (stated w bs) (drop w bs); rest = drop (w + stated w bs) bs })
   split-there fits = simp (le-leb _ _ fits)
 
-  split-cut : length bs < w + stated w bs → split w bs ≡ none
+  split-cut : length bs < w + stated w bs → split w bs ≡ None
   split-cut short = simp (lt-leb _ _ short)
 
-pub vector-split : (w : ℕ) (bs : List ℕ) (s : Split) → Bytes bs → split w bs ≡ some s
+pub vector-split : (w : ℕ) (bs : List ℕ) (s : Split) → Bytes bs → split w bs ≡ Some s
     → (bs ≡ vector w s.contents ++ s.rest) × (writable w s.contents ≡ true)
 vector-split w bs s h e = elim (dec_le (w + stated w bs) (length bs)) [
   | yes fits ↦ read fits
@@ -83,7 +83,7 @@ pub vector-injective : (w : ℕ) (xs ys rest rest' : List ℕ) → writable w xs
 vector-injective w xs ys rest rest' hx hy e =
     let read : Split = record { contents = xs; rest = rest } in
     let read' : Split = record { contents = ys; rest = rest' } in
-    let both : some read ≡ some read' = sym (split-vector w xs rest hx) ∙ ap (split w) e ∙ split-vector w ys rest' hy in
+    let both : Some read ≡ Some read' = sym (split-vector w xs rest hx) ∙ ap (split w) e ∙ split-vector w ys rest' hy in
     let same : read ≡ read' = cc both in
     (ap (λ (s : Split). s.contents) same, ap (λ (s : Split). s.rest) same)
 
@@ -91,14 +91,14 @@ vector-injective w xs ys rest rest' hx hy e =
 
 -- `split` refuses exactly what is no vector with anything after it
 pub split-none : (w : ℕ) (bs : List ℕ) → Bytes bs
-    → (split w bs ≡ none) ↔ ((xs rest : List ℕ) → writable w xs ≡ true → bs ≡ vector w xs ++ rest → ⊥)
+    → (split w bs ≡ None) ↔ ((xs rest : List ℕ) → writable w xs ≡ true → bs ≡ vector w xs ++ rest → ⊥)
 split-none w bs h = (there, back)
   where
-    there : split w bs ≡ none → (xs rest : List ℕ) → writable w xs ≡ true → bs ≡ vector w xs ++ rest → ⊥
+    there : split w bs ≡ None → (xs rest : List ℕ) → writable w xs ≡ true → bs ≡ vector w xs ++ rest → ⊥
     there e xs rest ok b =
         let z : ◌≡◌ {A = ℕ} 0 1 = cc (e, b, split-vector w xs rest ok) in omega arith
 
-    back : ((xs rest : List ℕ) → writable w xs ≡ true → bs ≡ vector w xs ++ rest → ⊥) → split w bs ≡ none
+    back : ((xs rest : List ℕ) → writable w xs ≡ true → bs ≡ vector w xs ++ rest → ⊥) → split w bs ≡ None
     back never = elim (dec_le (w + stated w bs) (length bs)) [
       | yes fits ↦ let parts =
           vector-parts w bs h fits in absurd (never (take (stated w bs) (drop w bs)) (drop (w + stated w bs) bs) parts.1 parts.0)
@@ -108,6 +108,6 @@ split-none w bs h = (there, back)
 -- ---- over-long
 
 -- contents that the length field can't state are never what `split` gives
-pub split-writable : (w : ℕ) (bs : List ℕ) (s : Split) → Bytes bs → writable w s.contents ≡ false → split w bs ≡ some s → ⊥
+pub split-writable : (w : ℕ) (bs : List ℕ) (s : Split) → Bytes bs → writable w s.contents ≡ false → split w bs ≡ Some s → ⊥
 split-writable w bs s h long e =
     let z : ◌≡◌ {A = ℕ} 0 1 = cc (long, (vector-split w bs s h e).1) in omega arith

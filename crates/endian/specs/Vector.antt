@@ -1,6 +1,5 @@
 -- Vectors with their length in front (RFC 5246, section 4.3), for every width w of the length field.
-use Rattle.std.specs.Prelude.{ℕ, ◌+◌, ◌^◌, Bool, cond, List, ◌++◌, length, take, drop, leb, ltb}
-use Rattle.std.proofs.Math.Option.{Option, none, some}
+use Rattle.std.specs.Prelude.{ℕ, ◌+◌, ◌^◌, Bool, cond, List, ◌++◌, length, take, drop, leb, ltb, Option, None, Some}
 use Rattle.endian.specs.Number.{be, number}
 
 -- a length that w bytes hold; a longer vector can't be written
@@ -23,5 +22,5 @@ stated w bs = number (take w bs)
 abbrev pub split : ℕ → List ℕ → Option Split
 split w bs =
     cond (leb (w + stated w bs) (length bs))
-    (some (record { contents = take (stated w bs) (drop w bs); rest = drop (w + stated w bs) bs }))
-    none
+    (Some (record { contents = take (stated w bs) (drop w bs); rest = drop (w + stated w bs) bs }))
+    None

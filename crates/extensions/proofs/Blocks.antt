@@ -7,11 +7,12 @@ use native.Mathlib.Omega.{arith}
 use native.Mathlib.Decide.{dec_le}
 use mathlib.Core.Bool.{true, cond, and-eq-true_iff}
 use mathlib.Core.List.{List, [], ◌∷◌, ◌++◌, append_assoc, append-nil}
-use mathlib.Core.Option.{Option, none, some, none-ne-some}
 use lib.ListN.{length, take, drop, length-drop, length-append, take-append-drop, drop_of_length-le}
 use lib.Seq.{drop-drop, length-take-le, take-append_seam, drop-append_seam}
 use lib.Dec.{leb, ltb, eqb}
 use borrow.Author.Tests.{le-leb, lt-leb, lt-ltb, ltb-true}
+use Rattle.std.proofs.lemmas.Option.{none-some}
+use Rattle.std.specs.Prelude.{Option, None, Some}
 use Rattle.lists.specs.Lists.{each, distinct}
 use Rattle.endian.specs.Number.{Bytes, be, number}
 use Rattle.endian.specs.Vector.{vector, writable, stated}
@@ -36,7 +37,7 @@ up-to-enough (suc j) (suc k) (x ∷ xs) hj hk =
     let b : List ℕ = x ∷ xs in
     let rest : length (drop (first_end b) b) ≤ j = simp length-drop (omega arith) in
     let rest' : length (drop (first_end b) b) ≤ k = simp length-drop (omega arith) in
-    ap (λ (o : Option (List Ext)). cond (leb (first_end b) (length b)) (adding (first b) o) none) (up-to-enough j k (drop (first_end b) b) rest rest')
+    ap (λ (o : Option (List Ext)). cond (leb (first_end b) (length b)) (adding (first b) o) None) (up-to-enough j k (drop (first_end b) b) rest rest')
 
 -- the first, and then the rest
 in-first : (b : List ℕ) → 0 < length b → first_end b ≤ length b → extensions_in b ≡ adding (first b) (extensions_in (drop (first_end b) b))
@@ -47,14 +48,14 @@ in-first (x ∷ xs) h fits =
     rw (le-leb (first_end b) (length b) fits)
     (ap (adding (first b)) (up-to-enough (length xs) (length (drop (first_end b) b)) (drop (first_end b) b) rest (omega arith)))
 
-in_cut : (b : List ℕ) → 0 < length b → length b < first_end b → extensions_in b ≡ none
+in_cut : (b : List ℕ) → 0 < length b → length b < first_end b → extensions_in b ≡ None
 in_cut [] h cut = absurd (omega arith)
 in_cut (x ∷ xs) h cut = rw (lt-leb (first_end (x ∷ xs)) (length (x ∷ xs)) cut)
 
 -- ---- the steps
 
 module _ (b : List ℕ) (at : ℕ) where
-  at-end : length b ≤ at → extensions_in (drop at b) ≡ some []
+  at-end : length b ≤ at → extensions_in (drop at b) ≡ Some []
   at-end h = rw (drop_of_length-le b h)
 
   -- the end of the extension that starts at `at`, from there and from the start
@@ -76,7 +77,7 @@ module _ (b : List ℕ) (at : ℕ) where
       drop-drop (first_end (drop at b)) at b ∙ ap (λ (k : ℕ). drop k b) far in
       in-first (drop at b) some_left whole ∙ ap₂ adding same (ap extensions_in rest)
 
-  step_cut : at < length b → length b < end_at 2 b (at + 2) → extensions_in (drop at b) ≡ none
+  step_cut : at < length b → length b < end_at 2 b (at + 2) → extensions_in (drop at b) ≡ None
   step_cut h cut =
       let e = end-from h in
       in_cut (drop at b) (simp length-drop (omega arith)) (simp length-drop (omega arith))
@@ -134,19 +135,19 @@ step-found b at t s n =
     })
     (λ more long e. absurd (zero-not-one (cc e)))
 
-pub step-ended : (b : List ℕ) (at : ℕ) → step_at b at ≡ End → extensions_in (drop at b) ≡ some []
+pub step-ended : (b : List ℕ) (at : ℕ) → step_at b at ≡ End → extensions_in (drop at b) ≡ Some []
 step-ended b at =
-    by-step b at (λ p. p ≡ End → extensions_in (drop at b) ≡ some []) (λ over e. at-end b at over) (λ more fits e. absurd (zero-not-one (cc e)))
+    by-step b at (λ p. p ≡ End → extensions_in (drop at b) ≡ Some []) (λ over e. at-end b at over) (λ more fits e. absurd (zero-not-one (cc e)))
     (λ more long e. absurd (zero-not-one (cc e)))
 
-pub step-refused : (b : List ℕ) (at : ℕ) → step_at b at ≡ Refused → extensions_in (drop at b) ≡ none
+pub step-refused : (b : List ℕ) (at : ℕ) → step_at b at ≡ Refused → extensions_in (drop at b) ≡ None
 step-refused b at =
-    by-step b at (λ p. p ≡ Refused → extensions_in (drop at b) ≡ none) (λ over e. absurd (zero-not-one (cc e)))
+    by-step b at (λ p. p ≡ Refused → extensions_in (drop at b) ≡ None) (λ over e. absurd (zero-not-one (cc e)))
     (λ more fits e. absurd (zero-not-one (cc e))) (λ more long e. step_cut b at more long)
 
 -- ---- reading what was written, and writing what was read
 
-pub in_block : (es : List Ext) → each writable_ext es ≡ true → extensions_in (block_bytes es) ≡ some es
+pub in_block : (es : List Ext) → each writable_ext es ≡ true → extensions_in (block_bytes es) ≡ Some es
 in_block [] h = refl
 in_block (e ∷ es) h =
     let ok = (and-eq-true_iff (writable_ext e) (each writable_ext es)).0 h in
@@ -167,9 +168,9 @@ pub by-types : (es : List Ext) → each writable_ext es ≡ true → block_rule 
 by-types es h = ap ruled (in_block es h)
 
 -- an extension was added to what there was
-adding-gives : (e : Ext) (o : Option (List Ext)) (es : List Ext) → adding e o ≡ some es → (rest : List Ext) × (o ≡ some rest) × (es ≡ e ∷ rest)
-adding-gives e none es h = absurd (none-ne-some es h)
-adding-gives e (some rest) es h = (rest, refl, cc)
+adding-gives : (e : Ext) (o : Option (List Ext)) (es : List Ext) → adding e o ≡ Some es → (rest : List Ext) × (o ≡ Some rest) × (es ≡ e ∷ rest)
+adding-gives e None es h = absurd (none-some es h)
+adding-gives e (Some rest) es h = (rest, refl, cc)
 
 -- the first extension of bytes is one that can be written, and they begin with it
 first-is : (b : List ℕ) → Bytes b → first_end b ≤ length b → (b ≡ extension_bytes (first b) ++ drop (first_end b) b) × (writable_ext (first b) ≡ true)
@@ -188,8 +189,8 @@ abbrev Written : List ℕ → List Ext → Type 0
 Written b es = (b ≡ block_bytes es) × (each writable_ext es ≡ true)
 
 block-first : (b : List ℕ) (o : Option (List Ext)) (es : List Ext) → Bytes b
-    → ((rest : List Ext) → o ≡ some rest → Written (drop (first_end b) b) rest)
-    → cond (leb (first_end b) (length b)) (adding (first b) o) none ≡ some es → Written b es
+    → ((rest : List Ext) → o ≡ Some rest → Written (drop (first_end b) b) rest)
+    → cond (leb (first_end b) (length b)) (adding (first b) o) None ≡ Some es → Written b es
 block-first b o es h written e = go (dec_le (first_end b) (length b))
   where
     go : Dec (first_end b ≤ length b) → Written b es
@@ -201,23 +202,23 @@ block-first b o es h written e = go (dec_le (first_end b) (length b))
           ap (each writable_ext) parts.2
               ∙ rw own.1 rest.1,
         )
-    go (no cut) = absurd (none-ne-some es (rw (lt-leb (first_end b) (length b) (omega arith)) at e))
+    go (no cut) = absurd (none-some es (rw (lt-leb (first_end b) (length b) (omega arith)) at e))
 
-block-up-to : (n : ℕ) (b : List ℕ) (es : List Ext) → Bytes b → extensions_up_to n b ≡ some es → Written b es
+block-up-to : (n : ℕ) (b : List ℕ) (es : List Ext) → Bytes b → extensions_up_to n b ≡ Some es → Written b es
 block-up-to zero [] es h e = let none-there : es ≡ [] = cc in (rw none-there, rw none-there)
-block-up-to zero (x ∷ xs) es h e = absurd (none-ne-some es e)
+block-up-to zero (x ∷ xs) es h e = absurd (none-some es e)
 block-up-to (suc n) [] es h e = let none-there : es ≡ [] = cc in (rw none-there, rw none-there)
 block-up-to (suc n) (x ∷ xs) es h e =
     let b : List ℕ = x ∷ xs in
     block-first b (extensions_up_to n (drop (first_end b) b)) es h (λ rest r. block-up-to n (drop (first_end b) b) rest (bytes_drop (first_end b) b h) r) e
 
-pub block_in_lem : (b : List ℕ) (es : List Ext) → Bytes b → extensions_in b ≡ some es → (b ≡ block_bytes es) × (each writable_ext es ≡ true)
+pub block_in_lem : (b : List ℕ) (es : List Ext) → Bytes b → extensions_in b ≡ Some es → (b ≡ block_bytes es) × (each writable_ext es ≡ true)
 block_in_lem b es h e = block-up-to (length b) b es h e
 
 -- ---- the SessionTicket extension
 
 -- its bytes, of which the first two are its number, are read as it
-pub ticket-numbered : (ticket : List ℕ) → length ticket < 65536 → extensions_in (0x00 ∷ 0x23 ∷ vector 2 ticket) ≡ some (ticket_extension ticket ∷ [])
+pub ticket-numbered : (ticket : List ℕ) → length ticket < 65536 → extensions_in (0x00 ∷ 0x23 ∷ vector 2 ticket) ≡ Some (ticket_extension ticket ∷ [])
 ticket-numbered ticket fits =
     let e : Ext = ticket_extension ticket in
     let ok : each writable_ext (e ∷ []) ≡ true = rw (lt-ltb (length ticket) (256 ^ 2) fits) in

@@ -8,11 +8,11 @@ use native.Mathlib.Omega.{arith}
 use native.Mathlib.Decide.{ℕ_discrete, dec_lt}
 use mathlib.Core.Bool.{Bool, true, false, not, ◌&&◌, cond, and-false, and-eq-true_iff}
 use mathlib.Core.List.{List, [], ◌∷◌}
-use mathlib.Core.Option.{Option, none, some}
 use lib.ListN.{length, get_or, set, replicate, length-set, length-replicate}
 use lib.Seq.{get_or-set_same, get_or-set_other}
 use lib.Dec.{eqb, ltb}
 use borrow.Author.Tests.{eq-eqb, ne_eqb, lt-ltb, le-ltb, ltb-true}
+use Rattle.std.specs.Prelude.{Option, None, Some}
 use Rattle.lists.specs.Lists.{each, any, distinct}
 use Rattle.endian.specs.Number.{Bytes}
 use Rattle.endian.specs.Vector.{writable}
@@ -140,26 +140,26 @@ all-clear (t ∷ ts) = rw (zeros-read-zero 128 (t / 64 % 128), zero-div (2 ^ (t 
 
 -- the same over the extensions of a block
 abbrev pub pass_in : List ℕ → ℕ → ℕ → Option (List Ext) → Pass
-pass_in words n p none = Fails
-pass_in words n p (some es) = pass_from words n p es
+pass_in words n p None = Fails
+pass_in words n p (Some es) = pass_from words n p es
 
 pub pass-over : (p : ℕ) (o : Option (List Ext)) → pass_in (replicate 128 0) 8 p o ≡ pass_over p o
-pass-over p none = refl
-pass-over p (some es) = pass-is (replicate 128 0) 8 p es (length-replicate {A = ℕ} 128 0) ∙ rw (all-clear (kinds (in_part p es)))
+pass-over p None = refl
+pass-over p (Some es) = pass-is (replicate 128 0) 8 p es (length-replicate {A = ℕ} 128 0) ∙ rw (all-clear (kinds (in_part p es)))
 
 module _ (words : List ℕ) (n p : ℕ) (e : Ext) where
   pub pass-repeat : (o : Option (List Ext)) → e.kind / 8192 ≡ p → ¬ (bit_of words e.kind ≡ 0) → pass_in words n p (adding e o) ≡ Fails
-  pass-repeat none h taken = refl
-  pass-repeat (some es) h taken = rw (eq-eqb (e.kind / 8192) p h, ne_eqb (bit_of words e.kind) 0 taken)
+  pass-repeat None h taken = refl
+  pass-repeat (Some es) h taken = rw (eq-eqb (e.kind / 8192) p h, ne_eqb (bit_of words e.kind) 0 taken)
 
   pub pass-marked : (o : Option (List Ext)) → e.kind / 8192 ≡ p → bit_of words e.kind ≡ 0
       → pass_in words n p (adding e o) ≡ pass_in (marked words e.kind) n p o
-  pass-marked none h free = refl
-  pass-marked (some es) h free = rw (eq-eqb (e.kind / 8192) p h, eq-eqb (bit_of words e.kind) 0 free)
+  pass-marked None h free = refl
+  pass-marked (Some es) h free = rw (eq-eqb (e.kind / 8192) p h, eq-eqb (bit_of words e.kind) 0 free)
 
   pub pass-other : (o : Option (List Ext)) → ¬ (e.kind / 8192 ≡ p) → pass_in words n p (adding e o) ≡ pass_in words (nearer p (e.kind / 8192) n) p o
-  pass-other none h = refl
-  pass-other (some es) h = rw (ne_eqb (e.kind / 8192) p h)
+  pass-other None h = refl
+  pass-other (Some es) h = rw (ne_eqb (e.kind / 8192) p h)
 
 -- ---- the parts together
 
@@ -242,8 +242,8 @@ between_none p n q (e ∷ es) above below =
 -- ---- over the extensions of a block
 
 abbrev pub part_ruled : ℕ → Option (List Ext) → Bool
-part_ruled p none = false
-part_ruled p (some es) = distinct eqb (kinds (in_part p es))
+part_ruled p None = false
+part_ruled p (Some es) = distinct eqb (kinds (in_part p es))
 
 -- what a pass that found nothing says: the types are distinct in its part and in those below the nearest
 pub record Passed (p n : ℕ) (o : Option (List Ext)) : Type 0 where
@@ -252,10 +252,10 @@ pub record Passed (p n : ℕ) (o : Option (List Ext)) : Type 0 where
   pub holds : (q : ℕ) → p ≤ q → q < n → part_ruled q o ≡ true
 
 pub pass-holds : (p n : ℕ) (o : Option (List Ext)) → p < 8 → pass_over p o ≡ Holds n → Passed p n o
-pass-holds p n none h e = absurd (zero-not-one (cc e))
-pass-holds p n (some es) h e = judged (distinct eqb (kinds (in_part p es))) refl e
+pass-holds p n None h e = absurd (zero-not-one (cc e))
+pass-holds p n (Some es) h e = judged (distinct eqb (kinds (in_part p es))) refl e
   where
-    judged : (t : Bool) → distinct eqb (kinds (in_part p es)) ≡ t → cond t (Holds (nearest_of p 8 es)) Fails ≡ Holds n → Passed p n (some es)
+    judged : (t : Bool) → distinct eqb (kinds (in_part p es)) ≡ t → cond t (Holds (nearest_of p 8 es)) Fails ≡ Holds n → Passed p n (Some es)
     judged false own f = absurd (zero-not-one (cc f))
     judged true own f =
         let nearest : nearest_of p 8 es ≡ n = cc f in
@@ -269,8 +269,8 @@ pass-holds p n (some es) h e = judged (distinct eqb (kinds (in_part p es))) refl
         }
 
 pub pass-fails : (p : ℕ) (o : Option (List Ext)) → pass_over p o ≡ Fails → ruled o ≡ false
-pass-fails p none e = refl
-pass-fails p (some es) e = judged (distinct eqb (kinds es)) refl
+pass-fails p None e = refl
+pass-fails p (Some es) e = judged (distinct eqb (kinds es)) refl
   where
     judged : (t : Bool) → distinct eqb (kinds es) ≡ t → t ≡ false
     judged false own = refl
@@ -278,5 +278,5 @@ pass-fails p (some es) e = judged (distinct eqb (kinds es)) refl
 
 pub parts-ruled : (b : List ℕ) (o : Option (List Ext)) → Bytes b → extensions_in b ≡ o
     → ((p : ℕ) → p < 8 → part_ruled p o ≡ true) → ruled o ≡ true
-parts-ruled b none h e parts = parts 0 (omega arith)
-parts-ruled b (some es) h e parts = all-ruled es (block_in_lem b es h e).1 parts
+parts-ruled b None h e parts = parts 0 (omega arith)
+parts-ruled b (Some es) h e parts = all-ruled es (block_in_lem b es h e).1 parts

@@ -1,6 +1,5 @@
 -- The extension block of a hello (RFC 5246, section 7.4.1.4): extensions one after the other, each a type and data with a 2-byte length.
-use Rattle.std.specs.Prelude.{ℕ, zero, suc, ◌+◌, Bool, false, ◌&&◌, cond, List, [], ◌∷◌, ◌++◌, length, take, drop, leb, ltb, eqb}
-use Rattle.std.proofs.Math.Option.{Option, none, some}
+use Rattle.std.specs.Prelude.{ℕ, zero, suc, ◌+◌, Bool, false, ◌&&◌, cond, List, [], ◌∷◌, ◌++◌, length, take, drop, leb, ltb, eqb, Option, None, Some}
 use Rattle.lists.specs.Lists.{distinct}
 use Rattle.endian.specs.Number.{be, number}
 use Rattle.endian.specs.Vector.{vector, writable, stated}
@@ -45,16 +44,16 @@ abbrev pub first_end : List ℕ → ℕ
 first_end b = end_at 2 b 2
 
 abbrev pub adding : Ext → Option (List Ext) → Option (List Ext)
-adding e none = none
-adding e (some es) = some (e ∷ es)
+adding e None = None
+adding e (Some es) = Some (e ∷ es)
 
 -- at most n of them
 abbrev pub extensions_up_to : ℕ → List ℕ → Option (List Ext)
-extensions_up_to zero [] = some []
-extensions_up_to zero (x ∷ xs) = none
-extensions_up_to (suc n) [] = some []
+extensions_up_to zero [] = Some []
+extensions_up_to zero (x ∷ xs) = None
+extensions_up_to (suc n) [] = Some []
 extensions_up_to (suc n) (x ∷ xs) =
-    cond (leb (first_end (x ∷ xs)) (length (x ∷ xs))) (adding (first (x ∷ xs)) (extensions_up_to n (drop (first_end (x ∷ xs)) (x ∷ xs)))) none
+    cond (leb (first_end (x ∷ xs)) (length (x ∷ xs))) (adding (first (x ∷ xs)) (extensions_up_to n (drop (first_end (x ∷ xs)) (x ∷ xs)))) None
 
 -- the extensions that b is, none where one is cut off: there are no more of them than bytes
 abbrev pub extensions_in : List ℕ → Option (List Ext)
@@ -67,8 +66,8 @@ kinds [] = []
 kinds (e ∷ es) = e.kind ∷ kinds es
 
 abbrev pub ruled : Option (List Ext) → Bool
-ruled none = false
-ruled (some es) = distinct eqb (kinds es)
+ruled None = false
+ruled (Some es) = distinct eqb (kinds es)
 
 -- the block of a hello: whole extensions, and no type twice (the house's rule); what their data is, is not judged
 abbrev pub block_rule : List ℕ → Bool

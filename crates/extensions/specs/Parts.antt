@@ -1,6 +1,5 @@
 -- The types of a block by eight parts of 8,192 numbers: what a pass over the block says of one of them. The rule itself is `block_rule`.
-use Rattle.std.specs.Prelude.{ℕ, ◌/◌, ◌&&◌, cond, List, [], ◌∷◌, eqb, ltb}
-use Rattle.std.proofs.Math.Option.{Option, none, some}
+use Rattle.std.specs.Prelude.{ℕ, ◌/◌, ◌&&◌, cond, List, [], ◌∷◌, eqb, ltb, Option, None, Some}
 use Rattle.lists.specs.Lists.{distinct}
 use Rattle.extensions.specs.declared.Pass.{Pass}
 use Rattle.extensions.specs.declared.Pass.TheVariants.{Holds, Fails}
@@ -21,5 +20,5 @@ nearest_of p nearest [] = nearest
 nearest_of p nearest (e ∷ es) = nearest_of p (nearer p (e.kind / 8192) nearest) es
 
 abbrev pub pass_over : ℕ → Option (List Ext) → Pass
-pass_over p none = Fails
-pass_over p (some es) = cond (distinct eqb (kinds (in_part p es))) (Holds (nearest_of p 8 es)) Fails
+pass_over p None = Fails
+pass_over p (Some es) = cond (distinct eqb (kinds (in_part p es))) (Holds (nearest_of p 8 es)) Fails

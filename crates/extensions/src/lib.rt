@@ -8,9 +8,9 @@ ghost use Rattle.extensions.specs.Extensions.{extension_written, ticket_extensio
 ghost use Rattle.extensions.specs.Parts.{nearer, pass_over};
 
 use layout::put;
-use refusal::{Refusal, Written};
+use refusal::Refusal;
 
-// What stands at a place of a block.
+// What stands at a place of a block. Of the three none is an error or the lack of another: an Option in a Result reads worse.
 #[derive(Drop)]
 pub enum Step {
     // An extension: its type, and where its data stands. The next one starts behind the data.
@@ -83,6 +83,7 @@ fn test_part(block: &[u8], part: usize) -> Pass
     let mut words = [0usize; 128];
     let mut nearest = 8;
     let mut at = 0;
+    // A loop over steps, no `while let`: the end and an extension that is cut off have answers of their own.
     loop {
         match next(block, at) {
             Step::Extension { kind, start, len } => {
@@ -113,6 +114,7 @@ pub fn test(block: &[u8]) -> bool
     ensures { result ≡ block_rule block.now }
 {
     let mut part = 0;
+    // No `for` over the parts: those without extensions are left out.
     while part < 8 {
         match test_part(block, part) {
             Pass::Holds { nearest } => part = nearest,
@@ -125,23 +127,23 @@ pub fn test(block: &[u8]) -> bool
 // ---- writing
 
 // One extension: R5 for a type or a length that two bytes do not hold, then R1.
-pub fn write(kind: usize, contents: &[u8], out: &mut [u8]) -> Written
+pub fn write(kind: usize, contents: &[u8], out: &mut [u8]) -> Result<usize, Refusal>
     ensures { Answers (extension_written (record { kind = kind; contents = contents.now })) out.old result out.new }
 {
     if 65535 < kind {
-        return Written::Refused(Refusal::BadValue);
+        return Err(Refusal::BadValue);
     }
     if 65535 < contents.len() {
-        return Written::Refused(Refusal::BadValue);
+        return Err(Refusal::BadValue);
     }
-    let number = endian::bytes16(kind);
-    let size = endian::bytes16(contents.len());
+    let number = endian::bytes::<2>(kind as u64);
+    let size = endian::bytes::<2>(contents.len() as u64);
     let head = [number[0], number[1], size[0], size[1]];
     put::two(&head, contents, out)
 }
 
 // The SessionTicket extension with a ticket: R5 for a ticket whose length two bytes do not hold, then R1.
-pub fn write_ticket(ticket: &[u8], out: &mut [u8]) -> Written
+pub fn write_ticket(ticket: &[u8], out: &mut [u8]) -> Result<usize, Refusal>
     ensures { Answers (extension_written (ticket_extension ticket.now)) out.old result out.new }
 {
     write(35, ticket, out)

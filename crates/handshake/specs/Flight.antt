@@ -1,7 +1,6 @@
 -- A flight: the messages that a step has for the peer, in the order in which they are sent.
-use Rattle.std.specs.Prelude.{List, [], ◌∷◌, ◌++◌, ℕ}
-use Rattle.refusal.specs.declared.Written.{Written}
-use Rattle.refusal.specs.declared.Written.TheVariants.{Wrote, Refused}
+use Rattle.std.specs.Prelude.{List, [], ◌∷◌, ◌++◌, ℕ, Result, Ok, Err}
+use Rattle.refusal.specs.declared.Refusal.{Refusal}
 
 -- Those that go out before the sender's change of cipher, and those behind it. A layer that makes records puts each message in one of its own, and the
 -- change of cipher between the two lists where the second is not empty.
@@ -23,9 +22,9 @@ abbrev pub longest : ℕ
 longest = 180
 
 -- how many bytes a call says that it wrote
-abbrev pub counted : Written → ℕ
-counted (Wrote n) = n
-counted (Refused r) = 0
+abbrev pub counted : Result ℕ Refusal → ℕ
+counted (Ok n) = n
+counted (Err r) = 0
 
 -- the bytes of a flight, as they go to the lent output and to the transcript
 abbrev pub flight_bytes : Flight → List ℕ

@@ -1,17 +1,13 @@
 -- What a host is handed beside an answer: the master secret, for its records, and how many 64-byte blocks were hashed to derive it (document 02, P8). It is
 -- for the host alone: no byte, alert or refusal for the peer depends on the number, in which the key's length shows, and demand 3 leaves both out.
-use Rattle.std.specs.Prelude.{ℕ, List}
-use Rattle.std.proofs.Math.Option.{Option, none, some}
+use Rattle.std.specs.Prelude.{ℕ, List, Option, None, Some}
 use Rattle.handshake.specs.Step.{Step, refuse, accept}
-
-pub record Derived : Type 0 where
-  pub master : List ℕ
-  pub blocks : ℕ
+use Rattle.handshake.specs.declared.Derived.{Derived}
 
 -- a master secret, if one is handed over, with its number
 abbrev pub derived : Option (List ℕ) → ℕ → Option Derived
-derived none n = none
-derived (some master) n = some (record { master = master; blocks = n })
+derived None n = None
+derived (Some master) n = Some (record { master = master; blocks = n })
 
 -- the number that a step reports, where it does not refuse
 abbrev pub step_blocks : {C : Type 0} → Step C → ℕ → ℕ

@@ -1,4 +1,5 @@
 pub mod Alert
+pub mod Decision
 pub mod Finished
 pub mod Flight
 pub mod Handed

@@ -1,12 +1,9 @@
 -- What a step comes to, whatever the room, and what a call makes of it: `settled` adds R1, which stands last, and what a refusal does to the connection.
 -- Both sides share this, so it is said of any type C of connections; `over` is the closed one.
-use Rattle.std.specs.Prelude.{ℕ, List, length}
-use Rattle.std.proofs.Math.Option.{Option, none, some}
+use Rattle.std.specs.Prelude.{ℕ, List, length, Result, Ok, Err, Option, None, Some}
 use Rattle.refusal.specs.Lent.{Outcome, gives, refuses, within, answer, after}
 use Rattle.refusal.specs.Table.{Effect, unchanged, closed, noneMade, noneInvolved, row}
 use Rattle.refusal.specs.declared.Refusal.{Refusal}
-use Rattle.refusal.specs.declared.Written.{Written}
-use Rattle.layout.specs.declared.Verdict.{Verdict}
 use Rattle.handshake.specs.Flight.{Flight, flight_bytes}
 
 -- a refusal, or messages for the peer and the connection as it is then
@@ -15,14 +12,14 @@ pub data Step (C : Type 0) : Type 0 where
   accept : (flight : Flight) (next : C) → Step C
 
 -- the tests on a message's header come before its step
-abbrev pub after_tests : {C : Type 0} → Verdict → Step C → Step C
-after_tests Verdict.Accepted step = step
-after_tests (Verdict.Refused r) step = refuse r
+abbrev pub after_tests : {C : Type 0} → Result Unit Refusal → Step C → Step C
+after_tests (Ok tt) step = step
+after_tests (Err r) step = refuse r
 
 -- a refusal that comes before the step, if there is one
 abbrev pub unless_refused : {C : Type 0} → Option Refusal → Step C → Step C
-unless_refused none step = step
-unless_refused (some r) step = refuse r
+unless_refused None step = step
+unless_refused (Some r) step = refuse r
 
 -- ---- what a refusal does to a connection: the table's last column
 
@@ -39,7 +36,7 @@ after_refusal over r c = after_effect over (row r).connection c
 
 -- what is said, the lent output afterwards, and the connection as it is then
 pub record Settled (C : Type 0) : Type 0 where
-  pub said : Written
+  pub said : Result ℕ Refusal
   pub out : List ℕ
   pub next : C
 

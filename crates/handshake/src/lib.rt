@@ -5,33 +5,45 @@
 // either side: R1 last, and what a refusal does to the connection.
 #![tactic(auto)]
 
-ghost use Rattle.std.specs.Prelude.{◌≡◌};
+ghost use Rattle.std.specs.Prelude.{◌≡◌, Ok};
 ghost use Rattle.refusal.specs.Lent.{Answers, gives};
 ghost use Rattle.keys.specs.Secrets.{finished_of};
 ghost use Rattle.handshake.specs.Alert.{heard};
+ghost use Rattle.handshake.specs.Decision.{Decides};
 ghost use Rattle.handshake.specs.Finished.{is_value};
 ghost use Rattle.handshake.specs.Flight.{flight_bytes, silence};
-ghost use Rattle.handshake.specs.Header.{early_test, header_test, kind_awaited};
+ghost use Rattle.handshake.specs.Header.{early_test, header_test};
 ghost use Rattle.handshake.specs.Outgoing.{Sends, flight_of, size_of};
+ghost use Rattle.handshake.specs.Step.{accept};
 
 use keys::Side;
-use layout::{Verdict, types};
-use refusal::{Refusal, Written};
+use layout::types;
+use refusal::Refusal;
 use sha256::Sha256;
 
-// The type of the message that is awaited, if one is.
-#[derive(Drop)]
-pub enum Awaited {
-    Nothing,
-    Message(u8),
-}
-
-// What a received alert comes to: a level that is none, the connection's end, or nothing.
+// What a received alert comes to: a level that is none, the connection's end, or nothing. Three outcomes, of which none is the
+// lack of another, so no Option.
 #[derive(Drop)]
 pub enum Heard {
     Illegal,
     Ends,
     Ignored,
+}
+
+// A master secret, and how many blocks were hashed for it.
+#[derive(Clone, Copy)]
+pub struct Derived {
+    pub master: [u8; 48],
+    pub blocks: u64,
+}
+
+// What a step comes to that refuses nothing, on either side: messages for the peer, and the connection as it is then.
+// `blocks` is how many were hashed for the master secret, where one was derived.
+#[derive(Clone, Copy)]
+pub struct Decision<C> {
+    pub outgoing: Outgoing,
+    pub next: C,
+    pub blocks: u64,
 }
 
 // Messages for the peer, one behind the other: the longest are a ServerHello of 42 bytes, a
@@ -47,36 +59,36 @@ pub struct Outgoing {
 
 // ---- the header of a message
 
-// The tests on a message's header.
-pub fn test_header(awaited: Awaited, m: &[u8]) -> Verdict
-    ensures { result ≡ header_test (kind_awaited awaited) m.now }
+// The tests on a message's header, by the type that is awaited, if one is.
+pub fn test_header(awaited: Option<u8>, m: &[u8]) -> Result<(), Refusal>
+    ensures { result ≡ header_test awaited m.now }
 {
     match awaited {
-        Awaited::Message(kind) => layout::header::test(kind, m),
-        Awaited::Nothing => {
+        Some(kind) => layout::header::test(kind, m),
+        None => {
             if m.len() < 4 {
-                return Verdict::Refused(Refusal::DecodeError);
+                return Err(Refusal::DecodeError);
             }
-            Verdict::Refused(Refusal::UnexpectedMessage)
+            Err(Refusal::UnexpectedMessage)
         }
     }
 }
 
 // What is judged of a message as soon as the four bytes of its header are in, although the rest may not be.
-pub fn judge_header(awaited: Awaited, header: [u8; 4]) -> Verdict
-    ensures { result ≡ early_test (kind_awaited awaited) header }
+pub fn judge_header(awaited: Option<u8>, header: [u8; 4]) -> Result<(), Refusal>
+    ensures { result ≡ early_test awaited header }
 {
     match awaited {
-        Awaited::Message(kind) => {
+        Some(kind) => {
             if header[0] != kind {
-                return Verdict::Refused(Refusal::UnexpectedMessage);
+                return Err(Refusal::UnexpectedMessage);
             }
             if types::MESSAGE_LIMIT - 4 < endian::number24(header[1], header[2], header[3]) {
-                return Verdict::Refused(Refusal::DecodeError);
+                return Err(Refusal::DecodeError);
             }
-            Verdict::Accepted
+            Ok(())
         }
-        Awaited::Nothing => Verdict::Refused(Refusal::UnexpectedMessage),
+        None => Err(Refusal::UnexpectedMessage),
     }
 }
 
@@ -113,8 +125,8 @@ pub fn is_value(value: &[u8], side: Side, master: &[u8; 48], transcript: Sha256)
 {
     let mut expected = [0u8; 12];
     match keys::finished_of(side, master, transcript, &mut expected) {
-        Written::Wrote(_) => lists::same(value, &expected),
-        Written::Refused(_) => false,
+        Ok(_) => lists::same(value, &expected),
+        Err(_) => false,
     }
 }
 
@@ -128,6 +140,18 @@ pub fn no_messages() -> Outgoing
         bytes: [0u8; 180],
         lengths: [0usize; 3],
         plain: 0,
+    }
+}
+
+// Nothing for the peer.
+pub fn silent<C>(next: C, blocks: u64) -> Decision<C>
+    ensures { Decides (Ok result) (accept silence next) blocks }
+{
+    let outgoing = no_messages();
+    Decision {
+        outgoing,
+        next,
+        blocks,
     }
 }
 
@@ -152,7 +176,7 @@ pub fn size(outgoing: Outgoing) -> usize
 }
 
 // The messages go to the front of the lent output, or R1.
-pub fn send(outgoing: Outgoing, out: &mut [u8]) -> Written
+pub fn send(outgoing: Outgoing, out: &mut [u8]) -> Result<usize, Refusal>
     ensures { Answers (gives (flight_bytes (flight_of outgoing))) out.old result out.new }
 {
     let bytes = outgoing.bytes;

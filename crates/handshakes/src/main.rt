@@ -12,8 +12,8 @@
 // another one the list stays.
 #![tactic(auto)]
 
-use refusal::Written;
-use server::{Answer, Connection, Named, Reply};
+use refusal::Refusal;
+use server::{Answer, Connection, Reply, Rule};
 use std::io;
 use std::io::{Read, Write};
 
@@ -38,13 +38,13 @@ fn print_bytes(output: &mut impl Write, bytes: &[u8]) -> io::Result<()> {
 }
 
 // How many bytes were written, the alert, or the R number.
-fn print_said(output: &mut impl Write, said: Written) -> io::Result<()> {
+fn print_said(output: &mut impl Write, said: Result<usize, Refusal>) -> io::Result<()> {
     match said {
-        Written::Wrote(n) => {
+        Ok(n) => {
             lines::text(output, b"wrote ")?;
             lines::number(output, n)?;
         }
-        Written::Refused(r) => {
+        Err(r) => {
             if refusal::for_peer(r) {
                 lines::text(output, b"alert ")?;
             }
@@ -59,14 +59,12 @@ fn end_line(output: &mut impl Write) -> io::Result<()> {
     Ok(())
 }
 
-fn named(byte: u8) -> Named {
-    if byte == 1 {
-        return Named::Tell;
+fn named(byte: u8) -> Option<Rule> {
+    match byte {
+        1 => Some(Rule::Tell),
+        2 => Some(Rule::Hide),
+        _ => None,
     }
-    if byte == 2 {
-        return Named::Hide;
-    }
-    Named::Nothing
 }
 
 // The end of a call's line, and what is kept from then on.
@@ -104,13 +102,12 @@ fn start(input: &mut impl Read, output: &mut impl Write, kept: Kept) -> io::Resu
 fn replied(output: &mut impl Write, kept: Kept, reply: Reply) -> io::Result<Kept> {
     let connection = reply.next;
     let mut master = kept.master;
-    if reply.handed {
-        let handed = reply.master;
-        master = handed;
+    if let Some(derived) = reply.handed {
+        master = derived.master;
         lines::text(output, b" blocks ")?;
-        lines::number(output, reply.blocks as usize)?;
+        lines::number(output, derived.blocks as usize)?;
         lines::text(output, b" master")?;
-        print_bytes(output, &handed)?;
+        print_bytes(output, &master)?;
     }
     end_line(output)?;
     Ok(Kept { connection, master })
@@ -128,9 +125,8 @@ fn deliver(
 ) -> io::Result<Kept> {
     let connection = kept.connection;
     let reply = server::message(connection, table, starts, count, bytes, out);
-    let said = reply.said;
     lines::text(output, b"message ")?;
-    print_said(output, said)?;
+    print_said(output, reply.said)?;
     print_bytes(output, out)?;
     replied(output, kept, reply)
 }
@@ -213,10 +209,8 @@ fn once(
 
 // What is kept before the first call: a connection that is closed.
 fn nothing() -> Kept {
-    let answer = server::start(b"", b"", b"", Named::Nothing);
-    let connection = answer.next;
     Kept {
-        connection,
+        connection: server::start(b"", b"", b"", None).next,
         master: [0u8; 48],
     }
 }
@@ -231,13 +225,10 @@ fn new_table(
     let n = lines::number24(input)?;
     let size = lines::fill(input, table, n)?;
     let made = keytable::make_list(lines::part(table, 0, size), starts);
-    match made {
-        Written::Wrote(count) => Ok(Sizes { table: size, count }),
-        Written::Refused(_) => Ok(Sizes {
-            table: size,
-            count: sizes.count,
-        }),
-    }
+    Ok(Sizes {
+        table: size,
+        count: made.unwrap_or(sizes.count),
+    })
 }
 
 // Call 7: another count, and another number at a place of the list.
@@ -245,13 +236,10 @@ fn new_list(input: &mut impl Read, starts: &mut [u32], sizes: Sizes) -> io::Resu
     let count = lines::number24(input)?;
     let at = lines::number16(input)?;
     let start = lines::number24(input)? as u32;
-    if at < starts.len() {
-        starts[at] = start;
+    if let Some(place) = starts.get_mut(at) {
+        *place = start;
     }
-    Ok(Sizes {
-        table: sizes.table,
-        count,
-    })
+    Ok(Sizes { count, ..sizes })
 }
 
 // The sizes of table and list from now on: calls 2 and 7 bring others.
@@ -269,6 +257,7 @@ fn next_table(
     }
 }
 
+// Nothing says that input ends, so the calls are counted, up to a number that no input has.
 fn main(rt: HostRuntime) -> io::Result<()> {
     let mut input = rt.stdin();
     let mut output = rt.stdout();

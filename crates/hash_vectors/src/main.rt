@@ -10,7 +10,8 @@ use std::io::{Read, Write};
 // A line: the message's length, how it was absorbed, and the digest.
 fn print_line(output: &mut impl Write, length: usize, how: &[u8], hash: Sha256) -> io::Result<()> {
     let mut digest = [0u8; 32];
-    hash.finish(&mut digest);
+    // Not refused: there is room, and no message is near the limit.
+    let _ = hash.finish(&mut digest);
     lines::number(output, length)?;
     lines::text(output, how)?;
     lines::hex(output, &digest)?;
@@ -21,24 +22,24 @@ fn print_line(output: &mut impl Write, length: usize, how: &[u8], hash: Sha256) 
 // The message in parts of one byte, two bytes, three bytes, and so on.
 fn in_parts(message: &[u8]) -> Sha256 {
     let mut hash = Sha256::new();
-    let mut at: usize = 0;
-    let mut size: usize = 1;
-    while size <= message.len() - at {
-        hash = hash.update(&message[at..at + size]);
-        at += size;
-        size += 1;
+    let mut rest = message;
+    for size in 1..=message.len() {
+        let Some((part, behind)) = rest.split_at_checked(size) else {
+            break;
+        };
+        hash = hash.update(part);
+        rest = behind;
     }
-    hash.update(&message[at..])
+    hash.update(rest)
 }
 
 // So many times the same part.
 fn in_equal_parts(output: &mut impl Write, part: &[u8], times: usize) -> io::Result<()> {
     let mut hash = Sha256::new();
-    let mut length: usize = 0;
     for _ in 0..times {
         hash = hash.update(part);
-        length = length.wrapping_add(part.len());
     }
+    let length = part.len().wrapping_mul(times);
     print_line(output, length, b" in equal parts ", hash)
 }
 

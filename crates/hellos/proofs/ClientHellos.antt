@@ -1,29 +1,25 @@
 -- Where the parts of a ClientHello stand; its reader and its writer are each other's inverse.
 -- Assumes nothing.
-use mathlib.Core.Path.{◌≡◌, refl, ap, ◌∙◌}
+use mathlib.Core.Path.{◌≡◌, refl, sym, ap, ◌∙◌}
 use Prim.Native.Nat.{ℕ, ◌+◌, ◌%◌, ◌≤◌}
 use native.Mathlib.Omega.{arith}
 use mathlib.Core.Bool.{Bool, true, ◌&&◌, and-eq-true_iff}
 use mathlib.Core.List.{List, ◌++◌}
-use mathlib.Core.Option.{some, none-ne-some}
 use lib.ListN.{length, take, drop, length-append, length-drop}
 use lib.Seq.{length-take-le}
 use lib.Dec.{leb, eqb}
 use borrow.Author.Tests.{le-leb, leb-true}
+use Rattle.std.proofs.lemmas.Option.{none-some, same_Some}
+use Rattle.std.specs.Prelude.{Result, Ok, Err, Some, Option, None}
+use Rattle.refusal.specs.declared.Refusal.{Refusal}
 use Rattle.endian.specs.Number.{Bytes, number}
 use Rattle.endian.specs.Vector.{vector, writable}
-use Rattle.layout.specs.declared.Verdict.{Verdict}
 use Rattle.layout.specs.declared.Part.{Part}
-use Rattle.layout.specs.declared.Part.TheVariants.{At}
-use Rattle.hellos.specs.declared.Block.{Block}
-use Rattle.hellos.specs.declared.BlockFound.{BlockFound}
-use Rattle.hellos.specs.declared.BlockFound.TheVariants.{Found}
 use Rattle.hellos.specs.declared.client_hello.Client.{Client}
-use Rattle.hellos.specs.declared.client_hello.Client.TheVariants.{Read}
 use Rattle.layout.specs.Types.{client_hello_type}
 use Rattle.layout.specs.Layout.{bytes, valid, Inverse}
 use Rattle.layout.specs.Header.{header}
-use Rattle.layout.specs.Place.{end_at, part_at, ruled}
+use Rattle.layout.specs.Place.{standing, end_at, part_at, ruled}
 use Rattle.hellos.specs.Hello.{front_rules, front_bytes, session_at, block_rules, tail_bytes, block_at, block_contents}
 use Rattle.hellos.specs.ClientHello.{ClientHello, client_hello, suites_length, methods_length}
 use Rattle.hellos.specs.ClientHello.{client_block, client_methods, client_suites, client_session, client_body, client_header, client_place}
@@ -35,67 +31,78 @@ use Rattle.hellos.proofs.Hellos.{front-written, front_read, front-rules, length-
 
 -- ---- where the parts stand
 
+-- what a reader finds: the version, the length of the session id, where suites and methods stand, and the block
+abbrev pub client_at : (v n s k t j : ℕ) → Option Part → Option Client
+client_at v n s k t j b = Some (record {
+  version = v;
+  session_len = n;
+  suites = record { start = s; len = k };
+  methods = record { start = t; len = j };
+  block = b;
+})
+
 -- each behind the one before: the session id at x, the suites at s, the methods at t, and the block
-pub record Parts (m : List ℕ) (x n s k t j : ℕ) (b : Block) : Type 0 where
-  pub session : session_at m ≡ At x n
-  pub suites : ruled suites_length (part_at 2 m (x + n)) ≡ At s k
-  pub methods : ruled methods_length (part_at 1 m (s + k)) ≡ At t j
-  pub block : block_at m (t + j) ≡ Found b
+pub record Parts (m : List ℕ) (x n s k t j : ℕ) (b : Option Part) : Type 0 where
+  pub session : session_at m ≡ standing x n
+  pub suites : ruled suites_length (part_at 2 m (x + n)) ≡ standing s k
+  pub methods : ruled methods_length (part_at 1 m (s + k)) ≡ standing t j
+  pub block : block_at m (t + j) ≡ Some b
 
 -- how a ClientHello is read, by cases: what holds of a refusal, and wherever the parts stand so, holds of what is read
-module _ (m : List ℕ) (Holds : Client → Type 0) (refused : Holds Client.Refused) where
-  pub by_parts : ((x n s k t j : ℕ) (b : Block) → Parts m x n s k t j b → Holds (Read (number (take 2 (drop 4 m))) n s k t j b))
+module _ (m : List ℕ) (Holds : Option Client → Type 0) (refused : Holds None) where
+  pub by_parts : ((x n s k t j : ℕ) (b : Option Part) → Parts m x n s k t j b → Holds (client_at (number (take 2 (drop 4 m))) n s k t j b))
       → Holds (client_body m)
   by_parts read = by-session (session_at m) refl
     where
-      by-block : (x n s k t j : ℕ) (o : BlockFound) → session_at m ≡ At x n → ruled suites_length (part_at 2 m (x + n)) ≡ At s k
-          → ruled methods_length (part_at 1 m (s + k)) ≡ At t j → block_at m (t + j) ≡ o → Holds (client_block m n s k t j o)
-      by-block x n s k t j (Found b) session suites methods block =
+      by-block : (x n s k t j : ℕ) (o : Option (Option Part)) → session_at m ≡ standing x n → ruled suites_length (part_at 2 m (x + n)) ≡ standing s k
+          → ruled methods_length (part_at 1 m (s + k)) ≡ standing t j → block_at m (t + j) ≡ o → Holds (client_block m n (record { start = s; len = k }) (record { start = t; len = j }) o)
+      by-block x n s k t j (Some b) session suites methods block =
           read x n s k t j b (record { session = session; suites = suites; methods = methods; block = block })
-      by-block x n s k t j BlockFound.Refused session suites methods block = refused
+      by-block x n s k t j None session suites methods block = refused
 
-      by-methods : (x n s k : ℕ) (p : Part) → session_at m ≡ At x n → ruled suites_length (part_at 2 m (x + n)) ≡ At s k
-          → ruled methods_length (part_at 1 m (s + k)) ≡ p → Holds (client_methods m n s k p)
-      by-methods x n s k (At t j) session suites methods = by-block x n s k t j (block_at m (t + j)) session suites methods refl
-      by-methods x n s k Part.Refused session suites methods = refused
+      by-methods : (x n s k : ℕ) (p : Option Part) → session_at m ≡ standing x n → ruled suites_length (part_at 2 m (x + n)) ≡ standing s k
+          → ruled methods_length (part_at 1 m (s + k)) ≡ p → Holds (client_methods m n (record { start = s; len = k }) p)
+      by-methods x n s k (Some t) session suites methods = by-block x n s k t.start t.len (block_at m (t.start + t.len)) session suites methods refl
+      by-methods x n s k None session suites methods = refused
 
-      by-suites : (x n : ℕ) (p : Part) → session_at m ≡ At x n → ruled suites_length (part_at 2 m (x + n)) ≡ p → Holds (client_suites m n p)
-      by-suites x n (At s k) session suites = by-methods x n s k (ruled methods_length (part_at 1 m (s + k))) session suites refl
-      by-suites x n Part.Refused session suites = refused
+      by-suites : (x n : ℕ) (p : Option Part) → session_at m ≡ standing x n → ruled suites_length (part_at 2 m (x + n)) ≡ p → Holds (client_suites m n p)
+      by-suites x n (Some s) session suites = by-methods x n s.start s.len (ruled methods_length (part_at 1 m (s.start + s.len))) session suites refl
+      by-suites x n None session suites = refused
 
-      by-session : (p : Part) → session_at m ≡ p → Holds (client_session m p)
-      by-session (At x n) session = by-suites x n (ruled suites_length (part_at 2 m (x + n))) session refl
-      by-session Part.Refused session = refused
+      by-session : (p : Option Part) → session_at m ≡ p → Holds (client_session m p)
+      by-session (Some p) session = by-suites p.start p.len (ruled suites_length (part_at 2 m (p.start + p.len))) session refl
+      by-session None session = refused
 
   -- the same with the header's tests
-  pub by-header : (header client_hello_type m ≡ Verdict.Accepted → (x n s k t j : ℕ) (b : Block) → Parts m x n s k t j b
-      → Holds (Read (number (take 2 (drop 4 m))) n s k t j b)) → Holds (client_place m)
+  pub by-header : (header client_hello_type m ≡ Ok tt → (x n s k t j : ℕ) (b : Option Part) → Parts m x n s k t j b
+      → Holds (client_at (number (take 2 (drop 4 m))) n s k t j b)) → Holds (client_place m)
   by-header read = go (header client_hello_type m) refl
     where
-      go : (v : Verdict) → header client_hello_type m ≡ v → Holds (client_header m v)
-      go Verdict.Accepted a = by_parts (read a)
-      go (Verdict.Refused r) a = refused
+      go : (v : Result Unit Refusal) → header client_hello_type m ≡ v → Holds (client_header m v)
+      go (Ok tt) a = by_parts (read a)
+      go (Err r) a = refused
 
 -- the random, which ends at 38, the k bytes of suites from s on and the j bytes of methods from t on lie inside the message
 abbrev pub Inside : List ℕ → ℕ → ℕ → ℕ → ℕ → Type 0
 Inside m s k t j = (38 ≤ length m) × (s + k ≤ length m) × (t + j ≤ length m)
 
-pub parts-inside : (m : List ℕ) (v n s k t j : ℕ) (b : Block) → client_body m ≡ Read v n s k t j b → Inside m s k t j
-parts-inside m v n s k t j b = by_parts m (λ p. p ≡ Read v n s k t j b → Inside m s k t j) unread inside
+pub parts-inside : (m : List ℕ) (v n s k t j : ℕ) (b : Option Part) → client_body m ≡ client_at v n s k t j b → Inside m s k t j
+parts-inside m v n s k t j b = by_parts m (λ p. p ≡ client_at v n s k t j b → Inside m s k t j) unread inside
   where
-    unread : Client.Refused ≡ Read v n s k t j b → Inside m s k t j
-    unread e = absurd (let z : ◌≡◌ {A = ℕ} 0 1 = cc in omega arith)
+    unread : None ≡ client_at v n s k t j b → Inside m s k t j
+    unread e = absurd (none-some _ e)
 
-    inside : (x n₀ s₀ k₀ t₀ j₀ : ℕ) (b₀ : Block) → Parts m x n₀ s₀ k₀ t₀ j₀ b₀
-        → Read (number (take 2 (drop 4 m))) n₀ s₀ k₀ t₀ j₀ b₀ ≡ Read v n s k t j b → Inside m s k t j
+    inside : (x n₀ s₀ k₀ t₀ j₀ : ℕ) (b₀ : Option Part) → Parts m x n₀ s₀ k₀ t₀ j₀ b₀
+        → client_at (number (take 2 (drop 4 m))) n₀ s₀ k₀ t₀ j₀ b₀ ≡ client_at v n s k t j b → Inside m s k t j
     inside x n₀ s₀ k₀ t₀ j₀ b₀ p e =
+        let same = same_Some _ _ e in
         let first = ruled-inside (λ i. leb i 32) 1 m 38 x n₀ p.session in
         let second = ruled-inside suites_length 2 m (x + n₀) s₀ k₀ p.suites in
         let third = ruled-inside methods_length 1 m (s₀ + k₀) t₀ j₀ p.methods in
-        let suites-at : s₀ ≡ s = cc e in
-        let suites-size : k₀ ≡ k = cc e in
-        let methods-at : t₀ ≡ t = cc e in
-        let methods-size : j₀ ≡ j = cc e in
+        let suites-at : s₀ ≡ s = ap (λ (c : Client). c.suites.start) same in
+        let suites-size : k₀ ≡ k = ap (λ (c : Client). c.suites.len) same in
+        let methods-at : t₀ ≡ t = ap (λ (c : Client). c.methods.start) same in
+        let methods-size : j₀ ≡ j = ap (λ (c : Client). c.methods.len) same in
         (omega arith, omega arith, omega arith)
 
 -- ---- valid fields
@@ -138,7 +145,7 @@ at-least-45 f h =
 
 -- ---- reading what was written
 
-client-reads : (f : ClientHello) → valid client_hello f ≡ true → read_client_hello (bytes client_hello f) ≡ some f
+client-reads : (f : ClientHello) → valid client_hello f ≡ true → read_client_hello (bytes client_hello f) ≡ Some f
 client-reads f h =
     let m : List ℕ = bytes client_hello f in
     let n : ℕ = length f.session_id in
@@ -152,13 +159,13 @@ client-reads f h =
     let suites = part-written 2 m (39 + n) f.suites (vector 1 f.methods ++ tail) (omega arith) rules.1.0 front.4 in
     let methods = part-written 1 m (39 + n + 2 + k) f.methods tail (omega arith) rules.2.0 suites.3 in
     let block = block_written m (39 + n + 2 + k + 1 + j) f.extensions (omega arith) rules.3 methods.3 in
-    let suites-at : ruled suites_length (part_at 2 m (39 + n)) ≡ At (39 + n + 2) k =
+    let suites-at : ruled suites_length (part_at 2 m (39 + n)) ≡ standing (39 + n + 2) k =
     rw (le-leb (end_at 2 m (39 + n)) (length m) (omega arith), suites.1, rules.1.1) in
-    let methods-at : ruled methods_length (part_at 1 m (39 + n + 2 + k)) ≡ At (39 + n + 2 + k + 1) j =
+    let methods-at : ruled methods_length (part_at 1 m (39 + n + 2 + k)) ≡ standing (39 + n + 2 + k + 1) j =
     rw (le-leb (end_at 1 m (39 + n + 2 + k)) (length m) (omega arith), methods.1, rules.2.1) in
-    let place : client_place m ≡ Read (number (take 2 (drop 4 m))) n (39 + n + 2) k (39 + n + 2 + k + 1) j block.0 =
+    let place : client_place m ≡ client_at (number (take 2 (drop 4 m))) n (39 + n + 2) k (39 + n + 2 + k + 1) j block.0 =
     rw (header-message client_hello_type (client_hello.body f) ok.1, front.0, suites-at, methods-at, block.1) in
-    ap (client_fields m) place ∙ (λ i. some (record {
+    ap (client_fields m) place ∙ (λ i. Some (record {
       version = front.1 i;
       random = front.2 i;
       session_id = front.3 i;
@@ -174,7 +181,7 @@ abbrev Wrote : List ℕ → ClientHello → Type 0
 Wrote m f = (valid client_hello f ≡ true) × (m ≡ bytes client_hello f)
 
 -- a vector with a rule on its length, as the message has it
-vector-read : (rule : ℕ → Bool) (w : ℕ) (m : List ℕ) (at s n : ℕ) → Bytes m → ruled rule (part_at w m at) ≡ At s n
+vector-read : (rule : ℕ → Bool) (w : ℕ) (m : List ℕ) (at s n : ℕ) → Bytes m → ruled rule (part_at w m at) ≡ standing s n
     → (drop at m ≡ vector w (take n (drop s m)) ++ drop (s + n) m) × (writable w (take n (drop s m)) ≡ true)
     × (rule (length (take n (drop s m))) ≡ true)
 vector-read rule w m at s n b e =
@@ -185,11 +192,11 @@ vector-read rule w m at s n b e =
     (rw (there.1, there.2) read.0, rw (there.1, there.2) read.1, rw long r.1)
 
 module _ (m : List ℕ) (f : ClientHello) (b : Bytes m) where
-  abbrev Writes : Client → Type 0
-  Writes p = client_fields m p ≡ some f → Wrote m f
+  abbrev Writes : Option Client → Type 0
+  Writes p = client_fields m p ≡ Some f → Wrote m f
 
-  writes : header client_hello_type m ≡ Verdict.Accepted → (x n s k t j : ℕ) (c : Block) → Parts m x n s k t j c
-      → Writes (Read (number (take 2 (drop 4 m))) n s k t j c)
+  writes : header client_hello_type m ≡ Ok tt → (x n s k t j : ℕ) (c : Option Part) → Parts m x n s k t j c
+      → Writes (client_at (number (take 2 (drop 4 m))) n s k t j c)
   writes accepted x n s k t j c p e =
       let read : ClientHello = record {
         version = number (take 2 (drop 4 m));
@@ -199,7 +206,7 @@ module _ (m : List ℕ) (f : ClientHello) (b : Bytes m) where
         methods = take j (drop t m);
         extensions = block_contents m c;
       } in
-      let same : f ≡ read = cc e in
+      let same : f ≡ read = sym (same_Some _ _ e) in
       let head = header_read client_hello_type m b accepted in
       let front = front_read m x n b p.session in
       let second = vector-read suites_length 2 m (x + n) s k b p.suites in
@@ -215,5 +222,5 @@ module _ (m : List ℕ) (f : ClientHello) (b : Bytes m) where
 pub client-inverse : Inverse client_hello read_client_hello
 client-inverse = record {
   reads-written = client-reads;
-  writes-read = λ m f b. by-header m (Writes m f b) (λ e. absurd (none-ne-some f e)) (writes m f b);
+  writes-read = λ m f b. by-header m (Writes m f b) (λ e. absurd (none-some f e)) (writes m f b);
 }

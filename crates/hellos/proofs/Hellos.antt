@@ -4,25 +4,22 @@ use mathlib.Core.Path.{◌≡◌, refl, sym, ap, ap₂, ◌∙◌}
 use Prim.Native.Nat.{ℕ, ◌+◌, ◌-◌, ◌≤◌, ◌<◌}
 use native.Mathlib.Omega.{arith}
 use native.Mathlib.Decide.{ℕ_discrete}
-use mathlib.Core.Option.{Option, none, some}
 use mathlib.Core.Bool.{Bool, true, false, ◌&&◌, cond, and-eq-true_iff}
 use mathlib.Core.List.{List, [], ◌∷◌, ◌++◌, append_assoc, append-nil}
 use lib.ListN.{length, take, drop, length-append, length-drop, take-append-drop}
 use lib.Seq.{paste, take_at, drop_at, drop-drop, drop-length, length-take-le}
 use lib.Dec.{ltb, leb, eqb}
 use borrow.Author.Tests.{ltb-true, leb-true, eqb-true, lt-ltb, le-leb, eq-eqb, ne_eqb}
+use Rattle.std.proofs.lemmas.Option.{same_Some}
+use Rattle.std.specs.Prelude.{Option, None, Some}
 use Rattle.endian.specs.Number.{Bytes, be, number}
 use Rattle.endian.specs.Vector.{vector, writable, stated}
 use Rattle.endian.proofs.Numbers.{number-be-lt, number_lt, be-number-at, bytes_take, bytes_drop}
 use Rattle.refusal.specs.declared.Refusal.TheVariants.{BadValue}
 use Rattle.refusal.specs.Lent.{Outcome, gives, refuses}
 use Rattle.layout.specs.declared.Part.{Part}
-use Rattle.layout.specs.declared.Part.TheVariants.{At}
-use Rattle.hellos.specs.declared.Block.{Block}
-use Rattle.hellos.specs.declared.BlockFound.{BlockFound}
-use Rattle.hellos.specs.declared.BlockFound.TheVariants.{Found}
 use Rattle.extensions.specs.Extensions.{block_rule}
-use Rattle.layout.specs.Place.{end_at, part_at, last_at}
+use Rattle.layout.specs.Place.{standing, end_at, part_at, last_at}
 use Rattle.layout.specs.Types.{message_limit}
 use Rattle.layout.specs.Layout.{Layout, message, written}
 use Rattle.hellos.specs.Hello.{front_rules, front_bytes, session_at, block_rules, tail_bytes, block_in, block_at, block_contents, given, between}
@@ -41,14 +38,14 @@ front-rules version random id h =
 -- the fields in front of a message of this type, and what is left behind them
 pub front-written : (kind version : ℕ) (random id rest : List ℕ) → front_rules version random id ≡ true →
     let m = message kind (front_bytes version random id rest) in
-    (session_at m ≡ At 39 (length id)) × (number (take 2 (drop 4 m)) ≡ version) × (take 32 (drop 6 m) ≡ random)
+    (session_at m ≡ standing 39 (length id)) × (number (take 2 (drop 4 m)) ≡ version) × (take 32 (drop 6 m) ≡ random)
     × (take (length id) (drop 39 m) ≡ id) × (drop (39 + length id) m ≡ rest)
 front-written kind version random id rest h =
     let m : List ℕ = message kind (front_bytes version random id rest) in
     let ok = front-rules version random id h in
     let there : drop 38 m ≡ vector 1 id ++ rest = drop_at random (vector 1 id ++ rest) 32 ok.1 in
     let part = part-written 1 m 38 id rest (omega arith) (lt-ltb (length id) 256 (omega arith)) there in
-    let place : part_at 1 m 38 ≡ At 39 (length id) = rw (le-leb (end_at 1 m 38) (length m) (omega arith), part.1) in (
+    let place : part_at 1 m 38 ≡ standing 39 (length id) = rw (le-leb (end_at 1 m 38) (length m) (omega arith), part.1) in (
       rw (place, le-leb (length id) 32 ok.2),
       number-be-lt 2 version ok.0,
       take_at random (vector 1 id ++ rest) 32 ok.1,
@@ -56,7 +53,7 @@ front-written kind version random id rest h =
       part.3,
     )
 
-pub front_read : (m : List ℕ) (s n : ℕ) → Bytes m → session_at m ≡ At s n
+pub front_read : (m : List ℕ) (s n : ℕ) → Bytes m → session_at m ≡ standing s n
     → (s ≡ 39) × (39 + n ≤ length m)
     × (drop 4 m ≡ front_bytes (number (take 2 (drop 4 m))) (take 32 (drop 6 m)) (take n (drop 39 m)) (drop (39 + n) m))
     × (front_rules (number (take 2 (drop 4 m))) (take 32 (drop 6 m)) (take n (drop 39 m)) ≡ true)
@@ -84,43 +81,43 @@ front_read m s n b e =
 
 -- the block at the end
 pub block_written : (m : List ℕ) (at : ℕ) (o : Option (List ℕ)) → at ≤ length m → block_rules o ≡ true → drop at m ≡ tail_bytes o
-    → (b : Block) × (block_at m at ≡ Found b) × (block_contents m b ≡ o)
-block_written m at none inside h e =
+    → (b : Option Part) × (block_at m at ≡ Some b) × (block_contents m b ≡ o)
+block_written m at None inside h e =
     let size : length (drop at m) ≡ 0 = ap length e in
     let left : length (drop at m) ≡ length m - at = length-drop at m in
     let over : at ≡ length m = omega arith in
-    (Block.Absent, rw (eq-eqb at (length m) over), refl)
-block_written m at (some b) inside h e =
+    (None, rw (eq-eqb at (length m) over), refl)
+block_written m at (Some b) inside h e =
     let ok = (and-eq-true_iff (writable 2 b) (block_rule b)).0 h in
     let part = part-written 2 m at b [] (omega arith) ok.0 (e ∙ sym (append-nil (vector 2 b))) in
     let more : ¬ (at ≡ length m) = λ over. absurd (omega arith) in
-    let place : last_at 2 m at ≡ At (at + 2) (length b) = rw (eq-eqb (end_at 2 m at) (length m) (omega arith), part.1) in
-    (Block.At (at + 2) (length b), rw (ne_eqb at (length m) more, place, part.2, ok.1), ap some part.2)
+    let place : last_at 2 m at ≡ standing (at + 2) (length b) = rw (eq-eqb (end_at 2 m at) (length m) (omega arith), part.1) in
+    (standing (at + 2) (length b), rw (ne_eqb at (length m) more, place, part.2, ok.1), ap Some part.2)
 
 -- what a found block says of the message
-abbrev Tail : List ℕ → ℕ → Block → Type 0
+abbrev Tail : List ℕ → ℕ → Option Part → Type 0
 Tail m at b = (drop at m ≡ tail_bytes (block_contents m b)) × (block_rules (block_contents m b) ≡ true)
 
-block-there : (m : List ℕ) (at : ℕ) (b : Block) (s n : ℕ) (t : Bool) → Bytes m → last_at 2 m at ≡ At s n
-    → block_rule (take n (drop s m)) ≡ t → cond t (Found (Block.At s n)) BlockFound.Refused ≡ Found b → Tail m at b
+block-there : (m : List ℕ) (at : ℕ) (b : Option Part) (s n : ℕ) (t : Bool) → Bytes m → last_at 2 m at ≡ standing s n
+    → block_rule (take n (drop s m)) ≡ t → cond t (Some (standing s n)) None ≡ Some b → Tail m at b
 block-there m at b s n true h l r e =
-    let same : b ≡ Block.At s n = cc e in
+    let same : b ≡ standing s n = sym (same_Some _ _ e) in
     let there = last-there 2 m at s n l in
     let read = vector-last 2 m at h there.0 in
     let contents : take n (drop s m) ≡ take (stated 2 (drop at m)) (drop (at + 2) m) = rw (there.1, there.2) in
     rw same (read.0 ∙ ap (vector 2) (sym contents), rw (contents, read.1) (rw contents at r))
 block-there m at b s n false h l r e = absurd (let z : ◌≡◌ {A = ℕ} 0 1 = cc e in omega arith)
 
-block-in-part : (m : List ℕ) (at : ℕ) (b : Block) (p : Part) → Bytes m → last_at 2 m at ≡ p → block_in m p ≡ Found b
+block-in-part : (m : List ℕ) (at : ℕ) (b : Option Part) (p : Option Part) → Bytes m → last_at 2 m at ≡ p → block_in m p ≡ Some b
     → Tail m at b
-block-in-part m at b (At s n) h l e = block-there m at b s n (block_rule (take n (drop s m))) h l refl e
-block-in-part m at b Part.Refused h l e = absurd (let z : ◌≡◌ {A = ℕ} 0 1 = cc e in omega arith)
+block-in-part m at b (Some p) h l e = block-there m at b p.start p.len (block_rule (take p.len (drop p.start m))) h l refl e
+block-in-part m at b None h l e = absurd (let z : ◌≡◌ {A = ℕ} 0 1 = cc e in omega arith)
 
-pub block_read : (m : List ℕ) (at : ℕ) (b : Block) → Bytes m → block_at m at ≡ Found b
+pub block_read : (m : List ℕ) (at : ℕ) (b : Option Part) → Bytes m → block_at m at ≡ Some b
     → (drop at m ≡ tail_bytes (block_contents m b)) × (block_rules (block_contents m b) ≡ true)
 block_read m at b h e = elim (ℕ_discrete at (length m)) [
   | yes over ↦
-      let absent : b ≡ Block.Absent = cc (rw (eq-eqb at (length m) over) at e) in
+      let absent : b ≡ None = cc (rw (eq-eqb at (length m) over) at e) in
       rw absent (rw over (drop-length m), refl)
   | no more ↦ block-in-part m at b (last_at 2 m at) h refl (rw (ne_eqb at (length m) more) at e)
 ]

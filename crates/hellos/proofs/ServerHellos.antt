@@ -6,24 +6,21 @@ use native.Mathlib.Omega.{arith}
 use native.Mathlib.Decide.{dec_le}
 use mathlib.Core.Bool.{true, ◌&&◌, and-eq-true_iff}
 use mathlib.Core.List.{List, ◌∷◌, ◌++◌}
-use mathlib.Core.Option.{some, none-ne-some}
 use lib.ListN.{length, get_or, take, drop, length-drop, take-append-drop}
 use lib.Seq.{drop-drop, get_or-drop, drop-cons, length-take-le}
 use lib.Dec.{ltb}
 use borrow.Author.Tests.{ltb-true, lt-ltb, le-leb, lt-leb}
+use Rattle.std.proofs.lemmas.Option.{none-some, same_Some}
+use Rattle.std.specs.Prelude.{Result, Ok, Err, Some, Option, None}
+use Rattle.refusal.specs.declared.Refusal.{Refusal}
 use Rattle.endian.specs.Number.{Bytes, be, number}
 use Rattle.endian.proofs.Numbers.{number-be-lt, number_lt, be-number-at, bytes_take, bytes_drop}
-use Rattle.layout.specs.declared.Verdict.{Verdict}
 use Rattle.layout.specs.declared.Part.{Part}
-use Rattle.layout.specs.declared.Part.TheVariants.{At}
-use Rattle.hellos.specs.declared.Block.{Block}
-use Rattle.hellos.specs.declared.BlockFound.{BlockFound}
-use Rattle.hellos.specs.declared.BlockFound.TheVariants.{Found}
 use Rattle.hellos.specs.declared.server_hello.Server.{Server}
-use Rattle.hellos.specs.declared.server_hello.Server.TheVariants.{Read}
 use Rattle.layout.specs.Types.{server_hello_type}
 use Rattle.layout.specs.Layout.{bytes, valid, Inverse}
 use Rattle.layout.specs.Header.{header}
+use Rattle.layout.specs.Place.{standing}
 use Rattle.hellos.specs.Hello.{front_rules, front_bytes, session_at, block_rules, tail_bytes, block_at, block_contents}
 use Rattle.hellos.specs.ServerHello.{ServerHello, server_hello, server_block, server_session, server_body, server_header, server_place, server_fields}
 use Rattle.hellos.specs.ServerHello.{read_server_hello}
@@ -34,41 +31,41 @@ use Rattle.hellos.proofs.Hellos.{front-written, front_read, block_written, block
 -- ---- where the parts stand
 
 -- the session id at x, room behind it for suite and compression, and the block
-pub record Parts (m : List ℕ) (x n : ℕ) (b : Block) : Type 0 where
-  pub session : session_at m ≡ At x n
+pub record Parts (m : List ℕ) (x n : ℕ) (b : Option Part) : Type 0 where
+  pub session : session_at m ≡ standing x n
   pub room : 42 + n ≤ length m
-  pub block : block_at m (42 + n) ≡ Found b
+  pub block : block_at m (42 + n) ≡ Some b
 
 -- what is read then
-abbrev pub read_at : List ℕ → ℕ → Block → Server
-read_at m n b = Read (number (take 2 (drop 4 m))) n (number (take 2 (drop (39 + n) m))) (get_or m (41 + n) 0) b
+abbrev pub read_at : List ℕ → ℕ → Option Part → Option Server
+read_at m n b = server_block m n (Some b)
 
 -- how a ServerHello is read, by cases: what holds of a refusal, and wherever the parts stand so, holds of what is read
-module _ (m : List ℕ) (Holds : Server → Type 0) (refused : Holds Server.Refused) where
-  pub by-body : ((x n : ℕ) (b : Block) → Parts m x n b → Holds (read_at m n b)) → Holds (server_body m)
+module _ (m : List ℕ) (Holds : Option Server → Type 0) (refused : Holds None) where
+  pub by-body : ((x n : ℕ) (b : Option Part) → Parts m x n b → Holds (read_at m n b)) → Holds (server_body m)
   by-body read = by-session (session_at m) refl
     where
-      by-block : (x n : ℕ) (o : BlockFound) → session_at m ≡ At x n → 42 + n ≤ length m → block_at m (42 + n) ≡ o → Holds (server_block m n o)
-      by-block x n (Found b) session room block = read x n b (record { session = session; room = room; block = block })
-      by-block x n BlockFound.Refused session room block = refused
+      by-block : (x n : ℕ) (o : Option (Option Part)) → session_at m ≡ standing x n → 42 + n ≤ length m → block_at m (42 + n) ≡ o → Holds (server_block m n o)
+      by-block x n (Some b) session room block = read x n b (record { session = session; room = room; block = block })
+      by-block x n None session room block = refused
 
-      by-session : (p : Part) → session_at m ≡ p → Holds (server_session m p)
-      by-session (At x n) session = elim (dec_le (42 + n) (length m)) [
-        | yes room ↦ rw (le-leb (42 + n) (length m) room) (by-block x n (block_at m (42 + n)) session room refl)
-        | no cut ↦ rw (lt-leb (42 + n) (length m) (omega arith)) refused
+      by-session : (p : Option Part) → session_at m ≡ p → Holds (server_session m p)
+      by-session (Some p) session = elim (dec_le (42 + p.len) (length m)) [
+        | yes room ↦ rw (le-leb (42 + p.len) (length m) room) (by-block p.start p.len (block_at m (42 + p.len)) session room refl)
+        | no cut ↦ rw (lt-leb (42 + p.len) (length m) (omega arith)) refused
       ]
-      by-session Part.Refused session = refused
+      by-session None session = refused
 
-  pub by-header : (header server_hello_type m ≡ Verdict.Accepted → (x n : ℕ) (b : Block) → Parts m x n b → Holds (read_at m n b)) → Holds (server_place m)
+  pub by-header : (header server_hello_type m ≡ Ok tt → (x n : ℕ) (b : Option Part) → Parts m x n b → Holds (read_at m n b)) → Holds (server_place m)
   by-header read = go (header server_hello_type m) refl
     where
-      go : (v : Verdict) → header server_hello_type m ≡ v → Holds (server_header m v)
-      go Verdict.Accepted a = by-body (read a)
-      go (Verdict.Refused r) a = refused
+      go : (v : Result Unit Refusal) → header server_hello_type m ≡ v → Holds (server_header m v)
+      go (Ok tt) a = by-body (read a)
+      go (Err r) a = refused
 
 -- ---- reading what was written
 
-server-reads : (f : ServerHello) → valid server_hello f ≡ true → read_server_hello (bytes server_hello f) ≡ some f
+server-reads : (f : ServerHello) → valid server_hello f ≡ true → read_server_hello (bytes server_hello f) ≡ Some f
 server-reads f h =
     let m : List ℕ = bytes server_hello f in
     let ok = valid-parts server_hello f h in
@@ -88,9 +85,9 @@ server-reads f h =
     ap (λ (k : ℕ). get_or m k 0) plus-two ∙ sym (get_or-drop (39 + n) m 2 0) ∙ ap (λ (l : List ℕ). get_or l 2 0) front.4 in
     let behind : drop (42 + n) m ≡ tail = ap (λ (k : ℕ). drop k m) plus-three ∙ sym (drop-drop 3 (39 + n) m) ∙ ap (drop 3) front.4 in
     let block = block_written m (42 + n) f.extensions (omega arith) four.1 behind in
-    let place : server_place m ≡ Read (number (take 2 (drop 4 m))) n (number (take 2 (drop (39 + n) m))) (get_or m (41 + n) 0) block.0 =
+    let place : server_place m ≡ read_at m n block.0 =
     rw (header-message server_hello_type (server_hello.body f) ok.1, front.0, le-leb (42 + n) (length m) (omega arith), block.1) in
-    ap (server_fields m) place ∙ (λ i. some (record {
+    ap (server_fields m) place ∙ (λ i. Some (record {
       version = front.1 i;
       random = front.2 i;
       session_id = front.3 i;
@@ -131,10 +128,10 @@ abbrev Wrote : List ℕ → ServerHello → Type 0
 Wrote m f = (valid server_hello f ≡ true) × (m ≡ bytes server_hello f)
 
 module _ (m : List ℕ) (f : ServerHello) (b : Bytes m) where
-  abbrev Writes : Server → Type 0
-  Writes p = server_fields m p ≡ some f → Wrote m f
+  abbrev Writes : Option Server → Type 0
+  Writes p = server_fields m p ≡ Some f → Wrote m f
 
-  writes : header server_hello_type m ≡ Verdict.Accepted → (x n : ℕ) (c : Block) → Parts m x n c → Writes (read_at m n c)
+  writes : header server_hello_type m ≡ Ok tt → (x n : ℕ) (c : Option Part) → Parts m x n c → Writes (read_at m n c)
   writes accepted x n c p e =
       let read : ServerHello = record {
         version = number (take 2 (drop 4 m));
@@ -144,7 +141,7 @@ module _ (m : List ℕ) (f : ServerHello) (b : Bytes m) where
         compression = get_or m (41 + n) 0;
         extensions = block_contents m c;
       } in
-      let same : f ≡ read = cc e in
+      let same : f ≡ read = sym (same_Some _ _ e) in
       let head = header_read server_hello_type m b accepted in
       let front = front_read m x n b p.session in
       let chosen = chosen-read m n b p.room in
@@ -158,5 +155,5 @@ module _ (m : List ℕ) (f : ServerHello) (b : Bytes m) where
 pub server-inverse : Inverse server_hello read_server_hello
 server-inverse = record {
   reads-written = server-reads;
-  writes-read = λ m f b. by-header m (Writes m f b) (λ e. absurd (none-ne-some f e)) (writes m f b);
+  writes-read = λ m f b. by-header m (Writes m f b) (λ e. absurd (none-some f e)) (writes m f b);
 }

@@ -1,13 +1,10 @@
 -- ClientHello (RFC 5246, section 7.4.1.2).
-use Rattle.std.specs.Prelude.{ℕ, ◌+◌, ◌%◌, Bool, ◌&&◌, List, ◌++◌, length, take, drop, leb, eqb}
-use Rattle.std.proofs.Math.Option.{Option, none, some}
+use Rattle.std.specs.Prelude.{ℕ, ◌+◌, ◌%◌, Bool, ◌&&◌, List, ◌++◌, length, take, drop, leb, eqb, Result, Ok, Err, Option, None, Some}
+use Rattle.refusal.specs.declared.Refusal.{Refusal}
 use Rattle.endian.specs.Number.{number}
 use Rattle.endian.specs.Vector.{vector, writable}
-use Rattle.layout.specs.declared.Verdict.{Verdict}
 use Rattle.layout.specs.declared.Part.{Part}
-use Rattle.hellos.specs.declared.BlockFound.{BlockFound}
 use Rattle.hellos.specs.declared.client_hello.Client.{Client}
-use Rattle.hellos.specs.declared.client_hello.Client.TheVariants.{Read, Refused}
 use Rattle.layout.specs.Types.{client_hello_type}
 use Rattle.layout.specs.Layout.{Layout}
 use Rattle.layout.specs.Header.{header}
@@ -53,43 +50,43 @@ client_given version random session_id suites methods present b = record {
 
 -- ---- where the fields stand: the random at 6, the session id at 39, and each of the others behind the one before
 
-abbrev pub client_block : List ℕ → ℕ → ℕ → ℕ → ℕ → ℕ → BlockFound → Client
-client_block m n s k t j (BlockFound.Found b) = Read (number (take 2 (drop 4 m))) n s k t j b
-client_block m n s k t j BlockFound.Refused = Refused
+abbrev pub client_block : List ℕ → ℕ → (suites methods : Part) → Option (Option Part) → Option Client
+client_block m n s t (Some b) = Some (record { version = number (take 2 (drop 4 m)); session_len = n; suites = s; methods = t; block = b })
+client_block m n s t None = None
 
-abbrev pub client_methods : List ℕ → ℕ → ℕ → ℕ → Part → Client
-client_methods m n s k (Part.At t j) = client_block m n s k t j (block_at m (t + j))
-client_methods m n s k Part.Refused = Refused
+abbrev pub client_methods : List ℕ → ℕ → (suites : Part) → Option Part → Option Client
+client_methods m n s (Some t) = client_block m n s t (block_at m (t.start + t.len))
+client_methods m n s None = None
 
-abbrev pub client_suites : List ℕ → ℕ → Part → Client
-client_suites m n (Part.At s k) = client_methods m n s k (ruled methods_length (part_at 1 m (s + k)))
-client_suites m n Part.Refused = Refused
+abbrev pub client_suites : List ℕ → ℕ → Option Part → Option Client
+client_suites m n (Some s) = client_methods m n s (ruled methods_length (part_at 1 m (s.start + s.len)))
+client_suites m n None = None
 
-abbrev pub client_session : List ℕ → Part → Client
-client_session m (Part.At start n) = client_suites m n (ruled suites_length (part_at 2 m (start + n)))
-client_session m Part.Refused = Refused
+abbrev pub client_session : List ℕ → Option Part → Option Client
+client_session m (Some p) = client_suites m p.len (ruled suites_length (part_at 2 m (p.start + p.len)))
+client_session m None = None
 
-abbrev pub client_body : List ℕ → Client
+abbrev pub client_body : List ℕ → Option Client
 client_body m = client_session m (session_at m)
 
-abbrev pub client_header : List ℕ → Verdict → Client
-client_header m Verdict.Accepted = client_body m
-client_header m (Verdict.Refused r) = Refused
+abbrev pub client_header : List ℕ → Result Unit Refusal → Option Client
+client_header m (Ok tt) = client_body m
+client_header m (Err r) = None
 
-abbrev pub client_place : List ℕ → Client
+abbrev pub client_place : List ℕ → Option Client
 client_place m = client_header m (header client_hello_type m)
 
 -- the fields that a reader finds
-abbrev pub client_fields : List ℕ → Client → Option ClientHello
-client_fields m (Read version n s k t j b) = some (record {
-  version = version;
+abbrev pub client_fields : List ℕ → Option Client → Option ClientHello
+client_fields m (Some c) = Some (record {
+  version = c.version;
   random = take 32 (drop 6 m);
-  session_id = take n (drop 39 m);
-  suites = take k (drop s m);
-  methods = take j (drop t m);
-  extensions = block_contents m b;
+  session_id = take c.session_len (drop 39 m);
+  suites = take c.suites.len (drop c.suites.start m);
+  methods = take c.methods.len (drop c.methods.start m);
+  extensions = block_contents m c.block;
 })
-client_fields m Refused = none
+client_fields m None = None
 
 abbrev pub read_client_hello : List ℕ → Option ClientHello
 read_client_hello m = client_fields m (client_place m)

@@ -1,14 +1,10 @@
 -- What the two hellos share (RFC 5246, sections 7.4.1.2 and 7.4.1.3): version, random and session id in front, the extension block at the end.
 -- An absent block and an empty one are two messages, in reading and in writing.
-use Rattle.std.specs.Prelude.{ℕ, Bool, true, ◌&&◌, cond, List, [], ◌++◌, length, take, drop, leb, ltb, eqb}
-use Rattle.std.proofs.Math.Option.{Option, none, some}
+use Rattle.std.specs.Prelude.{ℕ, Bool, true, ◌&&◌, cond, List, [], ◌++◌, length, take, drop, leb, ltb, eqb, Option, None, Some}
 use Rattle.endian.specs.Number.{be}
 use Rattle.endian.specs.Vector.{vector, writable}
 use Rattle.layout.specs.declared.Part.{Part}
-use Rattle.layout.specs.declared.Part.TheVariants.{At, Refused}
-use Rattle.hellos.specs.declared.Block.{Block}
-use Rattle.hellos.specs.declared.BlockFound.{BlockFound}
-use Rattle.layout.specs.Place.{part_at, last_at, ruled}
+use Rattle.layout.specs.Place.{part_at, last_at, ruled, contents}
 use Rattle.extensions.specs.Extensions.{block_rule}
 use Rattle.layout.specs.Layout.{Layout}
 
@@ -23,35 +19,34 @@ abbrev pub front_bytes : ℕ → List ℕ → List ℕ → List ℕ → List ℕ
 front_bytes version random session_id rest = be 2 version ++ (random ++ (vector 1 session_id ++ rest))
 
 -- where the session id stands: behind header, version and random
-abbrev pub session_at : List ℕ → Part
+abbrev pub session_at : List ℕ → Option Part
 session_at m = ruled (λ n. leb n 32) (part_at 1 m 38)
 
 -- ---- the extension block: nothing, or a vector of extensions
 
 abbrev pub block_rules : Option (List ℕ) → Bool
-block_rules none = true
-block_rules (some b) = writable 2 b && block_rule b
+block_rules None = true
+block_rules (Some b) = writable 2 b && block_rule b
 
 abbrev pub tail_bytes : Option (List ℕ) → List ℕ
-tail_bytes none = []
-tail_bytes (some b) = vector 2 b
+tail_bytes None = []
+tail_bytes (Some b) = vector 2 b
 
-abbrev pub block_in : List ℕ → Part → BlockFound
-block_in m (At start len) =
-    cond (block_rule (take len (drop start m))) (BlockFound.Found (Block.At start len)) BlockFound.Refused
-block_in m Refused = BlockFound.Refused
+abbrev pub block_in : List ℕ → Option Part → Option (Option Part)
+block_in m (Some p) = cond (block_rule (take p.len (drop p.start m))) (Some (Some p)) None
+block_in m None = None
 
--- the block from `at` to the end of the message
-abbrev pub block_at : List ℕ → ℕ → BlockFound
-block_at m at = cond (eqb at (length m)) (BlockFound.Found Block.Absent) (block_in m (last_at 2 m at))
+-- the block from `at` to the end of the message: refused, found to be absent, or where it stands
+abbrev pub block_at : List ℕ → ℕ → Option (Option Part)
+block_at m at = cond (eqb at (length m)) (Some None) (block_in m (last_at 2 m at))
 
-abbrev pub block_contents : List ℕ → Block → Option (List ℕ)
-block_contents m Block.Absent = none
-block_contents m (Block.At start len) = some (take len (drop start m))
+-- `contents` says the same of an absent block as of a refused part: there are no bytes
+abbrev pub block_contents : List ℕ → Option Part → Option (List ℕ)
+block_contents = contents
 
 -- the block that a writer is given: present or not
 abbrev pub given : Bool → List ℕ → Option (List ℕ)
-given present b = cond present (some b) none
+given present b = cond present (Some b) None
 
 -- ---- a hello with its front, what stands between and the block
 

@@ -1,12 +1,9 @@
 -- ServerHello (RFC 5246, section 7.4.1.3).
-use Rattle.std.specs.Prelude.{ℕ, ◌+◌, Bool, ◌&&◌, cond, List, ◌∷◌, ◌++◌, length, get_or, take, drop, leb, ltb}
-use Rattle.std.proofs.Math.Option.{Option, none, some}
+use Rattle.std.specs.Prelude.{ℕ, ◌+◌, Bool, ◌&&◌, cond, List, ◌∷◌, ◌++◌, length, get_or, take, drop, leb, ltb, Result, Ok, Err, Option, None, Some}
+use Rattle.refusal.specs.declared.Refusal.{Refusal}
 use Rattle.endian.specs.Number.{be, number}
-use Rattle.layout.specs.declared.Verdict.{Verdict}
 use Rattle.layout.specs.declared.Part.{Part}
-use Rattle.hellos.specs.declared.BlockFound.{BlockFound}
 use Rattle.hellos.specs.declared.server_hello.Server.{Server}
-use Rattle.hellos.specs.declared.server_hello.Server.TheVariants.{Read, Refused}
 use Rattle.layout.specs.Types.{server_hello_type}
 use Rattle.layout.specs.Layout.{Layout}
 use Rattle.layout.specs.Header.{header}
@@ -40,35 +37,41 @@ server_given version random session_id suite compression present b = record {
 
 -- ---- where the fields stand: the random at 6, the session id at 39, suite and compression behind it, then the block
 
-abbrev pub server_block : List ℕ → ℕ → BlockFound → Server
-server_block m n (BlockFound.Found b) = Read (number (take 2 (drop 4 m))) n (number (take 2 (drop (39 + n) m))) (get_or m (41 + n) 0) b
-server_block m n BlockFound.Refused = Refused
+abbrev pub server_block : List ℕ → ℕ → Option (Option Part) → Option Server
+server_block m n (Some b) = Some (record {
+  version = number (take 2 (drop 4 m));
+  session_len = n;
+  suite = number (take 2 (drop (39 + n) m));
+  compression = get_or m (41 + n) 0;
+  block = b;
+})
+server_block m n None = None
 
-abbrev pub server_session : List ℕ → Part → Server
-server_session m (Part.At start n) = cond (leb (42 + n) (length m)) (server_block m n (block_at m (42 + n))) Refused
-server_session m Part.Refused = Refused
+abbrev pub server_session : List ℕ → Option Part → Option Server
+server_session m (Some p) = cond (leb (42 + p.len) (length m)) (server_block m p.len (block_at m (42 + p.len))) None
+server_session m None = None
 
-abbrev pub server_body : List ℕ → Server
+abbrev pub server_body : List ℕ → Option Server
 server_body m = server_session m (session_at m)
 
-abbrev pub server_header : List ℕ → Verdict → Server
-server_header m Verdict.Accepted = server_body m
-server_header m (Verdict.Refused r) = Refused
+abbrev pub server_header : List ℕ → Result Unit Refusal → Option Server
+server_header m (Ok tt) = server_body m
+server_header m (Err r) = None
 
-abbrev pub server_place : List ℕ → Server
+abbrev pub server_place : List ℕ → Option Server
 server_place m = server_header m (header server_hello_type m)
 
 -- the fields that a reader finds
-abbrev pub server_fields : List ℕ → Server → Option ServerHello
-server_fields m (Read version n suite compression b) = some (record {
-  version = version;
+abbrev pub server_fields : List ℕ → Option Server → Option ServerHello
+server_fields m (Some s) = Some (record {
+  version = s.version;
   random = take 32 (drop 6 m);
-  session_id = take n (drop 39 m);
-  suite = suite;
-  compression = compression;
-  extensions = block_contents m b;
+  session_id = take s.session_len (drop 39 m);
+  suite = s.suite;
+  compression = s.compression;
+  extensions = block_contents m s.block;
 })
-server_fields m Refused = none
+server_fields m None = None
 
 abbrev pub read_server_hello : List ℕ → Option ServerHello
 read_server_hello m = server_fields m (server_place m)

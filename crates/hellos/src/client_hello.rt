@@ -1,127 +1,77 @@
 // ClientHello.
-ghost use Rattle.std.specs.Prelude.{◌≡◌, ◌+◌, ◌≤◌, ◌&&◌, length};
+ghost use Rattle.std.specs.Prelude.{◌≡◌, ◌&&◌, length};
 ghost use Rattle.endian.specs.Vector.{writable};
 ghost use Rattle.refusal.specs.Lent.{Answers};
 ghost use Rattle.layout.specs.Layout.{written};
-ghost use Rattle.layout.specs.declared.Part.{Part};
 ghost use Rattle.layout.specs.Place.{part_at, ruled};
-ghost use Rattle.hellos.specs.ClientHello.{client_hello, suites_length, methods_length, client_suites, client_session, client_body, client_place, client_given};
+ghost use Rattle.hellos.specs.ClientHello.{client_hello, suites_length, methods_length, client_body, client_place, client_given};
 
-use crate::{Block, BlockFound, hello};
-use layout::{Part, Verdict, header, place, types};
-use refusal::{Refusal, Written};
+use crate::hello;
+use layout::{Part, header, place, types};
+use refusal::Refusal;
 
 // What a ClientHello holds, and where. Its random stands at 6, its session id at 39; a suite is two
 // bytes of the suites, a compression method one of the methods, and `extensions::next` goes through
-// the block.
-#[derive(Drop)]
-pub enum Client {
-    Read {
-        version: usize,
-        session_len: usize,
-        suites_start: usize,
-        suites_len: usize,
-        methods_start: usize,
-        methods_len: usize,
-        block: Block,
-    },
-    Refused,
+// the block. A block that is absent and one that is empty are different.
+#[derive(Clone, Copy)]
+pub struct Client {
+    pub version: usize,
+    pub session_len: usize,
+    pub suites: Part,
+    pub methods: Part,
+    pub block: Option<Part>,
 }
 
 // Where the suites stand that start at `at`.
-fn suites(message: &[u8], at: usize) -> Part
+fn suites(message: &[u8], at: usize) -> Option<Part>
     ensures { result ≡ ruled suites_length (part_at 2 message.now at) }
 {
-    match place::part16(message, at) {
-        Part::At { start, len } => {
-            if len < 2 {
-                return Part::Refused;
-            }
-            if len % 2 != 0 {
-                return Part::Refused;
-            }
-            Part::At { start, len }
-        }
-        Part::Refused => Part::Refused,
+    let part = place::part16(message, at)?;
+    if part.len < 2 {
+        return None;
     }
+    if part.len % 2 != 0 {
+        return None;
+    }
+    Some(part)
 }
 
 // Where the compression methods stand that start at `at`.
-fn methods(message: &[u8], at: usize) -> Part
+fn methods(message: &[u8], at: usize) -> Option<Part>
     ensures { result ≡ ruled methods_length (part_at 1 message.now at) }
 {
-    match place::part8(message, at) {
-        Part::At { start, len } => {
-            if len < 1 {
-                return Part::Refused;
-            }
-            Part::At { start, len }
-        }
-        Part::Refused => Part::Refused,
+    let part = place::part8(message, at)?;
+    if part.len < 1 {
+        return None;
     }
-}
-
-// What stands behind suites of so many bytes.
-fn behind_suites(
-    message: &[u8],
-    session_len: usize,
-    suites_start: usize,
-    suites_len: usize,
-) -> Client
-    requires { (39 ≤ suites_start) × (suites_start + suites_len ≤ length message.now) }
-    ensures { result ≡ client_suites message.now session_len (Part.At suites_start suites_len) }
-{
-    match methods(message, suites_start + suites_len) {
-        Part::At { start, len } => match hello::tail(message, start + len) {
-            BlockFound::Found(block) => {
-                let version = endian::number16(message[4], message[5]);
-                Client::Read {
-                    version,
-                    session_len,
-                    suites_start,
-                    suites_len,
-                    methods_start: start,
-                    methods_len: len,
-                    block,
-                }
-            }
-            BlockFound::Refused => Client::Refused,
-        },
-        Part::Refused => Client::Refused,
-    }
-}
-
-// What stands behind a session id of so many bytes.
-fn behind_session(message: &[u8], start: usize, session_len: usize) -> Client
-    requires { (start ≡ 39) × (start + session_len ≤ length message.now) }
-    ensures { result ≡ client_session message.now (Part.At start session_len) }
-{
-    match suites(message, start + session_len) {
-        Part::At {
-            start: suites_start,
-            len: suites_len,
-        } => behind_suites(message, session_len, suites_start, suites_len),
-        Part::Refused => Client::Refused,
-    }
+    Some(part)
 }
 
 // The tests on the body of a message whose header is tested already.
-pub fn read_body(message: &[u8]) -> Client
+pub fn read_body(message: &[u8]) -> Option<Client>
     ensures { result ≡ client_body message.now }
 {
-    match hello::session_id(message) {
-        Part::At { start, len } => behind_session(message, start, len),
-        Part::Refused => Client::Refused,
-    }
+    let session = hello::session_id(message)?;
+    let suites = suites(message, session.start + session.len)?;
+    let methods = methods(message, suites.start + suites.len)?;
+    let block = hello::tail(message, methods.start + methods.len)?;
+    let version = endian::number16(message[4], message[5]);
+    Some(Client {
+        version,
+        session_len: session.len,
+        suites,
+        methods,
+        block,
+    })
 }
 
-pub fn read(message: &[u8]) -> Client
+pub fn read(message: &[u8]) -> Option<Client>
     ensures { result ≡ client_place message.now }
 {
-    match header::test(types::CLIENT_HELLO, message) {
-        Verdict::Accepted => read_body(message),
-        Verdict::Refused(_) => Client::Refused,
+    if header::test(types::CLIENT_HELLO, message).is_err() {
+        return None;
     }
+    read_body(message)
 }
 
 // ---- writing
@@ -156,14 +106,14 @@ pub fn write(
     present: bool,
     block: &[u8],
     out: &mut [u8],
-) -> Written
+) -> Result<usize, Refusal>
     ensures { Answers (written client_hello (client_given version random.now session_id.now suites.now methods.now present block.now))
         out.old result out.new }
 {
     if !lists_valid(suites, methods) {
-        return Written::Refused(Refusal::BadValue);
+        return Err(Refusal::BadValue);
     }
-    let suites_size = endian::bytes16(suites.len());
+    let suites_size = endian::bytes::<2>(suites.len() as u64);
     let methods_size = [methods.len() as u8];
     hello::write(
         types::CLIENT_HELLO,

@@ -6,41 +6,33 @@ ghost use Rattle.refusal.specs.Lent.{Answers};
 ghost use Rattle.layout.specs.Layout.{message, written};
 ghost use Rattle.hellos.specs.Hello.{hello_with, between, front_given, session_at, block_at, front_rules, front_bytes, block_rules, tail_bytes, given};
 
-use crate::{Block, BlockFound, put};
+use crate::put;
 use layout::{Part, place, types};
-use refusal::{Refusal, Written};
+use refusal::Refusal;
 
 // Where the session id stands.
-pub(crate) fn session_id(message: &[u8]) -> Part
+pub(crate) fn session_id(message: &[u8]) -> Option<Part>
     ensures { result ≡ session_at message.now }
 {
-    match place::part8(message, 38) {
-        Part::At { start, len } => {
-            if 32 < len {
-                return Part::Refused;
-            }
-            Part::At { start, len }
-        }
-        Part::Refused => Part::Refused,
+    let part = place::part8(message, 38)?;
+    if 32 < part.len {
+        return None;
     }
+    Some(part)
 }
 
-// The block that starts at `at`, where the message does not end there.
-pub(crate) fn tail(message: &[u8], at: usize) -> BlockFound
+// Where the block stands that starts at `at`: nowhere, which is `Some(None)`, where the message ends there.
+pub(crate) fn tail(message: &[u8], at: usize) -> Option<Option<Part>>
     ensures { result ≡ block_at message.now at }
 {
     if at == message.len() {
-        return BlockFound::Found(Block::Absent);
+        return Some(None);
     }
-    match place::last16(message, at) {
-        Part::At { start, len } => {
-            if !extensions::test(&message[start..start + len]) {
-                return BlockFound::Refused;
-            }
-            BlockFound::Found(Block::At { start, len })
-        }
-        Part::Refused => BlockFound::Refused,
+    let block = place::last16(message, at)?;
+    if !extensions::test(block.of(message)) {
+        return None;
     }
+    Some(Some(block))
 }
 
 // ---- writing
@@ -94,8 +86,8 @@ fn put_front(
     ensures value { result ≡ 39 + length session_id.now }
     ensures out_after { out.new ≡ paste out.old 0 (kind ∷ (be 3 body_len ++ front_bytes version random.now session_id.now [])) (39 + length session_id.now) }
 {
-    let n = endian::bytes24(body_len);
-    let v = endian::bytes16(version);
+    let n = endian::bytes::<3>(body_len as u64);
+    let v = endian::bytes::<2>(version as u64);
     let head = [kind, n[0], n[1], n[2], v[0], v[1]];
     let size = [session_id.len() as u8];
     put::four(&head, random, &size, session_id, out, 0)
@@ -155,27 +147,27 @@ pub(crate) fn write(
     present: bool,
     block: &[u8],
     out: &mut [u8],
-) -> Written
+) -> Result<usize, Refusal>
     requires { (length a.now < 65536) × (length b.now < 65536) × (length c.now < 65536) × (length d.now < 65536) }
     ensures { Answers (written (hello_with kind (between a.now b.now c.now d.now))
         (front_given version random.now session_id.now present block.now)) out.old result out.new }
 {
     if !front_valid(version, random, session_id) {
-        return Written::Refused(Refusal::BadValue);
+        return Err(Refusal::BadValue);
     }
     if !tail_valid(present, block) {
-        return Written::Refused(Refusal::BadValue);
+        return Err(Refusal::BadValue);
     }
     let parts = a.len() + b.len() + c.len() + d.len();
     let body_len = 35 + session_id.len() + parts + tail_len(present, block);
     if types::MESSAGE_LIMIT - 4 < body_len {
-        return Written::Refused(Refusal::BadValue);
+        return Err(Refusal::BadValue);
     }
     if out.len() < 4 + body_len {
-        return Written::Refused(Refusal::ShortOutput);
+        return Err(Refusal::ShortOutput);
     }
     let end = put_all(
         kind, body_len, version, random, session_id, a, b, c, d, present, block, out,
     );
-    Written::Wrote(end)
+    Ok(end)
 }

@@ -9,16 +9,3 @@ pub mod client_hello;
 mod hello;
 mod put;
 pub mod server_hello;
-
-// The extension block of a hello. One that is absent and one that is empty are different.
-#[derive(Clone, Copy)]
-pub enum Block {
-    Absent,
-    At { start: usize, len: usize },
-}
-
-#[derive(Drop)]
-pub enum BlockFound {
-    Found(Block),
-    Refused,
-}

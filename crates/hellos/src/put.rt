@@ -20,7 +20,7 @@ pub(crate) fn vector16(contents: &[u8], out: &mut [u8], place: usize) -> usize
     ensures value { result ≡ place + length (vector 2 contents.now) }
     ensures out_after { out.new ≡ paste out.old place (vector 2 contents.now) (length (vector 2 contents.now)) }
 {
-    let size = endian::bytes16(contents.len());
+    let size = endian::bytes::<2>(contents.len() as u64);
     let next = at(&size, out, place);
     at(contents, out, next)
 }

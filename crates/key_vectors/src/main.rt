@@ -7,18 +7,18 @@
 #![tactic(auto)]
 
 use keys::{Label, Side};
-use refusal::Written;
+use refusal::Refusal;
 use sha256::Reported;
 use std::io;
 use std::io::{Read, Write};
 
 // The bytes that were written, or the number of the refusal.
-fn print_said(output: &mut impl Write, said: Written, out: &[u8]) -> io::Result<()> {
+fn print_said(output: &mut impl Write, said: Result<usize, Refusal>, out: &[u8]) -> io::Result<()> {
     match said {
-        Written::Wrote(n) => {
+        Ok(n) => {
             lines::hex(output, lines::part(out, 0, n))?;
         }
-        Written::Refused(r) => {
+        Err(r) => {
             lines::text(output, b"refused ")?;
             lines::number(output, refusal::number(r) as usize)?;
         }
@@ -49,7 +49,14 @@ fn label(kind: u8) -> Label {
 }
 
 // What a call that counts no blocks comes to.
-fn uncounted(kind: u8, n: u16, a: &[u8], b: &[u8], c: &[u8], out: &mut [u8]) -> Written {
+fn uncounted(
+    kind: u8,
+    n: u16,
+    a: &[u8],
+    b: &[u8],
+    c: &[u8],
+    out: &mut [u8],
+) -> Result<usize, Refusal> {
     match kind {
         1 => keys::hmac(a, b, out),
         6 => keys::premaster(a, out),
@@ -80,8 +87,7 @@ fn print_line(
 ) -> io::Result<()> {
     print_name(output, kind)?;
     let told = answer(kind, n, a, b, c, out);
-    let said = told.said;
-    print_said(output, said, out)?;
+    print_said(output, told.said, out)?;
     if 0 < told.blocks {
         lines::text(output, b" blocks ")?;
         lines::number(output, told.blocks as usize)?;

@@ -1,18 +1,17 @@
--- HMAC in its steps: the key's block, the padded block byte by byte, and the two digests, with the blocks that they take.
+-- HMAC in its steps: the key's block, and the two digests, with the blocks that they take.
 -- Assumes nothing.
 use mathlib.Core.Path.{◌≡◌, sym, ap, ◌∙◌}
 use Prim.Native.Nat.{ℕ, ◌+◌, ◌-◌, ◌≤◌, ◌<◌}
-use native.Mathlib.Numerals.{add-one}
 use native.Mathlib.Decide.{dec_le}
 use native.Mathlib.Omega.{arith}
-use mathlib.Core.List.{List, [], ◌∷◌, ◌++◌, map-append}
-use lib.ListN.{length, take, drop, get_or, set, replicate, length-append, length-map, length-replicate}
-use lib.Seq.{take-length, take-suc, take-suc-set}
+use mathlib.Core.List.{List, ◌++◌}
+use lib.ListN.{length, take, drop, replicate, length-append, length-map, length-replicate}
+use lib.Seq.{take-length}
 use lib.Bits.{bit_xor}
 use borrow.Author.Tests.{le-leb, lt-leb}
+use Rattle.std.specs.Prelude.{Result, Ok}
+use Rattle.refusal.specs.declared.Refusal.{Refusal}
 use Rattle.refusal.specs.Lent.{Answers, gives, within, answer}
-use Rattle.refusal.specs.declared.Written.{Written}
-use Rattle.refusal.specs.declared.Written.TheVariants.{Wrote}
 use Rattle.refusal.proofs.Laws.{answer-fills}
 use Rattle.sha256.specs.declared.Sha256.{Sha256}
 use Rattle.sha256.specs.Hash.{digest, limit}
@@ -38,16 +37,9 @@ pub long-key : (key block : List ℕ) → 64 < length key → block ≡ digest k
 unfolding key_block zero_padded
 long-key key block h e = rw (e, drop-replicate 64 (length (digest key)) 0, lt-leb (length key) 64 h)
 
--- one byte more of a padded block
-pub next-xored : (block padded : List ℕ) (i pad : ℕ) → i < length block → i < length padded → take i padded ≡ xored (take i block) pad
-    → take (i + 1) (set padded i (bit_xor (get_or block i 0) pad)) ≡ xored (take (i + 1) block) pad
-next-xored block padded i pad h k e =
-    rw (add-one i, take-suc-set padded i (bit_xor (get_or block i 0) pad) k, e, take-suc block i 0 h)
-    (sym (map-append (λ (byte : ℕ). bit_xor byte pad) (take i block) (get_or block i 0 ∷ [])))
-
 -- ---- a finished hash: it wrote the digest of what it absorbed, and counted its blocks
 
-module _ (s : Sha256) (m : List ℕ) {out out' : List ℕ} {said : Written} (e : s ≡ absorb fresh m) (h : length m ≤ limit)
+module _ (s : Sha256) (m : List ℕ) {out out' : List ℕ} {said : Result ℕ Refusal} (e : s ≡ absorb fresh m) (h : length m ≤ limit)
     (answered : Answers (finished s) out said out') where
   pub digest-of : length out ≡ 32 → out' ≡ digest m
   digest-of l = answer-fills (rw (finished-within s m e h) at answered) (length-digest m ∙ rw l)
@@ -56,7 +48,7 @@ module _ (s : Sha256) (m : List ℕ) {out out' : List ℕ} {said : Written} (e :
   counted_of room counts =
       let given : said ≡ answer (within (length out) (gives (digest m))) = (rw (finished-within s m e h) at answered).told in
       let fits : length (digest m) ≤ length out = rw (length-digest m) room in
-      let told : said ≡ Wrote (length (digest m)) = given ∙ simp (le-leb (length (digest m)) (length out) fits) in
+      let told : said ≡ Ok (length (digest m)) = given ∙ simp (le-leb (length (digest m)) (length out) fits) in
       counts ∙ rw told (compressed-absorbed s m e h)
 
 -- a key that fits a block does without its digest
@@ -80,7 +72,7 @@ length-padded key pad = rw (length-xored (key_block key) pad) (elim (dec_le (len
   | no h ↦ simp (lt-leb (length key) 64 (omega arith), length-append, length-replicate, length-digest) (omega arith)
 ])
 
-module _ (key text : List ℕ) (few : length text ≤ limit - 64) {s outer : Sha256} {out inner out₂ value : List ℕ} {said said₂ : Written} {n n₂ : ℕ}
+module _ (key text : List ℕ) (few : length text ≤ limit - 64) {s outer : Sha256} {out inner out₂ value : List ℕ} {said said₂ : Result ℕ Refusal} {n n₂ : ℕ}
     (es : s ≡ absorb (absorb fresh (xored (key_block key) ipad)) text) (first : Answers (finished s) out said inner) (room : length out ≡ 32)
     (counts : n ≡ reported said (compressed s))
     (eo : outer ≡ absorb (absorb fresh (xored (key_block key) opad)) inner) (second : Answers (finished outer) out₂ said₂ value) (room₂ : length out₂ ≡ 32)

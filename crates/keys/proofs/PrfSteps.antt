@@ -63,7 +63,7 @@ blocks-enough secret seed buffer i n h k e =
 -- ---- the blocks, part by part
 
 pub next-count : (secret seed : List ℕ) (i : ℕ) {blocks next part : ℕ} → blocks ≡ p_hash_blocks secret seed i → next ≡ mac_blocks secret (a_of secret seed i)
-    → part ≡ mac_blocks secret (a_of secret seed (i + 1) ++ seed) → blocks + next + part ≡ p_hash_blocks secret seed (i + 1)
+    → part ≡ mac_blocks secret (a_of secret seed (i + 1) ++ seed) → blocks + (next + part) ≡ p_hash_blocks secret seed (i + 1)
 unfolding p_hash_blocks
 next-count secret seed i {blocks} {next} {part} e f g =
     let one : i + 1 ≡ suc i = add-one i in

@@ -17,7 +17,7 @@ ghost use Rattle.keys.specs.Counts.{prf_blocks, master_blocks, master_under_bloc
 
 use buffer::append;
 use p_sha256::{expand, expand_afresh};
-use refusal::{Refusal, Written};
+use refusal::Refusal;
 use sha256::{Reported, Sha256, report};
 
 // The four labels of the PRF. No other can be handed in.
@@ -44,17 +44,22 @@ const MESSAGE_LIMIT: usize = 0x1fff_ffff_ffff_ffbf;
 
 // HMAC-SHA-256 of a message in two parts, one behind the other, at the front of the lent output: R5 where the
 // message or the key is too long, then R1.
-pub fn hmac_of_two(key: &[u8], first: &[u8], second: &[u8], out: &mut [u8]) -> Written
+pub fn hmac_of_two(
+    key: &[u8],
+    first: &[u8],
+    second: &[u8],
+    out: &mut [u8],
+) -> Result<usize, Refusal>
     ensures { Answers (Hmac.hmac key.now (first.now ++ second.now)) out.old result out.new }
 {
     if MESSAGE_LIMIT < first.len() {
-        return Written::Refused(Refusal::BadValue);
+        return Err(Refusal::BadValue);
     }
     if MESSAGE_LIMIT - first.len() < second.len() {
-        return Written::Refused(Refusal::BadValue);
+        return Err(Refusal::BadValue);
     }
     if KEY_LIMIT < key.len() {
-        return Written::Refused(Refusal::BadValue);
+        return Err(Refusal::BadValue);
     }
     let k = mac::under(key);
     let begun = k.inner;
@@ -64,7 +69,7 @@ pub fn hmac_of_two(key: &[u8], first: &[u8], second: &[u8], out: &mut [u8]) -> W
 }
 
 // The same of a message in one part.
-pub fn hmac(key: &[u8], message: &[u8], out: &mut [u8]) -> Written
+pub fn hmac(key: &[u8], message: &[u8], out: &mut [u8]) -> Result<usize, Refusal>
     ensures { Answers (Hmac.hmac key.now message.now) out.old result out.new }
 {
     hmac_of_two(key, b"", message, out)
@@ -72,17 +77,23 @@ pub fn hmac(key: &[u8], message: &[u8], out: &mut [u8]) -> Written
 
 // n bytes of PRF(secret, label, seed) at the front of the lent output: R5 where the secret or the seed
 // is longer than 65,536 bytes or n is over 256, then R1.
-pub fn prf(secret: &[u8], label: Label, seed: &[u8], n: usize, out: &mut [u8]) -> Written
+pub fn prf(
+    secret: &[u8],
+    label: Label,
+    seed: &[u8],
+    n: usize,
+    out: &mut [u8],
+) -> Result<usize, Refusal>
     ensures { Answers (Prf.prf secret.now label seed.now n) out.old result out.new }
 {
     if 65536 < secret.len() {
-        return Written::Refused(Refusal::BadValue);
+        return Err(Refusal::BadValue);
     }
     if 65536 < seed.len() {
-        return Written::Refused(Refusal::BadValue);
+        return Err(Refusal::BadValue);
     }
     if 256 < n {
-        return Written::Refused(Refusal::BadValue);
+        return Err(Refusal::BadValue);
     }
     let mut bytes = [0u8; 256];
     expand(secret, label, seed, n, &mut bytes);
@@ -96,10 +107,10 @@ fn derive(secret: &[u8], label: Label, seed: &[u8], out: &mut [u8]) -> Reported
     ensures blocks_value { result.blocks ≡ reported result.said (prf_blocks secret.now label seed.now 48) }
 {
     if 65536 < secret.len() {
-        return report(Written::Refused(Refusal::BadValue), 0);
+        return report(Err(Refusal::BadValue), 0);
     }
     if 65536 < seed.len() {
-        return report(Written::Refused(Refusal::BadValue), 0);
+        return report(Err(Refusal::BadValue), 0);
     }
     let mut bytes = [0u8; 64];
     let blocks = expand_afresh(secret, label, seed, 48, &mut bytes);
@@ -108,15 +119,15 @@ fn derive(secret: &[u8], label: Label, seed: &[u8], out: &mut [u8]) -> Reported
 
 // The premaster secret of a PSK of 1 to 64 bytes at the front of the lent output: R5 for another
 // length, then R1.
-pub fn premaster(psk: &[u8], out: &mut [u8]) -> Written
+pub fn premaster(psk: &[u8], out: &mut [u8]) -> Result<usize, Refusal>
     ensures { Answers (Secrets.premaster psk.now) out.old result out.new }
 {
     let n = psk.len();
     if n < 1 {
-        return Written::Refused(Refusal::BadValue);
+        return Err(Refusal::BadValue);
     }
     if 64 < n {
-        return Written::Refused(Refusal::BadValue);
+        return Err(Refusal::BadValue);
     }
     let bytes = premaster_bytes(psk);
     refusal::put(&bytes[..4 + 2 * n], out)
@@ -129,10 +140,10 @@ pub fn master(premaster: &[u8], client: &[u8], server: &[u8], out: &mut [u8]) ->
     ensures blocks_value { result.blocks ≡ reported result.said (master_blocks premaster.now client.now server.now) }
 {
     if client.len() != 32 {
-        return report(Written::Refused(Refusal::BadValue), 0);
+        return report(Err(Refusal::BadValue), 0);
     }
     if server.len() != 32 {
-        return report(Written::Refused(Refusal::BadValue), 0);
+        return report(Err(Refusal::BadValue), 0);
     }
     let seed = joined(client, server);
     derive(premaster, Label::MasterSecret, &seed, out)
@@ -146,8 +157,8 @@ pub fn master_under(key: &[u8], client: &[u8], server: &[u8], out: &mut [u8]) ->
 {
     let mut secret = [0u8; 132];
     match premaster(key, &mut secret) {
-        Written::Wrote(n) => master(&secret[..n], client, server, out),
-        Written::Refused(r) => report(Written::Refused(r), 0),
+        Ok(n) => master(&secret[..n], client, server, out),
+        Err(r) => report(Err(r), 0),
     }
 }
 
@@ -169,21 +180,27 @@ pub fn key_block_length(suite: u16) -> usize
 
 // The key block without IVs at the front of the lent output: R5 where the master secret is not of 48
 // bytes, a random not of 32 or the suite none of ours, then R1.
-pub fn key_block(master: &[u8], server: &[u8], client: &[u8], suite: u16, out: &mut [u8]) -> Written
+pub fn key_block(
+    master: &[u8],
+    server: &[u8],
+    client: &[u8],
+    suite: u16,
+    out: &mut [u8],
+) -> Result<usize, Refusal>
     ensures { Answers (Secrets.keys master.now server.now client.now suite) out.old result out.new }
 {
     if master.len() != 48 {
-        return Written::Refused(Refusal::BadValue);
+        return Err(Refusal::BadValue);
     }
     let n = key_block_length(suite);
     if n < 1 {
-        return Written::Refused(Refusal::BadValue);
+        return Err(Refusal::BadValue);
     }
     if server.len() != 32 {
-        return Written::Refused(Refusal::BadValue);
+        return Err(Refusal::BadValue);
     }
     if client.len() != 32 {
-        return Written::Refused(Refusal::BadValue);
+        return Err(Refusal::BadValue);
     }
     let seed = joined(server, client);
     prf(master, Label::KeyExpansion, &seed, n, out)
@@ -191,27 +208,32 @@ pub fn key_block(master: &[u8], server: &[u8], client: &[u8], suite: u16, out: &
 
 // The verify data of a Finished message, 12 bytes at the front of the lent output: R5 where the master
 // secret is not of 48 bytes or the handshake hash not of 32, then R1.
-pub fn finished(side: Side, master: &[u8], hash: &[u8], out: &mut [u8]) -> Written
+pub fn finished(side: Side, master: &[u8], hash: &[u8], out: &mut [u8]) -> Result<usize, Refusal>
     ensures { Answers (Secrets.verify_data side master.now hash.now) out.old result out.new }
 {
     if master.len() != 48 {
-        return Written::Refused(Refusal::BadValue);
+        return Err(Refusal::BadValue);
     }
     if hash.len() != 32 {
-        return Written::Refused(Refusal::BadValue);
+        return Err(Refusal::BadValue);
     }
     let label = finished_label(side);
     prf(master, label, hash, 12, out)
 }
 
 // The same over all messages of a transcript: R5 too past the hash's limit.
-pub fn finished_of(side: Side, master: &[u8], transcript: Sha256, out: &mut [u8]) -> Written
+pub fn finished_of(
+    side: Side,
+    master: &[u8],
+    transcript: Sha256,
+    out: &mut [u8],
+) -> Result<usize, Refusal>
     ensures { Answers (Secrets.finished_of side master.now transcript) out.old result out.new }
 {
     let mut hash = [0u8; 32];
     match transcript::hash_of(transcript, &mut hash) {
-        Written::Wrote(_) => finished(side, master, &hash, out),
-        Written::Refused(r) => Written::Refused(r),
+        Ok(_) => finished(side, master, &hash, out),
+        Err(r) => Err(r),
     }
 }
 
@@ -230,7 +252,7 @@ fn premaster_bytes(psk: &[u8]) -> [u8; 132]
     ensures { take (4 + 2 * length psk.now) result ≡ Secrets.premaster_bytes psk.now }
 {
     let n = psk.len();
-    let size = endian::bytes16(n);
+    let size = endian::bytes::<2>(n as u64);
     let zeros = [0u8; 64];
     let mut bytes = [0u8; 132];
     append(&mut bytes, 0, &size);

@@ -55,10 +55,8 @@ fn begin(block: [u8; 64], pad: u8) -> Sha256
     ensures { result ≡ absorb fresh (xored block pad) }
 {
     let mut padded = block;
-    let mut i: usize = 0;
-    while i < 64 {
-        padded[i] = block[i] ^ pad;
-        i += 1;
+    for byte in &mut padded {
+        *byte ^= pad;
     }
     Sha256::new().update(&padded)
 }

@@ -50,14 +50,11 @@ pub(crate) fn expand(secret: &[u8], label: Label, seed: &[u8], n: usize, buffer:
 {
     let k = under(secret);
     let mut a = [0u8; 32];
-    let mut i: usize = 0;
-    while 32 * i < n {
+    for i in 0..n.div_ceil(32) {
         let next = end(with_a(k.inner, label, seed, i, &a), k.outer, k.blocks);
         a = next.value;
         let part = end(labelled(k.inner, &a, label, seed), k.outer, k.blocks);
-        let bytes = part.value;
-        append(buffer, 32 * i, &bytes);
-        i += 1;
+        append(buffer, 32 * i, &part.value);
     }
 }
 
@@ -78,17 +75,14 @@ pub(crate) fn expand_afresh(
 {
     let mut blocks: u64 = 0;
     let mut a = [0u8; 32];
-    let mut i: usize = 0;
-    while 32 * i < n {
+    for i in 0..n.div_ceil(32) {
         let k = under(secret);
         let next = end(with_a(k.inner, label, seed, i, &a), k.outer, k.blocks);
         a = next.value;
         let j = under(secret);
         let part = end(labelled(j.inner, &a, label, seed), j.outer, j.blocks);
-        let bytes = part.value;
-        append(buffer, 32 * i, &bytes);
-        blocks = blocks + next.blocks + part.blocks;
-        i += 1;
+        append(buffer, 32 * i, &part.value);
+        blocks += next.blocks + part.blocks;
     }
     blocks
 }

@@ -1,30 +1,19 @@
 -- No identity twice: the comparison of one with those before it, and the numbers that spare most comparisons.
 -- Assumes nothing.
 use mathlib.Core.Path.{◌≡◌, refl, sym, ap, ◌∙◌}
-use Prim.Native.Nat.{ℕ, zero, suc, ◌+◌, ◌-◌, ◌*◌, ◌%◌, ◌≤◌, ◌<◌}
+use Prim.Native.Nat.{ℕ, zero, suc, ◌+◌, ◌-◌, ◌≤◌, ◌<◌}
 use native.Mathlib.Omega.{arith}
 use native.Mathlib.Numerals.{add-one}
 use mathlib.Core.Bool.{Bool, true, false, or-true}
 use mathlib.Core.List.{List, [], ◌∷◌, ◌++◌, map, map-append, append_assoc, append-nil}
-use lib.ListN.{length, take, drop, get_or, set, drop_of_length-le, length-drop}
+use lib.ListN.{length, take, drop, get_or, set, length-drop}
 use lib.Seq.{take-suc, take-take, take-suc-set}
 use Rattle.lists.specs.Lists.{any, distinct, same, part}
 use Rattle.keytable.specs.Table.{line_end, colon, upto, lines, identity_of}
-use Rattle.keytable.specs.Inner.{identity_at, earlier, fingerprint}
-use Rattle.lists.proofs.Walks.{left-cons}
+use Rattle.keytable.specs.Inner.{identity_at, earlier}
 use Rattle.lists.proofs.Equal.{same-either}
 use Rattle.lists.proofs.Distinct.{any_append, distinct_snoc, distinct-repeat}
 use Rattle.keytable.proofs.Lines.{length-upto, take-upto, line-is, line-here, no_lines}
-
--- ---- the number of a byte string
-
-module _ (s : List ℕ) (i p : ℕ) where
-  pub fingerprint-more : i < length s → fingerprint 0 s ≡ fingerprint p (drop i s)
-      → fingerprint 0 s ≡ fingerprint (p % 67108864 * 33 + get_or s i 0) (drop (i + 1) s)
-  fingerprint-more h now = now ∙ ap (fingerprint p) (left-cons s i h)
-
-  pub fingerprint-end : length s ≤ i → fingerprint 0 s ≡ fingerprint p (drop i s) → p ≡ fingerprint 0 s
-  fingerprint-end h now = sym (now ∙ ap (fingerprint p) (drop_of_length-le s h))
 
 -- ---- the identity of a line, as a part of the table
 

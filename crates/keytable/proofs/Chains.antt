@@ -7,11 +7,12 @@ use native.Mathlib.Numerals.{add-one}
 use native.Mathlib.Decide.{ℕ_discrete}
 use mathlib.Core.Bool.{Bool, true, false}
 use mathlib.Core.List.{List}
-use mathlib.Core.Option.{Option, none, some, none-ne-some}
 use lib.ListN.{length, get_or, set}
 use lib.Dec.{ltb}
 use lib.Seq.{get_or-set_same, get_or-set_other}
 use borrow.Author.Tests.{ltb-true, ltb-false}
+use Rattle.std.proofs.lemmas.Option.{none-some}
+use Rattle.std.specs.Prelude.{Option, None, Some}
 use Rattle.lists.specs.Lists.{any, same}
 use Rattle.lists.proofs.Equal.{same_refl, same_not}
 use Rattle.lists.proofs.Every.{every_map}
@@ -34,14 +35,14 @@ begins-own i l good valid = go (key_text i l) refl
     no-colon = every_map Plain _ (λ b h. h.no-colon) i (identity-sound i good).plain
 
     go : (o : Option (List ℕ)) → key_text i l ≡ o → is_some (key_text i l) ≡ same i (identity_of l)
-    go (some x) e =
+    go (Some x) e =
         let own : identity_of l ≡ i = ap (upto colon) (text-line i l x e) ∙ upto-append colon i x no-colon in
         rw (e, own) (sym (same_refl i))
-    go none e =
+    go None e =
         let other : i ≡ identity_of l → ⊥ = λ m.
-        let found : key_text i l ≡ some (past colon l) =
+        let found : key_text i l ≡ Some (past colon l) =
         ap₂ key_text m (sym (valid-parted l valid)) ∙ own-text (identity_of l) (past colon l) in
-        none-ne-some (past colon l) (sym e ∙ found) in
+        none-some (past colon l) (sym e ∙ found) in
         rw e (sym (same_not i (identity_of l) other))
 
 -- ---- a walk along the lines of an identity's bucket

@@ -5,8 +5,8 @@ use Prim.Native.Nat.{ℕ}
 use native.Mathlib.Omega.{arith}
 use mathlib.Core.Bool.{Bool, true, false, cond}
 use mathlib.Core.List.{List, [], ◌∷◌, ◌++◌, map, append_assoc, map-append}
-use mathlib.Core.Option.{none, some}
 use lib.Dec.{eqb}
+use Rattle.std.specs.Prelude.{None, Some}
 use Rattle.lists.specs.Lists.{each, Each}
 use Rattle.keytable.specs.Table.{line_end, colon, upto, past, before, lines, identity_of, valid_identity, valid_key, valid_line, ended, well_formed}
 use Rattle.keytable.specs.Table.{decoded, key_text, or_else, first_text, key_of_text, key_of}
@@ -36,12 +36,12 @@ lines-append (c ∷ d ∷ a) b h = go (eqb c line_end) (lines (d ∷ a)) refl (l
     go false (l ∷ ls) e ih = rw ih (rw e)
 
 -- valid lines with other identities have nothing for this one
-none_in : (i : List ℕ) (ls : List (List ℕ)) → each valid_line ls ≡ true → Each (λ x. ¬ (i ≡ x)) (map identity_of ls) → first_text i ls ≡ none
+none_in : (i : List ℕ) (ls : List (List ℕ)) → each valid_line ls ≡ true → Each (λ x. ¬ (i ≡ x)) (map identity_of ls) → first_text i ls ≡ None
 none_in i [] v d = refl
 none_in i (l ∷ ls) v d =
     let good = and_left (valid_line l) (each valid_line ls) v in
     let p = line-sound l good in
-    let m : key_text i l ≡ none =
+    let m : key_text i l ≡ None =
     ap (key_text i) (sym (valid-parted l good))
     ∙ other_text i (upto colon l) (past colon l) d.0 (identity-no-colon (parted l) p) (hex-no-colon (parted l) p) in
     rw m (none_in i ls (and_right (valid_line l) (each valid_line ls) v) d.1)
@@ -90,11 +90,11 @@ module _ (identity t t' : List ℕ) (r : LineRemoved identity t t') (h : well_fo
   key-valid : valid_key r.hex ≡ true
   key-valid = ap valid_key (sym hex-is) ∙ and_right (valid_identity (identity_of removed)) (valid_key (past colon removed)) removed-valid
 
-  none-front : first_text identity (lines r.front) ≡ none
+  none-front : first_text identity (lines r.front) ≡ None
   none-front = none_in identity (lines r.front) front-valid others.0
 
   -- the first table has that line's key for its identity
-  pub removed-had : key_of t identity ≡ some (decoded r.hex)
+  pub removed-had : key_of t identity ≡ Some (decoded r.hex)
   unfolding key_of
   removed-had =
       ap (λ (ls : List (List ℕ)). key_of_text (first_text identity ls)) lines-first
@@ -102,7 +102,7 @@ module _ (identity t t' : List ℕ) (r : LineRemoved identity t t') (h : well_fo
       ∙ rw (none-front, own-text identity r.hex) (key-is r.hex key-valid)
 
   -- the second has none
-  pub removed-gone : key_of t' identity ≡ none
+  pub removed-gone : key_of t' identity ≡ None
   unfolding key_of
   removed-gone =
       ap (λ (ls : List (List ℕ)). key_of_text (first_text identity ls)) lines-second

@@ -10,6 +10,7 @@ pub mod Pairs
 pub mod Reading
 pub mod Scanned
 pub mod Scanning
+pub mod Search
 pub mod Spots
 pub mod Tests
 pub mod Texts

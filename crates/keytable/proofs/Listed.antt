@@ -4,10 +4,11 @@ use Prim.Native.Nat.{ℕ, suc, ◌+◌, ◌<◌}
 use native.Mathlib.Omega.{arith}
 use mathlib.Core.Bool.{Bool, true, false}
 use mathlib.Core.List.{List, [], ◌∷◌, map}
-use mathlib.Core.Option.{none, some, none-ne-some}
 use lib.ListN.{length, take, drop}
 use lib.Seq.{drop-drop}
 use lib.Dec.{leb}
+use Rattle.std.proofs.lemmas.Option.{none-some}
+use Rattle.std.specs.Prelude.{None, Some}
 use Rattle.lists.specs.Lists.{same}
 use Rattle.lists.proofs.Tests.{and_left, and_right}
 use Rattle.lists.proofs.Equal.{same-eq}
@@ -64,11 +65,11 @@ module _ (t starts : List ℕ) (count : ℕ) (own : is_list t starts count ≡ t
   looked-up-own i = rw (own-within, own-starts) (ap found (key-by-list t i))
 
 -- a table and a list that are not refused
-module _ (t starts : List ℕ) (count : ℕ) (good : list_refusal t starts count ≡ none) where
+module _ (t starts : List ℕ) (count : ℕ) (good : list_refusal t starts count ≡ None) where
   pub passed-both : (well_formed t ≡ true) × (is_list t starts count ≡ true)
   passed-both = go (well_formed t) (is_list t starts count) refl refl
     where
       go : (a b : Bool) → well_formed t ≡ a → is_list t starts count ≡ b → (well_formed t ≡ true) × (is_list t starts count ≡ true)
       go true true e f = (e, f)
-      go true false e f = let g : some BadList ≡ none = rw (e, f) at good in absurd (none-ne-some _ (sym g))
-      go false b e f = let g : some BadTable ≡ none = rw e at good in absurd (none-ne-some _ (sym g))
+      go true false e f = let g : Some BadList ≡ None = rw (e, f) at good in absurd (none-some _ (sym g))
+      go false b e f = let g : Some BadTable ≡ None = rw e at good in absurd (none-some _ (sym g))

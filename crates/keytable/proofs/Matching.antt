@@ -1,83 +1,73 @@
 -- The comparison of an identity with what stands at a start, byte by byte, and what it makes of the search by a list. Assumes nothing.
 use mathlib.Core.Path.{◌≡◌, refl, sym, ap, ◌∙◌}
-use Prim.Native.Nat.{ℕ, ◌+◌, ◌≤◌, ◌<◌}
+use Prim.Native.Nat.{ℕ, suc, ◌<◌}
 use native.Mathlib.Omega.{arith}
-use mathlib.Core.Bool.{Bool, true, false, cond}
+use mathlib.Core.Bool.{Bool, true, false, cond, not, ◌&&◌}
 use mathlib.Core.List.{List, [], ◌∷◌}
-use mathlib.Core.Option.{none, some}
-use lib.ListN.{length, drop, get_or, drop_of_length-le}
+use lib.ListN.{length, drop, get_or}
 use lib.Dec.{eqb}
-use borrow.Author.Tests.{eq-eqb, ne_eqb, eqb-true, eqb-false}
-use Rattle.lists.proofs.Walks.{left-cons}
-use Rattle.keytable.specs.declared.entries.Hit.TheVariants.{Line}
+use Rattle.std.specs.Prelude.{Option, None, Some}
+use Rattle.std.proofs.Common.{Bor, nat_eq}
+use Rattle.std.specs.List.{list_all, zip}
+use Rattle.std.specs.Option.{option_eq, option_map, unwrap_or}
+use borrow.Author.Tests.{ne_eqb, eqb-true, eqb-false, not-true, not-false}
 use Rattle.keytable.specs.Table.{colon, line_end, upto, key_text}
-use Rattle.keytable.specs.Starts.{line_at, placed}
-use Rattle.keytable.specs.Inner.{is_some}
-use Rattle.keytable.proofs.Spots.{size}
+use Rattle.keytable.specs.Inner.{is_some, begins}
 
-no_text : (identity : List ℕ) → key_text identity [] ≡ none
-no_text [] = refl
-no_text (i ∷ is) = refl
+-- a byte that may be there, against one that isn't 0
+pub next-is : (r : Option (Bor ℕ)) (b : Bor ℕ) (n : ℕ) → unwrap_or (option_map (λ x. x.now) r) 0 ≡ n → 0 < b.now
+    → option_eq (λ x y. nat_eq x.now y.now) r (Some b) ≡ nat_eq n b.now
+next-is None b n e h = rw (← e) (sym (ne_eqb 0 b.now (λ z. omega arith)))
+next-is (Some x) b n e h = ap (λ m. nat_eq m b.now) e
 
--- what stands at a place of the table, by its first byte
-pub line-cons : (t : List ℕ) (at : ℕ) → at < length t
-    → line_at t at ≡ cond (eqb (get_or t at 0) line_end) [] (get_or t at 0 ∷ line_at t (at + 1))
-line-cons t at inside = ap (upto line_end) (left-cons t at inside)
+-- what comes of a test that they differ
+module _ (m n : ℕ) {differ same : Bool} (told : differ ≡ not same) (is : same ≡ nat_eq n m) where
+  pub next-other : differ ≡ true → ¬ (n ≡ m)
+  next-other h = eqb-false n m (sym is ∙ not-true same (sym told ∙ h))
 
--- i bytes of the identity stand at `at`
-module _ (t identity : List ℕ) (at i : ℕ) where
-  abbrev pub Matched : Type 0
-  Matched = key_text identity (line_at t at) ≡ key_text (drop i identity) (line_at t (at + i))
+  pub next-same : differ ≡ false → n ≡ m
+  next-same h = eqb-true n m (sym is ∙ not-false same (sym told ∙ h))
 
-  module _ (inside : at + i < length t) (now : Matched) where
-    module _ (h : i < length identity) where
-      pub match-more : get_or t (at + i) 0 ≡ get_or identity i 0 → (get_or t (at + i) 0 ≡ line_end → ⊥)
-          → key_text identity (line_at t at) ≡ key_text (drop (i + 1) identity) (line_at t (at + (i + 1)))
-      match-more same other =
-          let next : at + (i + 1) ≡ at + i + 1 = omega arith in
-          now ∙ rw (line-cons t (at + i) inside, left-cons identity i h, ne_eqb _ _ other, next) (rw (eq-eqb _ _ same))
+-- a byte of the identity and the table's
+abbrev pub alike : ℕ × ℕ → Bool
+alike p = eqb p.1 p.0 && not (eqb p.1 line_end)
 
-      pub match-other : (get_or t (at + i) 0 ≡ get_or identity i 0 → ⊥) → key_text identity (line_at t at) ≡ none
-      match-other other = now ∙ rw (line-cons t (at + i) inside, left-cons identity i h) (go (eqb (get_or t (at + i) 0) line_end))
-        where
-          go : (b : Bool) → key_text (get_or identity i 0 ∷ drop (i + 1) identity) (cond b [] (get_or t (at + i) 0 ∷ line_at t (at + i + 1))) ≡ none
-          go true = refl
-          go false = rw (ne_eqb _ _ other)
+-- the identity is what s begins with, no line ends in it, and a colon follows it
+abbrev pub heads : List ℕ → List ℕ → Bool
+heads identity s = list_all alike (zip identity s) && eqb (get_or s (length identity) 0) colon
 
-      pub match-ended : get_or t (at + i) 0 ≡ line_end → key_text identity (line_at t at) ≡ none
-      match-ended same = now ∙ rw (line-cons t (at + i) inside, left-cons identity i h, eq-eqb _ _ same)
+pub text-is : (identity s : List ℕ)
+    → key_text identity (upto line_end s) ≡ cond (heads identity s) (Some (upto line_end (drop (suc (length identity)) s))) None
+text-is [] [] = refl
+text-is [] (b ∷ s) = go (eqb b line_end) refl
+  where
+    go : (t : Bool) → eqb b line_end ≡ t → key_text [] (cond t [] (b ∷ upto line_end s)) ≡ cond (eqb b colon) (Some (upto line_end s)) None
+    go true e = let end : b ≡ line_end = eqb-true b line_end e in rw (ne_eqb b colon (λ h. omega arith))
+    go false e = refl
+text-is (i ∷ is) [] = refl
+text-is (i ∷ is) (b ∷ s) = go (eqb b line_end) (eqb b i) refl (text-is is s)
+  where
+    after : Option (List ℕ)
+    after = Some (upto line_end (drop (suc (length is)) s))
 
-    module _ (h : i ≡ length identity) where
-      whole : drop i identity ≡ []
-      whole = drop_of_length-le identity {i = i} (omega arith)
+    rest : Bool
+    rest = eqb (get_or s (length is) 0) colon
 
-      pub match-colon : get_or t (at + i) 0 ≡ colon → key_text identity (line_at t at) ≡ some (line_at t (at + i + 1))
-      match-colon same = now ∙ rw (line-cons t (at + i) inside, whole, same)
+    go : (t u : Bool) → eqb b i ≡ u → key_text is (upto line_end s) ≡ cond (heads is s) after None
+        → key_text (i ∷ is) (cond t [] (b ∷ upto line_end s)) ≡ cond (((u && not t) && list_all alike (zip is s)) && rest) after None
+    go true true e ih = refl
+    go true false e ih = refl
+    go false true e ih = rw e ih
+    go false false e ih = rw e
 
-      pub match-longer : (get_or t (at + i) 0 ≡ colon → ⊥) → key_text identity (line_at t at) ≡ none
-      match-longer other = now ∙ rw (line-cons t (at + i) inside, whole) (go (eqb (get_or t (at + i) 0) line_end))
-        where
-          go : (b : Bool) → key_text [] (cond b [] (get_or t (at + i) 0 ∷ line_at t (at + i + 1))) ≡ none
-          go true = refl
-          go false = rw (ne_eqb _ _ other)
+-- what the pairs and the byte behind them say together
+pub begins-of : (identity t : List ℕ) (at : ℕ) {rest : List ℕ} {pairs : Bool} → rest ≡ drop at t → pairs ≡ list_all alike (zip identity rest)
+    → begins identity t at ≡ (pairs && eqb (get_or rest (length identity) 0) colon)
+begins-of identity t at e p = rw (p, e) (ap is_some (text-is identity (drop at t)) ∙ go (heads identity (drop at t)))
+  where
+    after : List ℕ
+    after = upto line_end (drop (suc (length identity)) (drop at t))
 
-      pub match-whole : eqb (get_or t (at + i) 0) colon ≡ is_some (key_text identity (line_at t at))
-      match-whole = go (eqb (get_or t (at + i) 0) colon) refl
-        where
-          go : (b : Bool) → eqb (get_or t (at + i) 0) colon ≡ b → b ≡ is_some (key_text identity (line_at t at))
-          go true e = rw (match-colon (eqb-true _ _ e))
-          go false e = rw (match-longer (eqb-false _ _ e))
-
-  pub match-end : length t ≤ at + i → Matched → key_text identity (line_at t at) ≡ none
-  match-end h now = now ∙ rw (drop_of_length-le t {i = at + i} h) (no_text (drop i identity))
-
--- the search from the k-th start on
-module _ (t starts identity : List ℕ) (k : ℕ) (h : k < length starts) (now : placed 0 identity t starts ≡ placed k identity t (drop k starts)) where
-  pub search-on : key_text identity (line_at t (get_or starts k 0)) ≡ none → placed 0 identity t starts ≡ placed (k + 1) identity t (drop (k + 1) starts)
-  search-on m = now ∙ rw (left-cons starts k h) (rw m)
-
-  pub search-hit : (from to : ℕ) → from ≡ get_or starts k 0 + length identity + 1 → to ≡ from + length (line_at t from)
-      → key_text identity (line_at t (get_or starts k 0)) ≡ some (line_at t from) → Line k from to ≡ placed 0 identity t starts
-  search-hit from to start end m =
-      let ends : get_or starts k 0 + length (line_at t (get_or starts k 0)) ≡ to = omega (arith, size t identity (get_or starts k 0) (line_at t from) m) in
-      sym (now ∙ rw (left-cons starts k h) (rw (m, ends, ← start)))
+    go : (b : Bool) → is_some (cond b (Some after) None) ≡ b
+    go true = refl
+    go false = refl

@@ -3,25 +3,30 @@
 -- end of the table, is in no such line.
 -- Assumes nothing.
 use mathlib.Core.Path.{◌≡◌, refl, sym, ap, ap₂, ◌∙◌}
-use Prim.Native.Nat.{ℕ, suc, ◌+◌, ◌-◌, ◌≤◌, ◌<◌}
+use Prim.Native.Nat.{ℕ, zero, suc, ◌+◌, ◌-◌, ◌<◌}
 use native.Mathlib.Omega.{arith}
 use mathlib.Core.Bool.{Bool, true, false, ◌&&◌, true≢false}
 use mathlib.Core.List.{List, [], ◌∷◌, ◌++◌, append_assoc}
-use lib.ListN.{length, take, drop, get_or, length-append, length-drop, drop_of_length-le}
+use lib.ListN.{length, take, drop, get_or, length-append, length-drop}
 use lib.Seq.{drop-drop, take-append_seam, drop-append_seam}
 use lib.Dec.{eqb, ltb}
 use borrow.Author.Tests.{eqb-true, ltb-true, lt-ltb}
 use Rattle.utf8.specs.Utf8.{valid_utf8}
+use Rattle.std.specs.Prelude.{None}
 use Rattle.lists.specs.Lists.{each, part}
 use Rattle.lists.proofs.Tests.{and_left, and_right, both}
 use Rattle.lists.proofs.Walks.{left-cons}
 use Rattle.keytable.specs.Table.{line_end, colon, upto, past, plain, between, hex_digit, identity_of, valid_identity, valid_key, valid_line}
 use Rattle.keytable.specs.Starts.{line_at}
-use Rattle.keytable.specs.Inner.{leading, sized_identity, sized_key, line_parts}
+use Rattle.keytable.specs.Inner.{leading, sized_identity, sized_key, parts, line_parts}
 use Rattle.keytable.specs.WellFormed.{Line, ValidLine}
-use Rattle.keytable.specs.declared.checks.Line.TheVariants.{Parts, Bad}
 use Rattle.keytable.proofs.Tests.{identity-sound, key-sound}
 use Rattle.keytable.proofs.Texts.{upto-append, past-append, valid-parted, line_of, identity-no-colon, line-no-end}
+
+byte-inside : (s : List ℕ) (i : ℕ) → ¬ (get_or s i 0 ≡ 0) → i < length s
+byte-inside [] i h = absurd (h refl)
+byte-inside (b ∷ s) zero h = omega arith
+byte-inside (b ∷ s) (suc i) h = omega (arith, byte-inside s i h)
 
 -- ---- the bytes of a class at the front
 
@@ -40,35 +45,12 @@ module _ (p : ℕ → Bool) where
   leading-append (b ∷ s) x r h stop =
       rw (and_left (p b) (each p s) h) (ap (λ (l : List ℕ). b ∷ l) (leading-append s x r (and_right (p b) (each p s) h) stop))
 
-  -- a turn of the loop that looks for their end
-  module _ (t : List ℕ) (at i : ℕ) (now : at + length (leading p (drop at t)) ≡ i + length (leading p (drop i t))) where
-    pub leading-more : i < length t → p (get_or t i 0) ≡ true → at + length (leading p (drop at t)) ≡ i + 1 + length (leading p (drop (i + 1) t))
-    leading-more h good =
-        let one : length (leading p (drop i t)) ≡ suc (length (leading p (drop (i + 1) t))) = rw (left-cons t i h) (rw good) in
-        omega arith
-
-    pub leading-stop : i < length t → p (get_or t i 0) ≡ false → i ≡ at + length (leading p (drop at t))
-    leading-stop h bad =
-        let none : length (leading p (drop i t)) ≡ 0 = rw (left-cons t i h) (rw bad) in
-        omega arith
-
-    pub leading_end : length t ≤ i → i ≡ at + length (leading p (drop at t))
-    leading_end h =
-        let none : length (leading p (drop i t)) ≡ 0 = ap (λ (l : List ℕ). length (leading p l)) (drop_of_length-le t h) in
-        omega arith
-
   -- where they end
   module _ (t : List ℕ) (at end : ℕ) (e : end ≡ at + length (leading p (drop at t))) where
     leading-then : leading p (drop at t) ++ drop end t ≡ drop at t
     leading-then =
         ap (λ (l : List ℕ). leading p (drop at t) ++ l) (ap (λ (i : ℕ). drop i t) e ∙ sym (drop-drop (length (leading p (drop at t))) at t))
         ∙ (leading-parts (drop at t)).1
-
-    pub leading-within : at ≤ length t → end ≤ length t
-    leading-within h =
-        let size : length (leading p (drop at t)) + length (drop end t) ≡ length (drop at t) =
-        sym (length-append (leading p (drop at t)) (drop end t)) ∙ ap length leading-then in
-        omega (arith, e, size, length-drop at t)
 
     leading-part : part at (end - at) t ≡ leading p (drop at t)
     leading-part =
@@ -128,14 +110,14 @@ module _ (t : List ℕ) (at : ℕ) where
         keyed = and_right (valid_identity (identity_of l)) (valid_key (past colon l)) good;
       }
 
-  no_line : (Read (drop at t) → ⊥) → Bad ≡ line_parts t at
+  no_line : (Read (drop at t) → ⊥) → None ≡ line_parts t at
   no_line none = go whole refl
     where
-      go : (b : Bool) → whole ≡ b → Bad ≡ line_parts t at
+      go : (b : Bool) → whole ≡ b → None ≡ line_parts t at
       go true e = absurd (none (whole-read e))
       go false e = rw e
 
-  read-line : (r : Read (drop at t)) → Parts (at + length r.identity) (at + length r.identity + 1 + length r.hex) ≡ line_parts t at
+  read-line : (r : Read (drop at t)) → parts (at + length r.identity) (at + length r.identity + 1 + length r.hex) ≡ line_parts t at
   read-line r =
       let l : Line = record { identity = r.identity; hex = r.hex } in
       let v : ValidLine l = record { identity = identity-sound r.identity r.named; key = key-sound r.hex r.keyed } in
@@ -149,7 +131,7 @@ module _ (t : List ℕ) (at : ℕ) where
       sym (length-drop at t) ∙ ap length text ∙ length-append (line_of l) (line_end ∷ r.back) in
       let inside : at + length (line_at t at) < length t = omega (arith, more, ap length here) in
       let good : whole ≡ true = both (both (ap valid_identity identity ∙ r.named) (ap valid_key key ∙ r.keyed)) (lt-ltb _ _ inside) in
-      rw good (ap₂ Parts (ap (λ (i : List ℕ). at + length i) (sym identity)) (omega (arith, size)))
+      rw good (ap₂ parts (ap (λ (i : List ℕ). at + length i) (sym identity)) (omega (arith, size)))
 
 -- ---- what is tested of the bytes one by one, and what else
 
@@ -169,10 +151,7 @@ module _ (t : List ℕ) (at c : ℕ) (plain_end : c ≡ at + length (leading pla
       → (c ≡ at + length r.identity) × (c < length t) × (get_or t c 0 ≡ colon) × (drop (c + 1) t ≡ r.hex ++ (line_end ∷ r.back))
   at-colon r = leading-stops plain t at c plain_end r.identity colon _ r.is (identity-tests r.identity r.named).0 refl
 
-  pub no-colon : c ≡ length t → Bad ≡ line_parts t at
-  no-colon h = no_line t at (λ r. omega (arith, h, (at-colon r).1))
-
-  pub other-colon : ¬ (get_or t c 0 ≡ colon) → Bad ≡ line_parts t at
+  pub other-colon : ¬ (get_or t c 0 ≡ colon) → None ≡ line_parts t at
   other-colon h = no_line t at (λ r. h (at-colon r).2)
 
   module _ (end : ℕ) (digits-end : end ≡ c + 1 + length (leading hex_digit (drop (c + 1) t))) where
@@ -180,13 +159,10 @@ module _ (t : List ℕ) (at c : ℕ) (plain_end : c ≡ at + length (leading pla
     at-end r =
         leading-stops hex_digit t (c + 1) end digits-end r.hex line_end r.back (at-colon r).3 (key-tests r.hex r.keyed).0 refl
 
-    pub no_end : end ≡ length t → Bad ≡ line_parts t at
-    no_end h = no_line t at (λ r. omega (arith, h, (at-end r).1))
-
-    pub other-end : ¬ (get_or t end 0 ≡ line_end) → Bad ≡ line_parts t at
+    pub other-end : ¬ (get_or t end 0 ≡ line_end) → None ≡ line_parts t at
     other-end h = no_line t at (λ r. h (at-end r).2)
 
-    pub key-unsized : sized_key (end - (c + 1)) ≡ false → Bad ≡ line_parts t at
+    pub key-unsized : sized_key (end - (c + 1)) ≡ false → None ≡ line_parts t at
     key-unsized bad = no_line t at none
       where
         none : Read (drop at t) → ⊥
@@ -194,7 +170,7 @@ module _ (t : List ℕ) (at c : ℕ) (plain_end : c ≡ at + length (leading pla
             let size : end - (c + 1) ≡ length r.hex = omega (arith, (at-end r).0) in
             true≢false (sym (ap sized_key size ∙ (key-tests r.hex r.keyed).1) ∙ bad)
 
-    pub identity-unsized : sized_identity (part at (c - at) t) ≡ false → Bad ≡ line_parts t at
+    pub identity-unsized : sized_identity (part at (c - at) t) ≡ false → None ≡ line_parts t at
     identity-unsized bad = no_line t at none
       where
         none : Read (drop at t) → ⊥
@@ -204,9 +180,11 @@ module _ (t : List ℕ) (at c : ℕ) (plain_end : c ≡ at + length (leading pla
             leading-part plain t at c plain_end ∙ ap (leading plain) r.is ∙ leading-append plain r.identity colon _ all.0 refl in
             true≢false (sym (ap sized_identity here ∙ all.1) ∙ bad)
 
-    pub line-there : c < length t → get_or t c 0 ≡ colon → end < length t → get_or t end 0 ≡ line_end → sized_key (end - (c + 1)) ≡ true
-        → sized_identity (part at (c - at) t) ≡ true → Parts c end ≡ line_parts t at
-    line-there hc ec he ee key identity =
+    pub line-there : get_or t c 0 ≡ colon → get_or t end 0 ≡ line_end → sized_key (end - (c + 1)) ≡ true
+        → sized_identity (part at (c - at) t) ≡ true → parts c end ≡ line_parts t at
+    line-there ec ee key identity =
+        let hc = byte-inside t c (λ z. omega (arith, ec, z)) in
+        let he = byte-inside t end (λ z. omega (arith, ee, z)) in
         let name : List ℕ = leading plain (drop at t) in
         let hex : List ℕ = leading hex_digit (drop (c + 1) t) in
         let size : end - (c + 1) ≡ length hex = omega arith in
@@ -227,4 +205,4 @@ module _ (t : List ℕ) (at c : ℕ) (plain_end : c ≡ at + length (leading pla
               (and_right (between 1 128 (length name)) (valid_utf8 name) named);
           keyed = both keyed (leading-parts hex_digit (drop (c + 1) t)).0;
         } in
-        ap₂ Parts plain_end (digits-end ∙ ap (λ (n : ℕ). n + 1 + length hex) plain_end) ∙ read-line t at r
+        ap₂ parts plain_end (digits-end ∙ ap (λ (n : ℕ). n + 1 + length hex) plain_end) ∙ read-line t at r

@@ -10,12 +10,13 @@ use lib.ListN.{length, take, drop, get_or, set, replicate, length-append, length
 use lib.Seq.{take-suc-set, length-take-le}
 use lib.Dec.{leb, ltb, eqb}
 use borrow.Author.Tests.{le-leb, lt-leb, lt-ltb, ltb-true}
+use Rattle.std.specs.Prelude.{None, Some}
+use Rattle.std.proofs.lemmas.Option.{none-some, same_Some}
 use Rattle.lists.specs.Lists.{each, any, distinct, same}
-use Rattle.keytable.specs.declared.checks.Line.TheVariants.{Parts, Bad}
-use Rattle.keytable.specs.declared.scan.Scanned.TheVariants.{Lines, Unusable}
+use Rattle.keytable.specs.declared.checks.Parts.{Parts}
 use Rattle.keytable.specs.Table.{line_end, upto, lines, ended, identity_of, valid_line, well_formed}
 use Rattle.keytable.specs.Starts.{starts_from, starts_of, line_at}
-use Rattle.keytable.specs.Inner.{line_parts, identity_at, earlier, bucket, tag_of, Latest, Chained, Heads, Scans}
+use Rattle.keytable.specs.Inner.{parts, line_parts, identity_at, earlier, bucket, tag_of, Latest, Chained, Heads, Scans}
 use Rattle.keytable.proofs.Lines.{line-here, line-is, no_lines}
 use Rattle.keytable.proofs.Listed.{count-lines}
 use Rattle.keytable.proofs.Apart.{all-on, distinct-on, distinct-end}
@@ -48,19 +49,20 @@ pub record Good (t : List ℕ) (at colon end : ℕ) : Type 0 where
   pub line-ends : end ≡ at + length (line_at t at)
 
 module _ (t : List ℕ) (at : ℕ) where
-  pub line-good : (colon end : ℕ) → line_parts t at ≡ Parts colon end → Good t at colon end
+  pub line-good : (colon end : ℕ) → line_parts t at ≡ parts colon end → Good t at colon end
   line-good colon end e = go (valid_line (line_at t at)) (ltb (at + length (line_at t at)) (length t)) refl refl
     where
       go : (a b : Bool) → valid_line (line_at t at) ≡ a → ltb (at + length (line_at t at)) (length t) ≡ b → Good t at colon end
       go true true v h =
-          let there : Parts (at + length (identity_at t at)) (at + length (line_at t at)) ≡ Parts colon end = rw (v, h) at e in
-          let ends : at + length (line_at t at) ≡ end = cc in
-          let identity-ends : at + length (identity_at t at) ≡ colon = cc in
+          let there : parts (at + length (identity_at t at)) (at + length (line_at t at)) ≡ parts colon end = rw (v, h) at e in
+          let same = same_Some _ _ there in
+          let ends : at + length (line_at t at) ≡ end = ap (λ (p : Parts). p.end) same in
+          let identity-ends : at + length (identity_at t at) ≡ colon = ap (λ (p : Parts). p.colon) same in
           record { valid = v; inside = rw (← ends) (ltb-true _ _ h); identity-ends = sym identity-ends; line-ends = sym ends }
-      go true false v h = let f : Bad ≡ Parts colon end = rw (v, h) at e in let z : ◌≡◌ {A = ℕ} 0 1 = cc in absurd (omega arith)
-      go false b v h = let f : Bad ≡ Parts colon end = rw v at e in let z : ◌≡◌ {A = ℕ} 0 1 = cc in absurd (omega arith)
+      go true false v h = let f : None ≡ parts colon end = rw (v, h) at e in absurd (none-some _ f)
+      go false b v h = let f : None ≡ parts colon end = rw v at e in absurd (none-some _ f)
 
-  pub line-bad : at < length t → ended t ≡ true → line_parts t at ≡ Bad → valid_line (line_at t at) ≡ false
+  pub line-bad : at < length t → ended t ≡ true → line_parts t at ≡ None → valid_line (line_at t at) ≡ false
   line-bad inside e bad = go (valid_line (line_at t at)) refl
     where
       has_end : at + length (line_at t at) < length t
@@ -72,9 +74,8 @@ module _ (t : List ℕ) (at : ℕ) where
       go : (b : Bool) → valid_line (line_at t at) ≡ b → valid_line (line_at t at) ≡ false
       go false v = v
       go true v =
-          let f : Parts (at + length (identity_at t at)) (at + length (line_at t at)) ≡ Bad = rw (v, lt-ltb _ _ has_end) at bad in
-          let z : ◌≡◌ {A = ℕ} 0 1 = cc in
-          absurd (omega arith)
+          let f : parts (at + length (identity_at t at)) (at + length (line_at t at)) ≡ None = rw (v, lt-ltb _ _ has_end) at bad in
+          absurd (none-some _ (sym f))
 
 -- ---- the lines passed
 
@@ -218,8 +219,8 @@ module _ (t : List ℕ) (short : length t ≤ 65536) (last : ended t ≡ true) w
           ← distinct-end t starts at n over now.identities now.apart,
         )
 
-    pub scanned : Scans t (Lines n) starts
+    pub scanned : Scans t (Some n) starts
     scanned = record { told = rw (formed, all-counted); left = λ h. ap (λ (m : ℕ). take m starts) all-counted ∙ all_listed }
 
-pub unusable : (t starts : List ℕ) → well_formed t ≡ false → Scans t Unusable starts
+pub unusable : (t starts : List ℕ) → well_formed t ≡ false → Scans t None starts
 unusable t starts bad = record { told = rw bad; left = λ h. absurd (true≢false (sym h ∙ bad)) }

@@ -1,22 +1,15 @@
 -- What the contracts of this crate's private functions cite, and no public contract does.
-use Rattle.std.specs.Prelude.{◌≡◌, ℕ, suc, ◌+◌, ◌*◌, ◌/◌, ◌%◌, ◌≤◌, ◌<◌, Bool, true, false, cond, ◌&&◌, List, [], ◌∷◌, map, length, take, get_or, ltb, eqb}
-use Rattle.std.proofs.Math.Option.{Option, none, some}
+use Rattle.std.specs.Prelude.{◌≡◌, ℕ, suc, ◌+◌, ◌*◌, ◌/◌, ◌%◌, ◌≤◌, ◌<◌, Bool, true, false, cond, ◌&&◌, List, [], ◌∷◌, map, length, take, get_or, ltb, eqb, Option, None, Some}
 use Rattle.utf8.specs.Utf8.{valid_utf8}
-use Rattle.keytable.specs.Table.{lines, plain, between, hex_digit, identity_of, valid_line, well_formed, key_text}
+use Rattle.keytable.specs.Table.{lines, between, identity_of, valid_line, well_formed, key_text}
 use Rattle.keytable.specs.Starts.{starts_of, line_at}
-use Rattle.keytable.specs.declared.classes.Class.{Class}
-use Rattle.keytable.specs.declared.classes.Class.TheVariants.{Plain, HexDigit}
-use Rattle.keytable.specs.declared.checks.Line.{Line}
-use Rattle.keytable.specs.declared.checks.Line.TheVariants.{Parts, Bad}
-use Rattle.keytable.specs.declared.scan.Scanned.{Scanned}
-use Rattle.keytable.specs.declared.scan.Scanned.TheVariants.{Lines, Unusable}
+use Rattle.keytable.specs.declared.checks.Parts.{Parts}
 
 -- ---- a line
 
--- the test for a class of bytes
-abbrev pub belongs : Class → ℕ → Bool
-belongs Plain = plain
-belongs HexDigit = hex_digit
+-- what calls of a test may answer is what p says of the byte
+abbrev pub Says : (ℕ → Bool → Type 0) → (ℕ → Bool) → Type 0
+Says post p = (b : ℕ) (said : Bool) → post b said → said ≡ p b
 
 -- the bytes before the first that fails the test
 abbrev pub leading : (ℕ → Bool) → List ℕ → List ℕ
@@ -30,12 +23,16 @@ sized_identity s = between 1 128 (length s) && valid_utf8 s
 abbrev pub sized_key : ℕ → Bool
 sized_key digits = between 2 128 digits && eqb (digits % 2) 0
 
+-- where a line's colon and its end are
+abbrev pub parts : (colon end : ℕ) → Option Parts
+parts c e = Some (record { colon = c; end = e })
+
 -- the line at `at`: where its colon and its end are, if it is valid and has one
-abbrev pub line_parts : List ℕ → ℕ → Line
+abbrev pub line_parts : List ℕ → ℕ → Option Parts
 line_parts t at =
     cond (valid_line (line_at t at) && ltb (at + length (line_at t at)) (length t))
-    (Parts (at + length (identity_of (line_at t at))) (at + length (line_at t at)))
-    Bad
+    (parts (at + length (identity_of (line_at t at))) (at + length (line_at t at)))
+    None
 
 -- ---- no identity twice
 
@@ -48,8 +45,8 @@ abbrev pub earlier : List ℕ → List ℕ → ℕ → List (List ℕ)
 earlier t starts n = map (identity_at t) (take n starts)
 
 abbrev pub is_some : Option (List ℕ) → Bool
-is_some none = false
-is_some (some s) = true
+is_some None = false
+is_some (Some s) = true
 
 -- what stands at a place begins with the identity and a colon
 abbrev pub begins : List ℕ → List ℕ → ℕ → Bool
@@ -93,6 +90,6 @@ Heads t starts heads n = (b : ℕ) → b < 256 → Latest t starts n (get_or hea
 -- ---- a pass over the table
 
 -- what it comes to, and the starts that it leaves
-pub record Scans (t : List ℕ) (said : Scanned) (starts : List ℕ) : Type 0 where
-  pub told : said ≡ cond (well_formed t) (Lines (length (lines t))) Unusable
+pub record Scans (t : List ℕ) (said : Option ℕ) (starts : List ℕ) : Type 0 where
+  pub told : said ≡ cond (well_formed t) (Some (length (lines t))) None
   pub left : well_formed t ≡ true → take (length (lines t)) starts ≡ starts_of t

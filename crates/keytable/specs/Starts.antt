@@ -1,13 +1,11 @@
 -- The list of line starts that is kept beside a key table (document 02, P6): where each line starts, in order, and how many lines there are. The list is
 -- lent memory of 32-bit numbers and a count; its numbers are the first `count` of that memory.
-use Rattle.std.specs.Prelude.{ℕ, ◌+◌, Bool, cond, ◌&&◌, List, [], ◌∷◌, map, length, take, drop, leb}
-use Rattle.std.proofs.Math.Option.{Option, none, some}
+use Rattle.std.specs.Prelude.{ℕ, ◌+◌, Bool, cond, ◌&&◌, List, [], ◌∷◌, map, length, take, drop, leb, Option, None, Some}
 use Rattle.lists.specs.Lists.{same}
 use Rattle.refusal.specs.Lent.{Outcome, gives, refuses}
 use Rattle.refusal.specs.declared.Refusal.{Refusal}
 use Rattle.refusal.specs.declared.Refusal.TheVariants.{BadTable, BadList}
 use Rattle.keytable.specs.declared.entries.Hit.{Hit}
-use Rattle.keytable.specs.declared.entries.Hit.TheVariants.{Line, Nothing}
 use Rattle.keytable.specs.Table.{line_end, lines, upto, well_formed, key_text, first_text, key_of_text, found}
 
 -- where lines start that stand from `at` on, each with its 0A
@@ -31,7 +29,7 @@ is_list t starts count = leb count (length starts) && same (take count starts) (
 
 -- What table and list come to before anything is looked up: R2, and R10 directly after it.
 abbrev pub list_refusal : List ℕ → List ℕ → ℕ → Option Refusal
-list_refusal t starts count = cond (well_formed t) (cond (is_list t starts count) none (some BadList)) (some BadTable)
+list_refusal t starts count = cond (well_formed t) (cond (is_list t starts count) None (Some BadList)) (Some BadTable)
 
 -- ---- lookup by the list
 
@@ -39,16 +37,20 @@ list_refusal t starts count = cond (well_formed t) (cond (is_list t starts count
 abbrev pub line_at : List ℕ → ℕ → List ℕ
 line_at t at = upto line_end (drop at t)
 
-abbrev pub or_later : Option (List ℕ) → Hit → Hit → Hit
-or_later (some s) here later = here
-or_later none here later = later
+-- the k-th start's line, and the part from `from` to `to`
+abbrev pub hit : (k from to : ℕ) → Option Hit
+hit k a b = Some (record { line = k; from = a; to = b })
+
+abbrev pub or_later : Option (List ℕ) → Option Hit → Option Hit → Option Hit
+or_later (Some s) here later = here
+or_later None here later = later
 
 -- Which of the starts is that of the first line that begins with the identity and a colon, counted from k on, and where what follows them stands,
 -- from its start to the line's end.
-abbrev pub placed : ℕ → List ℕ → List ℕ → List ℕ → Hit
-placed k identity t [] = Nothing
+abbrev pub placed : ℕ → List ℕ → List ℕ → List ℕ → Option Hit
+placed k identity t [] = None
 placed k identity t (s ∷ ss) =
-    or_later (key_text identity (line_at t s)) (Line k (s + length identity + 1) (s + length (line_at t s))) (placed (k + 1) identity t ss)
+    or_later (key_text identity (line_at t s)) (hit k (s + length identity + 1) (s + length (line_at t s))) (placed (k + 1) identity t ss)
 
 -- The key that a table has for an identity at those starts; any table, any starts, any identity. proofs/Listed.antt: with the table's own list this is `key_of`.
 unfoldable pub key_at : List ℕ → List ℕ → List ℕ → Option (List ℕ)

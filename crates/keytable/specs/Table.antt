@@ -1,13 +1,10 @@
 -- The key table (document 01, "The key table"): lines `identity:hex`, each with a byte 0A at its end. The test that a table is well formed, and the
 -- key that stands in it for an identity.
-use Rattle.std.specs.Prelude.{ℕ, ◌+◌, ◌-◌, ◌*◌, ◌%◌, Bool, true, cond, not, ◌&&◌, List, [], ◌∷◌, ◌++◌, map, length, leb, ltb, eqb}
-use Rattle.std.proofs.Math.Option.{Option, none, some}
+use Rattle.std.specs.Prelude.{ℕ, ◌+◌, ◌-◌, ◌*◌, ◌%◌, Bool, true, cond, not, ◌&&◌, List, [], ◌∷◌, ◌++◌, map, length, leb, ltb, eqb, Result, Ok, Err, Option, None, Some}
 use Rattle.lists.specs.Lists.{each, distinct, same}
 use Rattle.refusal.specs.Lent.{Outcome, gives, refuses}
 use Rattle.refusal.specs.declared.Refusal.{Refusal}
 use Rattle.refusal.specs.declared.Refusal.TheVariants.{BadTable, UnknownPskIdentity}
-use Rattle.keytable.specs.declared.Judged.{Judged}
-use Rattle.keytable.specs.declared.Judged.TheVariants.{Good, Refused}
 use Rattle.utf8.specs.Utf8.{valid_utf8}
 
 abbrev pub line_end : ℕ
@@ -109,37 +106,37 @@ well_formed t =
 
 -- What a table comes to by itself, before anything is looked up in it.
 abbrev pub table_refusal : List ℕ → Option Refusal
-table_refusal t = cond (well_formed t) none (some BadTable)
+table_refusal t = cond (well_formed t) None (Some BadTable)
 
 -- the same as the code's type has it
-abbrev pub judged : Option Refusal → Judged
-judged none = Good
-judged (some r) = Refused r
+abbrev pub judged : Option Refusal → Result Unit Refusal
+judged None = (Ok tt)
+judged (Some r) = Err r
 
 -- ---- lookup
 
 -- what follows the identity and a colon in a line that begins with them
 abbrev pub key_text : List ℕ → List ℕ → Option (List ℕ)
-key_text [] [] = none
-key_text [] (b ∷ l) = cond (eqb b colon) (some l) none
-key_text (i ∷ is) [] = none
-key_text (i ∷ is) (b ∷ l) = cond (eqb b i) (key_text is l) none
+key_text [] [] = None
+key_text [] (b ∷ l) = cond (eqb b colon) (Some l) None
+key_text (i ∷ is) [] = None
+key_text (i ∷ is) (b ∷ l) = cond (eqb b i) (key_text is l) None
 
 abbrev pub or_else : Option (List ℕ) → Option (List ℕ) → Option (List ℕ)
-or_else (some s) o = some s
-or_else none o = o
+or_else (Some s) o = Some s
+or_else None o = o
 
 -- of the first line that matches
 abbrev pub first_text : List ℕ → List (List ℕ) → Option (List ℕ)
-first_text identity [] = none
+first_text identity [] = None
 first_text identity (l ∷ ls) = or_else (key_text identity l) (first_text identity ls)
 
 abbrev pub key_in : List ℕ → Option (List ℕ)
-key_in s = cond (valid_key s) (some (decoded s)) none
+key_in s = cond (valid_key s) (Some (decoded s)) None
 
 abbrev pub key_of_text : Option (List ℕ) → Option (List ℕ)
-key_of_text none = none
-key_of_text (some s) = key_in s
+key_of_text None = None
+key_of_text (Some s) = key_in s
 
 -- The key that the table, any bytes, has for an identity, any bytes: that of the first line that matches. None where no line
 -- matches, or where what follows the colon is no key.
@@ -148,5 +145,5 @@ key_of table identity = key_of_text (first_text identity (lines table))
 
 -- what a lookup answers: an identity that isn't listed is alert 115
 abbrev pub found : Option (List ℕ) → Outcome
-found none = refuses UnknownPskIdentity
-found (some key) = gives key
+found None = refuses UnknownPskIdentity
+found (Some key) = gives key

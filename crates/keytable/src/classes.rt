@@ -1,67 +1,30 @@
 // Which bytes may stand in an identity and in a key, and how far the bytes of either go.
-ghost use Rattle.std.specs.Prelude.{◌≡◌, ◌≤◌, ◌+◌, length, drop};
+ghost use Rattle.std.specs.Prelude.{◌≡◌, ◌≤◌, ◌+◌, ℕ, Bool, length, drop};
 ghost use Rattle.lists.specs.Lists.{each};
 ghost use Rattle.keytable.specs.Table.{plain};
-ghost use Rattle.keytable.specs.Inner.{belongs, leading};
+ghost use Rattle.keytable.specs.Inner.{Says, leading};
 
-use crate::hex::hex_digit;
-
-#[derive(Clone, Copy)]
-pub(crate) enum Class {
-    // a byte that an identity may have
-    Plain,
-    HexDigit,
-}
-
-fn plain(b: u8) -> bool
+// Whether an identity may have the byte.
+pub(crate) fn plain(b: u8) -> bool
     ensures { result ≡ plain b }
 {
-    if b < 32 {
-        return false;
-    }
-    if b == 127 {
-        return false;
-    }
-    if b == 58 {
-        return false;
-    }
-    true
+    b >= 32 && b != 127 && b != 58
 }
 
-fn belongs(class: Class, b: u8) -> bool
-    ensures { result ≡ belongs class b }
+// Whether all bytes are of the class that the test is of.
+pub(crate) fn all<F: Fn(u8) -> bool>(belongs: F, s: &[u8]) -> bool
+    requires { F.IsAlwaysCallable belongs }
+    ensures { (p : ℕ → Bool) → Says (F.post belongs) p → result ≡ each p s.now }
 {
-    match class {
-        Class::Plain => plain(b),
-        Class::HexDigit => hex_digit(b),
-    }
-}
-
-// Whether all bytes are of the class.
-pub(crate) fn all(class: Class, s: &[u8]) -> bool
-    ensures { result ≡ each (belongs class) s.now }
-{
-    let mut i = 0;
-    while i < s.len() {
-        if !belongs(class, s[i]) {
-            return false;
-        }
-        i += 1;
-    }
-    true
+    s.iter().all(|&b| belongs(b))
 }
 
 // Where the bytes of the class end that stand from `at` on.
-pub(crate) fn class_end(class: Class, table: &[u8], at: usize) -> usize
-    requires { at ≤ length table.now }
-    ensures { result ≡ at + length (leading (belongs class) (drop at table.now)) }
+pub(crate) fn class_end<F: Fn(u8) -> bool>(belongs: F, table: &[u8], at: usize) -> usize
+    requires callable { F.IsAlwaysCallable belongs }
+    requires at_in_bounds { at ≤ length table.now }
+    ensures within { (at ≤ result) × (result ≤ length table.now) }
+    ensures value { (p : ℕ → Bool) → Says (F.post belongs) p → result ≡ at + length (leading p (drop at table.now)) }
 {
-    let mut i = at;
-    while i < table.len() {
-        if !belongs(class, table[i]) {
-            return i;
-        }
-        i += 1;
-    }
-    i
+    at + table[at..].iter().take_while(|&&b| belongs(b)).count()
 }

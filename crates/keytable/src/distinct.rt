@@ -10,39 +10,23 @@ ghost use Rattle.keytable.specs.Inner.{earlier, bucket, tag_of, begins, fingerpr
 pub(crate) fn fingerprint(s: &[u8]) -> u32
     ensures { result ≡ fingerprint 0 s.now }
 {
-    let mut p = 0u32;
-    let mut i = 0;
-    while i < s.len() {
-        p = p % 67108864 * 33 + s[i] as u32;
-        i += 1;
-    }
-    p
+    s.iter().fold(0, |p, &b| p % 67108864 * 33 + b as u32)
 }
 
-// Whether what stands at `at` begins with the identity and a colon.
+// Whether what stands at `at` begins with the identity and a colon, with no line's end among them.
 fn begins(table: &[u8], at: usize, identity: &[u8]) -> bool
-    requires { at ≤ length table.now }
     ensures { result ≡ begins identity.now table.now at }
 {
-    let mut i = 0;
-    while at + i < table.len() {
-        let b = table[at + i];
-        if i == identity.len() {
-            return b == 58;
-        }
-        if b != identity[i] {
-            return false;
-        }
-        if b == 10 {
-            return false;
-        }
-        i += 1;
-    }
-    false
+    let Some(rest) = table.get(at..) else {
+        return false;
+    };
+    identity.iter().zip(rest).all(|(&i, &b)| b == i && b != 10)
+        && rest.get(identity.len()) == Some(&58)
 }
 
 // Whether one of the first n lines has the identity. `latest` is the number, from 1 on, of the latest of them in its
-// bucket, 0 where there is none.
+// bucket, 0 where there is none. The arrays are those of `scan_lines`: in a struct with this as its method, they made the
+// table's test a twentieth slower.
 pub(crate) fn repeated(
     table: &[u8],
     starts: &[u16; 256],
@@ -62,13 +46,13 @@ pub(crate) fn repeated(
     ensures { result ≡ any (same identity.now) (earlier table.now starts.now n) }
 {
     let mut c = latest;
+    // From a line to the one that it is linked to, so no `for` over a range or a list.
     while 0 < c {
-        if tags[c - 1] == tag {
-            if begins(table, starts[c - 1] as usize, identity) {
-                return true;
-            }
+        let line = c - 1;
+        if tags[line] == tag && begins(table, starts[line] as usize, identity) {
+            return true;
         }
-        c = links[c - 1] as usize;
+        c = links[line] as usize;
     }
     false
 }

@@ -5,14 +5,15 @@ ghost use Rattle.keytable.specs.Starts.{placed, looked_up};
 ghost use Rattle.refusal.specs.Lent.{Answers};
 
 use crate::hex::key_into;
-use refusal::{Refusal, Written};
+use refusal::Refusal;
 
 // What a search finds: which of the starts is that of the first line that begins with the identity and a colon, and the
 // part of the table, from a start to the line's end, that follows them.
-#[derive(Drop)]
-pub enum Hit {
-    Line(usize, usize, usize),
-    Nothing,
+#[derive(Clone, Copy)]
+pub struct Hit {
+    pub line: usize,
+    pub from: usize,
+    pub to: usize,
 }
 
 // Where the line ends that starts at `at`.
@@ -20,21 +21,18 @@ pub(crate) fn line_end(table: &[u8], at: usize) -> usize
     requires { at ≤ length table.now }
     ensures { result ≡ at + length (upto line_end (drop at table.now)) }
 {
-    let mut end = at;
-    while end < table.len() && table[end] != 10 {
-        end += 1;
-    }
-    end
+    at + table[at..].iter().take_while(|&&b| b != 10).count()
 }
 
-// The search ends at the first line that matches. It looks for the end of no line but that one.
-pub fn first_line(table: &[u8], starts: &[u32], identity: &[u8]) -> Hit
+// The search ends at the first line that matches. It looks for the end of no line but that one. Its form is document 01's: a loop
+// over the lines whose break yields the match, left by a label from the comparison of the bytes inside.
+pub fn first_line(table: &[u8], starts: &[u32], identity: &[u8]) -> Option<Hit>
     ensures { result ≡ placed 0 identity.now table.now starts.now }
 {
     let mut k = 0;
     let hit = 'lines: loop {
         if k >= starts.len() {
-            break 'lines Hit::Nothing;
+            break 'lines None;
         }
         let at = starts[k] as usize;
         let mut i = 0;
@@ -43,7 +41,8 @@ pub fn first_line(table: &[u8], starts: &[u32], identity: &[u8]) -> Hit
             if i == identity.len() {
                 if b == 58 {
                     let from = at + i + 1;
-                    break 'lines Hit::Line(k, from, line_end(table, from));
+                    let to = line_end(table, from);
+                    break 'lines Some(Hit { line: k, from, to });
                 }
                 break;
             }
@@ -68,15 +67,14 @@ pub fn lookup(
     count: usize,
     identity: &[u8],
     out: &mut [u8],
-) -> Written
+) -> Result<usize, Refusal>
     ensures { Answers (looked_up table.now starts.now count identity.now) out.old result out.new }
 {
     if starts.len() < count {
-        return Written::Refused(Refusal::BadList);
+        return Err(Refusal::BadList);
     }
-    let hit = first_line(table, &starts[..count], identity);
-    match hit {
-        Hit::Line(_, from, to) => key_into(&table[from..to], out),
-        Hit::Nothing => Written::Refused(Refusal::UnknownPskIdentity),
+    match first_line(table, &starts[..count], identity) {
+        Some(hit) => key_into(&table[hit.from..hit.to], out),
+        None => Err(Refusal::UnknownPskIdentity),
     }
 }

@@ -13,11 +13,3 @@ mod scan;
 pub use checks::{valid_identity, valid_secret};
 pub use entries::{Hit, first_line, lookup};
 pub use list::{judge, make_list, well_formed};
-use refusal::Refusal;
-
-// Whether a table and its list can be used, and if not, the number that their host is given.
-#[derive(Drop)]
-pub enum Judged {
-    Good,
-    Refused(Refusal),
-}

@@ -9,17 +9,16 @@ use lib.ListN.{length, get_or, take, drop, length-drop}
 use lib.Seq.{drop-cons, take_all}
 use lib.Dec.{leb, ltb, eqb}
 use borrow.Author.Tests.{le-ltb, ltb-false, eq-eqb, eqb-true, le-leb, leb-true}
+use Rattle.std.specs.Prelude.{Result, Ok, Err}
 use Rattle.endian.specs.Number.{Bytes}
 use Rattle.endian.specs.Vector.{vector, stated}
 use Rattle.endian.proofs.Numbers.{number-be-lt}
 use Rattle.refusal.specs.declared.Refusal.{Refusal}
-use Rattle.layout.specs.declared.Verdict.{Verdict}
-use Rattle.layout.specs.declared.Verdict.TheVariants.{Accepted, Refused}
 use Rattle.layout.specs.Layout.{message}
 use Rattle.layout.specs.Header.{header}
 use Rattle.layout.proofs.Places.{vector-last}
 
-pub header-message : (kind : ℕ) (body : List ℕ) → length body ≤ 16380 → header kind (message kind body) ≡ Accepted
+pub header-message : (kind : ℕ) (body : List ℕ) → length body ≤ 16380 → header kind (message kind body) ≡ Ok tt
 header-message kind body h =
     let m : List ℕ = message kind body in
     let says : stated 3 (drop 1 m) ≡ length m - 4 = number-be-lt 3 (length body) (omega arith) ∙ (omega arith) in
@@ -31,16 +30,16 @@ header-message kind body h =
           (omega arith),
     )
 
--- a test that led to `Accepted` held
-accepted-if : (t : Bool) (v : Verdict) (r : Refusal) → cond t v (Refused r) ≡ Accepted → (t ≡ true) × (v ≡ Accepted)
+-- a test that led to `(Ok tt)` held
+accepted-if : (t : Bool) (v : Result Unit Refusal) (r : Refusal) → cond t v (Err r) ≡ Ok tt → (t ≡ true) × (v ≡ Ok tt)
 accepted-if true v r e = (refl, e)
 accepted-if false v r e = absurd (let z : ◌≡◌ {A = ℕ} 0 1 = cc in omega arith)
 
-accepted-unless : (t : Bool) (v : Verdict) (r : Refusal) → cond t (Refused r) v ≡ Accepted → (t ≡ false) × (v ≡ Accepted)
+accepted-unless : (t : Bool) (v : Result Unit Refusal) (r : Refusal) → cond t (Err r) v ≡ Ok tt → (t ≡ false) × (v ≡ Ok tt)
 accepted-unless true v r e = absurd (let z : ◌≡◌ {A = ℕ} 0 1 = cc in omega arith)
 accepted-unless false v r e = (refl, e)
 
-pub header_read : (kind : ℕ) (m : List ℕ) → Bytes m → header kind m ≡ Accepted → (m ≡ message kind (drop 4 m)) × (length (drop 4 m) ≤ 16380)
+pub header_read : (kind : ℕ) (m : List ℕ) → Bytes m → header kind m ≡ Ok tt → (m ≡ message kind (drop 4 m)) × (length (drop 4 m) ≤ 16380)
 header_read kind m b e =
     let t1 = accepted-unless (ltb (length m) 4) _ _ e in
     let t2 = accepted-if (eqb (get_or m 0 0) kind) _ _ t1.1 in

@@ -8,9 +8,9 @@ use mathlib.Core.List.{List, ◌++◌}
 use lib.ListN.{length, drop}
 use lib.Dec.{leb}
 use borrow.Author.Tests.{le-leb, lt-leb, leb-true}
+use Rattle.std.specs.Prelude.{Result, Err}
+use Rattle.refusal.specs.declared.Refusal.{Refusal}
 use Rattle.refusal.specs.declared.Refusal.TheVariants.{BadValue}
-use Rattle.refusal.specs.declared.Written.{Written}
-use Rattle.refusal.specs.declared.Written.TheVariants.{Refused}
 use Rattle.refusal.specs.Lent.{gives, Answers}
 use Rattle.refusal.proofs.Laws.{refuses-answers, answer-in-front}
 use Rattle.layout.specs.Layout.{Layout, bytes, valid, written}
@@ -32,16 +32,16 @@ module _ {F : Type 0} (l : Layout F) (f : F) where
 
   -- ---- for a writer
 
-  pub writes : (out left : List ℕ) (said : Written) → valid l f ≡ true → Answers (gives (bytes l f)) out said left
+  pub writes : (out left : List ℕ) (said : Result ℕ Refusal) → valid l f ≡ true → Answers (gives (bytes l f)) out said left
       → Answers (written l f) out said left
   writes out left said h a = rw h a
 
-  pub writes-none : (out : List ℕ) → valid l f ≡ false → Answers (written l f) out (Refused BadValue) out
+  pub writes-none : (out : List ℕ) → valid l f ≡ false → Answers (written l f) out (Err BadValue) out
   writes-none out h = rw h (refuses-answers BadValue out)
 
   -- ---- for a caller
 
   -- a valid message that has room stands at the front of the output
-  pub at_front : {out left : List ℕ} {said : Written} → valid l f ≡ true → length (bytes l f) ≤ length out → Answers (written l f) out said left
+  pub at_front : {out left : List ℕ} {said : Result ℕ Refusal} → valid l f ≡ true → length (bytes l f) ≤ length out → Answers (written l f) out said left
       → left ≡ bytes l f ++ drop (length (bytes l f)) out
   at_front h room a = answer-in-front (rw h at a) room

@@ -7,7 +7,7 @@ use native.Mathlib.Omega.{arith}
 use mathlib.Core.List.{List, ◌++◌, append_assoc, append-nil}
 use lib.ListN.{length, take, drop, length-append, length-drop, drop_of_length-le}
 use lib.Seq.{paste, take-append_seam, drop-append-add, take-length, drop-drop, take_all, take-paste, drop-paste}
-use Rattle.refusal.specs.declared.Written.TheVariants.{Wrote}
+use Rattle.std.specs.Prelude.{Ok}
 use Rattle.refusal.specs.Lent.{gives, Answers}
 use Rattle.refusal.proofs.Laws.{gives-answers}
 
@@ -59,5 +59,5 @@ put-behind bs part out mid back place e p b = lent-part mid part back place (b �
 
 -- the answer after the last part
 pub front-answers : (bs out left : List ℕ) (n : ℕ) → length bs ≤ length out → left ≡ front bs out → n ≡ length bs
-    → Answers (gives bs) out (Wrote n) left
+    → Answers (gives bs) out (Ok n) left
 front-answers bs out left n room e l = rw (e, l) (gives-answers bs out room)

@@ -1,6 +1,5 @@
 -- What a layout is (document 01, "Message layouts"; RFC 5246, section 7.4), and when a reader and a writer are each other's inverse.
-use Rattle.std.specs.Prelude.{◌≡◌, ℕ, Bool, true, ◌&&◌, cond, List, ◌∷◌, length, leb}
-use Rattle.std.proofs.Math.Option.{Option, some}
+use Rattle.std.specs.Prelude.{◌≡◌, ℕ, Bool, true, ◌&&◌, cond, List, ◌∷◌, length, leb, Option, Some}
 use Rattle.endian.specs.Number.{Bytes}
 use Rattle.endian.specs.Vector.{vector}
 use Rattle.refusal.specs.declared.Refusal.TheVariants.{BadValue}
@@ -30,5 +29,5 @@ written l f = cond (valid l f) (gives (bytes l f)) (refuses BadValue)
 -- A reader accepts exactly the bytes of valid fields, and gives those fields: reading what was written gives the same fields, and writing what
 -- was read gives the same bytes.
 pub record Inverse {F : Type 0} (l : Layout F) (read : List ℕ → Option F) : Type 0 where
-  pub reads-written : (f : F) → valid l f ≡ true → read (bytes l f) ≡ some f
-  pub writes-read : (m : List ℕ) (f : F) → Bytes m → read m ≡ some f → (valid l f ≡ true) × (m ≡ bytes l f)
+  pub reads-written : (f : F) → valid l f ≡ true → read (bytes l f) ≡ Some f
+  pub writes-read : (m : List ℕ) (f : F) → Bytes m → read m ≡ Some f → (valid l f ≡ true) × (m ≡ bytes l f)

@@ -11,18 +11,23 @@ pub mod place;
 pub mod put;
 pub mod types;
 
-use refusal::Refusal;
-
-// What a test on a header says.
-#[derive(Clone, Copy)]
-pub enum Verdict {
-    Accepted,
-    Refused(Refusal),
-}
+ghost use Rattle.std.specs.Prelude.{◌≡◌};
+ghost use Rattle.lists.specs.Lists.{part};
 
 // Where the contents of a vector stand in a message.
-#[derive(Drop)]
-pub enum Part {
-    At { start: usize, len: usize },
-    Refused,
+#[derive(Clone, Copy)]
+pub struct Part {
+    pub start: usize,
+    pub len: usize,
+}
+
+impl Part {
+    // The bytes that stand there, as far as the message has them.
+    pub fn of(self, message: &[u8]) -> &[u8]
+        ensures { result.now ≡ part self.start self.len message.now }
+    {
+        let start = self.start.min(message.len());
+        let len = self.len.min(message.len() - start);
+        &message[start..start + len]
+    }
 }

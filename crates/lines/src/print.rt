@@ -20,14 +20,9 @@ pub fn hex(output: &mut impl Write, bytes: &[u8]) -> io::Result<usize>
     ensures { IfOk result (λ n. n ≡ length bytes.now) }
 {
     for b in bytes {
-        byte(output, *b)?;
+        write!(output, "{b:02x}")?;
     }
     Ok(bytes.len())
-}
-
-fn byte(output: &mut impl Write, b: u8) -> io::Result<()> {
-    let digits = b"0123456789abcdef";
-    output.write_all(&[digits[(b / 16) as usize], digits[(b % 16) as usize]])
 }
 
 // A number in decimal; answers how many digits it takes.

@@ -56,19 +56,13 @@ pub fn number24(input: &mut impl Read) -> io::Result<usize>
     Ok(endian::number24(high, middle, low))
 }
 
-fn least(a: usize, b: usize) -> usize
-    ensures { result ≡ min a b }
-{
-    if a < b { a } else { b }
-}
-
 // Reads the next n bytes, or as many as there is room for, to the front of the lent memory. Answers how
 // many that are; what stands behind them stays, after an error too.
 pub fn fill(input: &mut impl Read, out: &mut [u8], n: usize) -> io::Result<usize>
     ensures ok { IfOk result (λ k. Front k out.old out.new) }
     ensures err { OnErr result (Front (min n (length out.old)) out.old out.new) }
 {
-    let count = least(n, out.len());
+    let count = n.min(out.len());
     read_full(input, &mut out[..count])?;
     Ok(count)
 }
@@ -78,8 +72,8 @@ fn repeat(out: &mut [u8], first: u8, step: u8)
     ensures { length out.new ≡ length out.old }
 {
     let mut next = first;
-    for i in 0..out.len() {
-        out[i] = next;
+    for b in out {
+        *b = next;
         next = next.wrapping_add(step);
     }
 }
@@ -92,7 +86,7 @@ fn series(input: &mut impl Read, out: &mut [u8]) -> io::Result<usize>
     let first = byte(input)?;
     let step = byte(input)?;
     let n = number24(input)?;
-    let count = least(n, out.len());
+    let count = n.min(out.len());
     repeat(&mut out[..count], first, step);
     Ok(count)
 }
@@ -116,6 +110,7 @@ pub fn field(input: &mut impl Read, out: &mut [u8]) -> io::Result<usize>
     ensures err { OnErr result (length out.new ≡ length out.old) }
 {
     let mut at: usize = 0;
+    // Nothing says that input ends, so the pieces are counted, up to a number that no field has.
     for _ in 0..65536u32 {
         let kind = byte(input)?;
         if kind == 0 {

@@ -1,18 +1,10 @@
 -- Tests and properties of every element of a list.
 -- Assumes nothing.
 use mathlib.Core.Path.{◌≡◌, refl}
-use Prim.Native.Nat.{ℕ, zero, suc, ◌<◌}
-use native.Mathlib.Omega.{arith}
 use mathlib.Core.Bool.{Bool, true}
 use mathlib.Core.List.{List, [], ◌∷◌, ◌++◌}
-use lib.ListN.{length, get_or}
 use Rattle.lists.specs.Lists.{each, Each}
 use Rattle.lists.proofs.Tests.{and_left, and_right, both}
-
-pub each_at : (p : ℕ → Bool) (s : List ℕ) (i : ℕ) → i < length s → each p s ≡ true → p (get_or s i 0) ≡ true
-each_at p [] i h all = absurd (omega arith)
-each_at p (b ∷ s) zero h all = and_left (p b) (each p s) all
-each_at p (b ∷ s) (suc i) h all = each_at p s i (omega arith) (and_right (p b) (each p s) all)
 
 module _ {A : Type 0} where
   pub each_append : (p : A → Bool) (xs ys : List A) → each p (xs ++ ys) ≡ true → (each p xs ≡ true) × (each p ys ≡ true)

@@ -14,12 +14,10 @@ pub fn same(a: &[u8], b: &[u8]) -> bool
         return false;
     }
     let mut different: usize = 0;
-    let mut i = 0;
-    while i < a.len() {
-        if a[i] != b[i] {
+    for (x, y) in a.iter().zip(b) {
+        if x != y {
             different += 1;
         }
-        i += 1;
     }
     different == 0
 }

@@ -8,12 +8,9 @@
 #![tactic(auto)]
 
 use extensions::Step;
-use hellos::Block;
-use hellos::client_hello::Client;
-use hellos::server_hello::Server;
 use layout::Part;
 use messages::ticket::Ticket;
-use refusal::{Refusal, Written};
+use refusal::Refusal;
 use std::io;
 use std::io::{Read, Write};
 
@@ -27,150 +24,118 @@ fn print_refusal(output: &mut impl Write, r: Refusal) -> io::Result<()> {
     print_number(output, refusal::number(r) as usize)
 }
 
+// Where a part starts, and how long it is.
+fn print_place(output: &mut impl Write, part: Part) -> io::Result<()> {
+    print_number(output, part.start)?;
+    print_number(output, part.len)
+}
+
 // Whether what was written is the message.
 fn print_again(
     output: &mut impl Write,
-    said: Written,
+    said: Result<usize, Refusal>,
     out: &[u8],
     message: &[u8],
 ) -> io::Result<()> {
     match said {
-        Written::Wrote(n) => {
+        Ok(n) => {
             if lists::same(lines::part(out, 0, n), message) {
                 lines::text(output, b" same")?;
             } else {
                 lines::text(output, b" other")?;
             }
         }
-        Written::Refused(r) => print_refusal(output, r)?,
+        Err(r) => print_refusal(output, r)?,
     }
     Ok(())
 }
 
-// The extensions of a block, each as its type and length. A block has fewer than it has bytes.
+// The extensions of a block, each as its type and length.
 fn print_extensions(output: &mut impl Write, block: &[u8]) -> io::Result<()> {
-    let mut at: usize = 0;
-    for _ in 0..block.len() {
-        let Step::Extension { kind, start, len } = extensions::next(block, at) else {
-            break;
-        };
+    let mut at = 0;
+    while let Step::Extension { kind, start, len } = extensions::next(block, at) {
         print_number(output, kind)?;
         print_number(output, len)?;
-        at = start.wrapping_add(len);
+        at = start + len;
     }
     Ok(())
 }
 
-fn is_present(block: Block) -> bool {
-    match block {
-        Block::Absent => false,
-        Block::At { start: _, len: _ } => true,
-    }
-}
-
-// A block's contents; of an absent one, none.
-fn contents(block: Block, message: &[u8]) -> &[u8] {
-    match block {
-        Block::Absent => lines::part(message, 0, 0),
-        Block::At { start, len } => lines::part(message, start, len),
-    }
-}
-
-fn show_block(output: &mut impl Write, block: Block, message: &[u8]) -> io::Result<()> {
-    if !is_present(block) {
+fn show_block(output: &mut impl Write, block: Option<&[u8]>) -> io::Result<()> {
+    let Some(block) = block else {
         lines::text(output, b" absent")?;
         return Ok(());
-    }
-    print_extensions(output, contents(block, message))
+    };
+    print_extensions(output, block)
 }
 
 fn show_client(output: &mut impl Write, message: &[u8], out: &mut [u8]) -> io::Result<()> {
     lines::text(output, b" ClientHello")?;
-    match hellos::client_hello::read(message) {
-        Client::Read {
-            version,
-            session_len,
-            suites_start,
-            suites_len,
-            methods_start,
-            methods_len,
-            block,
-        } => {
-            print_number(output, version)?;
-            print_number(output, session_len)?;
-            print_number(output, suites_start)?;
-            print_number(output, suites_len)?;
-            print_number(output, methods_start)?;
-            print_number(output, methods_len)?;
-            show_block(output, block, message)?;
-            let said = hellos::client_hello::write(
-                version,
-                lines::part(message, 6, 32),
-                lines::part(message, 39, session_len),
-                lines::part(message, suites_start, suites_len),
-                lines::part(message, methods_start, methods_len),
-                is_present(block),
-                contents(block, message),
-                out,
-            );
-            print_again(output, said, out, message)
-        }
-        Client::Refused => print_refusal(output, Refusal::DecodeError),
-    }
+    let Some(client) = hellos::client_hello::read(message) else {
+        return print_refusal(output, Refusal::DecodeError);
+    };
+    print_number(output, client.version)?;
+    print_number(output, client.session_len)?;
+    print_place(output, client.suites)?;
+    print_place(output, client.methods)?;
+    let block = client.block.map(|part| part.of(message));
+    show_block(output, block)?;
+    let said = hellos::client_hello::write(
+        client.version,
+        lines::part(message, 6, 32),
+        lines::part(message, 39, client.session_len),
+        client.suites.of(message),
+        client.methods.of(message),
+        block.is_some(),
+        block.unwrap_or_default(),
+        out,
+    );
+    print_again(output, said, out, message)
 }
 
 fn show_server(output: &mut impl Write, message: &[u8], out: &mut [u8]) -> io::Result<()> {
     lines::text(output, b" ServerHello")?;
-    match hellos::server_hello::read(message) {
-        Server::Read {
-            version,
-            session_len,
-            suite,
-            compression,
-            block,
-        } => {
-            print_number(output, version)?;
-            print_number(output, session_len)?;
-            print_number(output, suite)?;
-            print_number(output, compression as usize)?;
-            show_block(output, block, message)?;
-            let said = hellos::server_hello::write(
-                version,
-                lines::part(message, 6, 32),
-                lines::part(message, 39, session_len),
-                suite,
-                compression,
-                is_present(block),
-                contents(block, message),
-                out,
-            );
-            print_again(output, said, out, message)
-        }
-        Server::Refused => print_refusal(output, Refusal::DecodeError),
-    }
+    let Some(server) = hellos::server_hello::read(message) else {
+        return print_refusal(output, Refusal::DecodeError);
+    };
+    print_number(output, server.version)?;
+    print_number(output, server.session_len)?;
+    print_number(output, server.suite)?;
+    print_number(output, usize::from(server.compression))?;
+    let block = server.block.map(|part| part.of(message));
+    show_block(output, block)?;
+    let said = hellos::server_hello::write(
+        server.version,
+        lines::part(message, 6, 32),
+        lines::part(message, 39, server.session_len),
+        server.suite,
+        server.compression,
+        block.is_some(),
+        block.unwrap_or_default(),
+        out,
+    );
+    print_again(output, said, out, message)
 }
 
 fn show_ticket(output: &mut impl Write, message: &[u8], out: &mut [u8]) -> io::Result<()> {
     lines::text(output, b" NewSessionTicket")?;
-    match messages::ticket::read(message) {
-        Ticket::Read {
+    let Some(
+        Ticket {
             lifetime_hint,
-            start,
-            len,
-        } => {
-            print_number(output, lifetime_hint as usize)?;
-            print_number(output, start)?;
-            print_number(output, len)?;
-            let ticket = lines::part(message, start, len);
-            let said = messages::ticket::write(lifetime_hint, ticket, out);
-            print_again(output, said, out, message)
-        }
-        Ticket::Refused => print_refusal(output, Refusal::DecodeError),
-    }
+            ticket,
+        },
+    ) = messages::ticket::read(message)
+    else {
+        return print_refusal(output, Refusal::DecodeError);
+    };
+    print_number(output, lifetime_hint as usize)?;
+    print_place(output, ticket)?;
+    let said = messages::ticket::write(lifetime_hint, ticket.of(message), out);
+    print_again(output, said, out, message)
 }
 
 // Writes a message of one field.
-fn write(kind: u8, field: &[u8], out: &mut [u8]) -> Written {
+fn write(kind: u8, field: &[u8], out: &mut [u8]) -> Result<usize, Refusal> {
     match kind {
         4 => messages::ticket::write(1, field, out),
         12 => messages::key_exchange::write_hint(field, out),
@@ -184,19 +149,16 @@ fn write(kind: u8, field: &[u8], out: &mut [u8]) -> Written {
 fn show_part(
     output: &mut impl Write,
     kind: u8,
-    read: Part,
+    read: Option<Part>,
     message: &[u8],
     out: &mut [u8],
 ) -> io::Result<()> {
-    match read {
-        Part::At { start, len } => {
-            print_number(output, start)?;
-            print_number(output, len)?;
-            let said = write(kind, lines::part(message, start, len), out);
-            print_again(output, said, out, message)
-        }
-        Part::Refused => print_refusal(output, Refusal::DecodeError),
-    }
+    let Some(part) = read else {
+        return print_refusal(output, Refusal::DecodeError);
+    };
+    print_place(output, part)?;
+    let said = write(kind, part.of(message), out);
+    print_again(output, said, out, message)
 }
 
 fn show_parts(output: &mut impl Write, message: &[u8], out: &mut [u8]) -> io::Result<()> {
@@ -236,28 +198,26 @@ fn show(output: &mut impl Write, message: &[u8], out: &mut [u8]) -> io::Result<(
 
 // How far the bytes, all FF before, have changed.
 fn changed(out: &[u8]) -> usize {
-    let mut end: usize = 0;
-    for i in 0..out.len() {
-        if out[i] != 255 {
-            end = i + 1;
-        }
-    }
-    end
+    out.iter().rposition(|b| *b != 255).map_or(0, |i| i + 1)
 }
 
 // How many bytes were written, or the number of the refusal, and how far the output has changed.
-fn print_said(output: &mut impl Write, said: Written, out: &[u8]) -> io::Result<()> {
+fn print_said(output: &mut impl Write, said: Result<usize, Refusal>, out: &[u8]) -> io::Result<()> {
     match said {
-        Written::Wrote(n) => print_number(output, n)?,
-        Written::Refused(r) => print_refusal(output, r)?,
+        Ok(n) => print_number(output, n)?,
+        Err(r) => print_refusal(output, r)?,
     }
     print_number(output, changed(out))
 }
 
 // The first bytes of an extension that was written. How many there are says nothing of its type, nor of
 // the lengths that it states.
-fn print_front(output: &mut impl Write, said: Written, out: &[u8]) -> io::Result<()> {
-    if let Written::Wrote(n) = said {
+fn print_front(
+    output: &mut impl Write,
+    said: Result<usize, Refusal>,
+    out: &[u8],
+) -> io::Result<()> {
+    if let Ok(n) = said {
         lines::text(output, b" ")?;
         lines::hex(output, lines::part(lines::part(out, 0, n), 0, 8))?;
     }
@@ -265,7 +225,11 @@ fn print_front(output: &mut impl Write, said: Written, out: &[u8]) -> io::Result
 }
 
 // A ClientHello's writer, for fields of 07s whose sizes come from the input.
-fn try_client(input: &mut impl Read, block: &[u8], out: &mut [u8]) -> io::Result<Written> {
+fn try_client(
+    input: &mut impl Read,
+    block: &[u8],
+    out: &mut [u8],
+) -> io::Result<Result<usize, Refusal>> {
     let bytes = [7u8; 16400];
     let version = lines::number24(input)?;
     let present = lines::byte(input)? == 1;
@@ -286,7 +250,11 @@ fn try_client(input: &mut impl Read, block: &[u8], out: &mut [u8]) -> io::Result
 }
 
 // A ServerHello's writer, for a random of 07s and no session id.
-fn try_server(input: &mut impl Read, block: &[u8], out: &mut [u8]) -> io::Result<Written> {
+fn try_server(
+    input: &mut impl Read,
+    block: &[u8],
+    out: &mut [u8],
+) -> io::Result<Result<usize, Refusal>> {
     let suite = lines::number24(input)?;
     let present = lines::byte(input)? == 1;
     Ok(hellos::server_hello::write(771, &[7u8; 32], &[], suite, 0, present, block, out))
@@ -295,7 +263,7 @@ fn try_server(input: &mut impl Read, block: &[u8], out: &mut [u8]) -> io::Result
 // What a writer answers, for one field, or a block and what else a hello takes: 2 and 3 stand for the
 // hellos, 5 for an extension, whose type follows, 35 for a SessionTicket extension, any other number for its
 // message's type.
-fn answer(input: &mut impl Read, kind: u8, out: &mut [u8]) -> io::Result<Written> {
+fn answer(input: &mut impl Read, kind: u8, out: &mut [u8]) -> io::Result<Result<usize, Refusal>> {
     let mut buffer = lines::buffer();
     let size = lines::field(input, &mut buffer)?;
     let field = lines::part(&buffer, 0, size);

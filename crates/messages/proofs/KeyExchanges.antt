@@ -5,10 +5,10 @@ use Prim.Native.Nat.{ℕ, ◌≤◌}
 use native.Mathlib.Omega.{arith}
 use mathlib.Core.Bool.{true}
 use mathlib.Core.List.{List}
-use mathlib.Core.Option.{some}
 use lib.ListN.{length, take, drop}
 use lib.Seq.{take-length}
 use borrow.Author.Tests.{eq-eqb, lt-ltb, ltb-true}
+use Rattle.std.specs.Prelude.{Some}
 use Rattle.endian.specs.Number.{Bytes}
 use Rattle.endian.specs.Vector.{vector, stated}
 use Rattle.endian.proofs.Numbers.{number-be-lt}
@@ -27,7 +27,7 @@ vector-valid kind xs few = valid-within (vector_message kind) xs (lt-ltb (length
 pub vector-inverse : (kind : ℕ) → Inverse (vector_message kind) (read_vector kind)
 vector-inverse kind = record { reads-written = there; writes-read = back }
   where
-    there : (xs : List ℕ) → valid (vector_message kind) xs ≡ true → read_vector kind (bytes (vector_message kind) xs) ≡ some xs
+    there : (xs : List ℕ) → valid (vector_message kind) xs ≡ true → read_vector kind (bytes (vector_message kind) xs) ≡ Some xs
     there xs h =
         let m : List ℕ = bytes (vector_message kind) xs in
         let ok = valid-parts (vector_message kind) xs h in
@@ -35,7 +35,7 @@ vector-inverse kind = record { reads-written = there; writes-read = back }
         let fills : end_at 2 m 4 ≡ length m = omega arith in
         rw (header-message kind (vector 2 xs) ok.1, eq-eqb (end_at 2 m 4) (length m) fills, says, take-length)
 
-    back : (m xs : List ℕ) → Bytes m → read_vector kind m ≡ some xs → (valid (vector_message kind) xs ≡ true) × (m ≡ bytes (vector_message kind) xs)
+    back : (m xs : List ℕ) → Bytes m → read_vector kind m ≡ Some xs → (valid (vector_message kind) xs ≡ true) × (m ≡ bytes (vector_message kind) xs)
     back m xs b e =
         let place = contents-at m (vector_place kind m) xs e in
         let s : ℕ = place.0 in

@@ -5,34 +5,34 @@ use Prim.Native.Nat.{ℕ, ◌^◌, ◌<◌}
 use native.Mathlib.Omega.{arith}
 use mathlib.Core.Bool.{true, and-eq-true_iff}
 use mathlib.Core.List.{List, ◌++◌}
-use mathlib.Core.Option.{some, none-ne-some}
 use lib.ListN.{length, take, drop, length-drop, take-append-drop}
 use lib.Seq.{take-length, drop-drop, length-take-le}
 use lib.Dec.{ltb}
 use borrow.Author.Tests.{eq-eqb, ltb-true, lt-ltb}
+use Rattle.std.proofs.lemmas.Option.{none-some, same_Some}
+use Rattle.std.specs.Prelude.{Some, Option, None}
 use Rattle.endian.specs.Number.{Bytes, be, number}
 use Rattle.endian.specs.Vector.{vector, writable, stated}
 use Rattle.endian.proofs.Numbers.{number-be-lt, number_lt, be-number-at, bytes_take, bytes_drop}
 use Rattle.layout.specs.declared.Part.{Part}
-use Rattle.layout.specs.declared.Part.TheVariants.{At, Refused}
 use Rattle.layout.specs.Layout.{bytes, valid, Inverse}
 use Rattle.layout.specs.Header.{header}
-use Rattle.layout.specs.Place.{end_at, last_at, after_header}
+use Rattle.layout.specs.Place.{standing, end_at, last_at, after_header}
 use Rattle.messages.specs.NewSessionTicket.{NewSessionTicket, new_session_ticket, with_hint, ticket_fields, read_ticket}
 use Rattle.layout.proofs.Layouts.{valid-within, valid-parts}
 use Rattle.layout.proofs.Places.{last-there, after-header, vector-last}
 use Rattle.layout.proofs.Headers.{header-message, header_read}
 
 -- what the fields say of the place
-hint-at : (m : List ℕ) (p : Part) (f : NewSessionTicket) → ticket_fields m (with_hint m p) ≡ some f
-    → (s : ℕ) × (n : ℕ) × (p ≡ At s n) × (f ≡ record { lifetime_hint = number (take 4 (drop 4 m)); ticket = take n (drop s m) })
-hint-at m (At s n) f e = (s, n, refl, cc)
-hint-at m Refused f e = absurd (none-ne-some f e)
+hint-at : (m : List ℕ) (p : Option Part) (f : NewSessionTicket) → ticket_fields m (with_hint m p) ≡ Some f
+    → (s : ℕ) × (n : ℕ) × (p ≡ standing s n) × (f ≡ record { lifetime_hint = number (take 4 (drop 4 m)); ticket = take n (drop s m) })
+hint-at m (Some p) f e = (p.start, p.len, refl, sym (same_Some _ _ e))
+hint-at m None f e = absurd (none-some f e)
 
 pub ticket-inverse : Inverse new_session_ticket read_ticket
 ticket-inverse = record { reads-written = there; writes-read = back }
   where
-    there : (f : NewSessionTicket) → valid new_session_ticket f ≡ true → read_ticket (bytes new_session_ticket f) ≡ some f
+    there : (f : NewSessionTicket) → valid new_session_ticket f ≡ true → read_ticket (bytes new_session_ticket f) ≡ Some f
     there f h =
         let m : List ℕ = bytes new_session_ticket f in
         let ok = valid-parts new_session_ticket f h in
@@ -42,7 +42,7 @@ ticket-inverse = record { reads-written = there; writes-read = back }
         let fills : end_at 2 m 8 ≡ length m = omega arith in
         rw (header-message 4 (new_session_ticket.body f) ok.1, eq-eqb (end_at 2 m 8) (length m) fills, says, take-length, hint)
 
-    back : (m : List ℕ) (f : NewSessionTicket) → Bytes m → read_ticket m ≡ some f → (valid new_session_ticket f ≡ true) × (m ≡ bytes new_session_ticket f)
+    back : (m : List ℕ) (f : NewSessionTicket) → Bytes m → read_ticket m ≡ Some f → (valid new_session_ticket f ≡ true) × (m ≡ bytes new_session_ticket f)
     back m f b e =
         let place = hint-at m (after_header (header 4 m) (last_at 2 m 8)) f e in
         let s : ℕ = place.0 in

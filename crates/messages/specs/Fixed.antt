@@ -1,6 +1,5 @@
 -- Messages whose body has a fixed length: ServerHelloDone (RFC 5246, section 7.4.5: no body) and Finished (section 7.4.9: verify_data, 12 bytes).
-use Rattle.std.specs.Prelude.{ℕ, List, length, eqb}
-use Rattle.std.proofs.Math.Option.{Option}
+use Rattle.std.specs.Prelude.{ℕ, List, length, eqb, Option}
 use Rattle.layout.specs.declared.Part.{Part}
 use Rattle.layout.specs.Types.{server_hello_done_type, finished_type}
 use Rattle.layout.specs.Layout.{Layout}
@@ -21,7 +20,7 @@ verify_data_size = 12
 abbrev pub finished : Layout (List ℕ)
 finished = fixed_message finished_type verify_data_size
 
-abbrev pub fixed_place : ℕ → ℕ → List ℕ → Part
+abbrev pub fixed_place : ℕ → ℕ → List ℕ → Option Part
 fixed_place kind n m = after_header (header kind m) (filled_by n m)
 
 -- the fields that a reader finds

@@ -1,6 +1,5 @@
 -- NewSessionTicket (document 01, "Message layouts"; the ticket draft, section 3.3): lifetime hint 4 bytes, ticket with 2-byte length.
-use Rattle.std.specs.Prelude.{ℕ, ◌^◌, ◌&&◌, List, ◌++◌, take, drop, ltb}
-use Rattle.std.proofs.Math.Option.{Option, none, some}
+use Rattle.std.specs.Prelude.{ℕ, ◌^◌, ◌&&◌, List, ◌++◌, take, drop, ltb, Option, None, Some}
 use Rattle.endian.specs.Number.{be, number}
 use Rattle.endian.specs.Vector.{vector, writable}
 use Rattle.layout.specs.declared.Part.{Part}
@@ -22,17 +21,17 @@ new_session_ticket = record {
 }
 
 -- where the ticket stands, with the lifetime hint
-abbrev pub with_hint : List ℕ → Part → Ticket
-with_hint m (Part.At start len) = Ticket.Read (number (take 4 (drop 4 m))) start len
-with_hint m Part.Refused = Ticket.Refused
+abbrev pub with_hint : List ℕ → Option Part → Option Ticket
+with_hint m (Some p) = Some (record { lifetime_hint = number (take 4 (drop 4 m)); ticket = p })
+with_hint m None = None
 
-abbrev pub ticket_place : List ℕ → Ticket
+abbrev pub ticket_place : List ℕ → Option Ticket
 ticket_place m = with_hint m (after_header (header new_session_ticket_type m) (last_at 2 m 8))
 
 -- the fields that a reader finds
-abbrev pub ticket_fields : List ℕ → Ticket → Option NewSessionTicket
-ticket_fields m (Ticket.Read hint start len) = some (record { lifetime_hint = hint; ticket = take len (drop start m) })
-ticket_fields m Ticket.Refused = none
+abbrev pub ticket_fields : List ℕ → Option Ticket → Option NewSessionTicket
+ticket_fields m (Some t) = Some (record { lifetime_hint = t.lifetime_hint; ticket = take t.ticket.len (drop t.ticket.start m) })
+ticket_fields m None = None
 
 abbrev pub read_ticket : List ℕ → Option NewSessionTicket
 read_ticket m = ticket_fields m (ticket_place m)

@@ -5,45 +5,36 @@ ghost use Rattle.layout.specs.Layout.{written};
 ghost use Rattle.messages.specs.NewSessionTicket.{new_session_ticket, ticket_place};
 
 use layout::{Part, place, put, types};
-use refusal::{Refusal, Written};
+use refusal::Refusal;
 
-// What a NewSessionTicket holds, and where its ticket stands.
-#[derive(Drop)]
-pub enum Ticket {
-    Read {
-        lifetime_hint: u32,
-        start: usize,
-        len: usize,
-    },
-    Refused,
+// What a NewSessionTicket holds: the lifetime hint, and where its ticket stands.
+#[derive(Clone, Copy)]
+pub struct Ticket {
+    pub lifetime_hint: u32,
+    pub ticket: Part,
 }
 
-pub fn read(message: &[u8]) -> Ticket
+pub fn read(message: &[u8]) -> Option<Ticket>
     ensures { result ≡ ticket_place message.now }
 {
-    match place::last16_of(types::NEW_SESSION_TICKET, message, 8) {
-        Part::At { start, len } => {
-            let lifetime_hint = endian::number32(message[4], message[5], message[6], message[7]);
-            Ticket::Read {
-                lifetime_hint,
-                start,
-                len,
-            }
-        }
-        Part::Refused => Ticket::Refused,
-    }
+    let ticket = place::last16_of(types::NEW_SESSION_TICKET, message, 8)?;
+    let lifetime_hint = endian::number32(message[4], message[5], message[6], message[7]);
+    Some(Ticket {
+        lifetime_hint,
+        ticket,
+    })
 }
 
-pub fn write(lifetime_hint: u32, ticket: &[u8], out: &mut [u8]) -> Written
+pub fn write(lifetime_hint: u32, ticket: &[u8], out: &mut [u8]) -> Result<usize, Refusal>
     ensures { Answers (written new_session_ticket (record { lifetime_hint = lifetime_hint; ticket = ticket.now })) out.old result out.new }
 {
     let n = ticket.len();
     if 16374 < n {
-        return Written::Refused(Refusal::BadValue);
+        return Err(Refusal::BadValue);
     }
-    let body = endian::bytes24(n + 6);
-    let hint = endian::bytes32(lifetime_hint);
-    let size = endian::bytes16(n);
+    let body = endian::bytes::<3>((n + 6) as u64);
+    let hint = endian::bytes::<4>(u64::from(lifetime_hint));
+    let size = endian::bytes::<2>(n as u64);
     let head = [
         types::NEW_SESSION_TICKET,
         body[0],

@@ -7,10 +7,9 @@ use mathlib.Core.List.{List, []}
 use lib.ListN.{length}
 use lib.Dec.{eqb}
 use borrow.Author.Tests.{eqb-true}
+use Rattle.std.specs.Prelude.{Result, Ok, Err, None}
+use Rattle.refusal.specs.declared.Refusal.{Refusal}
 use Rattle.refusal.specs.declared.Refusal.TheVariants.{DecodeError}
-use Rattle.refusal.specs.declared.Written.{Written}
-use Rattle.refusal.specs.declared.Written.TheVariants.{Wrote, Refused}
-use Rattle.layout.specs.declared.Verdict.{Verdict}
 use Rattle.server.specs.declared.Phase.{Phase}
 use Rattle.server.specs.declared.Phase.TheVariants.{Hello, KeyExchange, Change, Finished, Complete, Closed}
 use Rattle.server.specs.declared.Connection.{Connection}
@@ -19,7 +18,6 @@ use Rattle.server.specs.Step as Server
 use Rattle.server.specs.Change.{change_step}
 use Rattle.records.specs.declared.ContentType.{ContentType}
 use Rattle.record_server.specs.declared.RecordConnection.{RecordConnection}
-use Rattle.record_server.specs.declared.Data.{Data}
 use Rattle.record_server.specs.declared.taking.Decided.{Decided}
 use Rattle.record_server.specs.Taking.{Step, refuse, silently, changed, changed_by, content_test}
 use Rattle.record_server.specs.InnerTaking.{Decides}
@@ -30,9 +28,9 @@ same_step e h = rw e h
 
 -- ---- a change of cipher, by what the server's call said of it
 
-abbrev change_said : RecordConnection → List ℕ → Written → Connection → Step
-change_said c held (Wrote n) next = silently (changed c next) held Data.Nothing
-change_said c held (Refused r) next = refuse r
+abbrev change_said : RecordConnection → List ℕ → Result ℕ Refusal → Connection → Step
+change_said c held (Ok n) next = silently (changed c next) held None
+change_said c held (Err r) next = refuse r
 
 pub change-said : (c : RecordConnection) (held : List ℕ) (h : Connection) (p : Phase) {a : Answer}
     → a ≡ Server.answered (Server.settled h [] (change_step h p)) → changed_by c held (change_step h p) ≡ change_said c held a.said a.next
@@ -46,9 +44,9 @@ change-said c held h Closed e = rw e
 -- ---- an alert that met its test
 
 pub two_bytes : {kind : ContentType} (complete amid : Bool) (content : List ℕ) → kind ≡ ContentType.Alert
-    → content_test kind complete amid content ≡ Verdict.Accepted → length content ≡ 2
+    → content_test kind complete amid content ≡ Ok tt → length content ≡ 2
 two_bytes complete amid content k e = go (eqb (length content) 2) refl (rw k at e)
   where
-    go : (t : Bool) → eqb (length content) 2 ≡ t → cond t Verdict.Accepted (Verdict.Refused DecodeError) ≡ Verdict.Accepted → length content ≡ 2
+    go : (t : Bool) → eqb (length content) 2 ≡ t → cond {A = Result Unit Refusal} t (Ok tt) (Err DecodeError) ≡ Ok tt → length content ≡ 2
     go true right f = eqb-true (length content) 2 right
     go false other f = cc

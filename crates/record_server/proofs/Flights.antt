@@ -7,9 +7,10 @@ use mathlib.Core.Bool.{true, false}
 use mathlib.Core.List.{List, [], ◌∷◌, ◌++◌, append_assoc, append-nil}
 use lib.ListN.{length, take, drop, length-append, length-drop}
 use lib.Seq.{length-take-le}
+use Rattle.std.specs.Prelude.{Result}
+use Rattle.refusal.specs.declared.Refusal.{Refusal}
 use Rattle.lists.specs.Lists.{part}
 use Rattle.lists.proofs.Parts.{rest, part_to_end, length_part}
-use Rattle.refusal.specs.declared.Written.{Written}
 use Rattle.refusal.specs.Lent.{Answers}
 use Rattle.layout.proofs.Puts.{front, put-behind}
 use Rattle.handshake.specs.declared.Outgoing.{Outgoing}
@@ -104,7 +105,7 @@ module _ {o : Outgoing} {s : State} {p : ℕ} {out mid : List ℕ} {first : Put}
       }
 
   -- the change of cipher, and something behind it
-  module _ {said : Written} {back : List ℕ}
+  module _ {said : Result ℕ Refusal} {back : List ℕ}
       (a : Answers (sealing first.writing ContentType.ChangeCipherSpec (1 ∷ [])) (rest mid first.len) said back) {k : ℕ}
       (e : k ≡ Flight.counted said) where
     size : k ≡ length (change_record first.writing)

@@ -10,10 +10,11 @@ use lib.ListN.{length, take, drop, length-append, length-take}
 use lib.Seq.{length-take-le}
 use lib.Dec.{leb}
 use borrow.Author.Tests.{le-leb, lt-leb}
+use Rattle.std.specs.Prelude.{Option, None, Some}
 use Rattle.lists.specs.Lists.{part}
 use Rattle.lists.proofs.Parts.{length_part}
 use Rattle.records.specs.Joining.{unfinished, held_in}
-use Rattle.record_server.specs.declared.taking.Keep.{Keep}
+use Rattle.record_server.specs.declared.taking.Put.{Put}
 use Rattle.record_server.specs.InnerTaking.{held_by, Within, room_for}
 
 -- the first bytes of a list stand at its front
@@ -55,8 +56,8 @@ room-behind at len room inside = elim (dec_le (at + len) room) [
   | no h ↦ rw (lt-leb (at + len) room (omega arith), lt-leb len (room - at) (omega arith))
 ]
 
-pub held-room : (keep : Keep) (memory held bytes : List ℕ) → Within keep memory bytes → held ++ drop (length held) memory ≡ memory
+pub held-room : (keep : Option Put) (memory held bytes : List ℕ) → Within keep memory bytes → held ++ drop (length held) memory ≡ memory
     → room_for keep (length memory) ≡ leb (length (held_by keep memory held bytes)) (length memory)
-held-room Keep.Same memory held bytes within h = sym (le-leb (length held) (length memory) (omega (arith, simp length-append at (ap length h))))
-held-room (Keep.Put at from len) memory held bytes within h =
-    rw (length-append (take at memory) (part from len bytes), length-take-le at memory within.0, length_part bytes from len within.1)
+held-room None memory held bytes within h = sym (le-leb (length held) (length memory) (omega (arith, simp length-append at (ap length h))))
+held-room (Some k) memory held bytes within h =
+    rw (length-append (take k.at memory) (part k.from k.len bytes), length-take-le k.at memory within.0, length_part bytes k.from k.len within.1)

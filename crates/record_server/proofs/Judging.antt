@@ -8,8 +8,9 @@ use mathlib.Core.List.{List, [], ◌∷◌}
 use lib.ListN.{length, length-drop, take}
 use lib.Dec.{ltb}
 use borrow.Author.Tests.{ltb-false, lt-ltb, le-ltb}
+use Rattle.std.specs.Prelude.{Result, Ok, Err}
+use Rattle.refusal.specs.declared.Refusal.{Refusal}
 use Rattle.refusal.specs.declared.Refusal.TheVariants.{UnexpectedMessage}
-use Rattle.layout.specs.declared.Verdict.{Verdict}
 use Rattle.handshake.specs.Header.{early_test}
 use Rattle.handshake.specs.Step as Shared
 use Rattle.server.specs.KeyExchange.{View}
@@ -25,9 +26,9 @@ same_cond : (t : Bool) (a : Judged) {b d : Judged} → (t ≡ false → b ≡ d)
 same_cond true a e = refl
 same_cond false a e = e refl
 
-same-early : (t : Verdict) {a b : Judged} → a ≡ b → after_early t a ≡ after_early t b
-same-early Verdict.Accepted e = e
-same-early (Verdict.Refused r) e = refl
+same-early : (t : Result Unit Refusal) {a b : Judged} → a ≡ b → after_early t a ≡ after_early t b
+same-early (Ok tt) e = e
+same-early (Err r) e = refl
 
 pub is-empty : (l : List ℕ) → length l ≡ 0 → is_empty l ≡ true
 is-empty [] e = refl
@@ -85,8 +86,8 @@ module _ (v : View) where
       pub left-few : length p.left < 4 → judge_left v p ≡ goes_on p
       left-few few = judge-left p ∙ rw (awaits, lt-ltb (length p.left) 4 few)
 
-      pub left-early : 4 ≤ length p.left → {verdict : Verdict} → early_test (awaited p.connection.phase) p.left ≡ verdict
+      pub left-early : 4 ≤ length p.left → {verdict : Result Unit Refusal} → early_test (awaited p.connection.phase) p.left ≡ verdict
           → judge_left v p ≡ after_early verdict (where_whole v (judge_left v) p (message_end p.left))
       left-early some e =
           judge-left p ∙ rw (awaits, le-ltb (length p.left) 4 some)
-          (ap (λ (t : Verdict). after_early t (where_whole v (judge_left v) p (message_end p.left))) e)
+          (ap (λ (t : Result Unit Refusal). after_early t (where_whole v (judge_left v) p (message_end p.left))) e)

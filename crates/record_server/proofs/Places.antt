@@ -5,15 +5,14 @@ use Prim.Native.Nat.{ℕ, ◌+◌, ◌-◌, ◌≤◌}
 use native.Mathlib.Omega.{arith}
 use mathlib.Core.Bool.{Bool, true, false, cond}
 use mathlib.Core.List.{List, [], ◌∷◌, ◌++◌}
-use mathlib.Core.Option.{Option, none, some}
 use lib.ListN.{length, get_or, take, drop, length-append, length-drop}
 use lib.Seq.{take-take, take-append-le, drop-append-le, take-append-add, drop-append-add, take_at}
 use lib.Dec.{ltb, leb, eqb}
 use borrow.Author.Tests.{ltb-true, ltb-false, leb-true}
+use Rattle.std.specs.Prelude.{Result, Ok, Err, Option, None, Some}
+use Rattle.refusal.specs.declared.Refusal.{Refusal}
 use Rattle.lists.specs.Lists.{part}
 use Rattle.refusal.specs.declared.Refusal.TheVariants.{DecodeError, UnexpectedMessage}
-use Rattle.layout.specs.declared.Verdict.{Verdict}
-use Rattle.layout.specs.declared.Verdict.TheVariants.{Accepted}
 use Rattle.layout.specs.Types.{message_limit}
 use borrow.Rule.Slice.PartMut.{put_mid}
 use Rattle.layout.proofs.Puts.{front, copy-in-front, put-behind}
@@ -26,17 +25,17 @@ header-end [] = refl
 header-end (b ∷ l) = rw (take-take 3 3 l (omega arith))
 
 pub header-test : (kind : Option ℕ) (l : List ℕ) → early_test kind (take 4 l) ≡ early_test kind l
-header-test none l = refl
-header-test (some kind) [] = refl
-header-test (some kind) (b ∷ l) = rw (take-take 3 3 l (omega arith))
+header-test None l = refl
+header-test (Some kind) [] = refl
+header-test (Some kind) (b ∷ l) = rw (take-take 3 3 l (omega arith))
 
 -- a header that passes is that of a message within the limit
-pub within-limit : (kind : Option ℕ) (l : List ℕ) → early_test kind l ≡ Accepted → message_end l ≤ message_limit
-within-limit none l e = let z : ◌≡◌ {A = ℕ} 0 1 = cc in absurd (omega arith)
-within-limit (some kind) l e = go (eqb (get_or l 0 0) kind) (leb (message_end l) message_limit) refl e
+pub within-limit : (kind : Option ℕ) (l : List ℕ) → early_test kind l ≡ Ok tt → message_end l ≤ message_limit
+within-limit None l e = let z : ◌≡◌ {A = ℕ} 0 1 = cc in absurd (omega arith)
+within-limit (Some kind) l e = go (eqb (get_or l 0 0) kind) (leb (message_end l) message_limit) refl e
   where
     go : (right small : Bool) → leb (message_end l) message_limit ≡ small
-        → cond right (cond small Accepted (Verdict.Refused DecodeError)) (Verdict.Refused UnexpectedMessage) ≡ Accepted → message_end l ≤ message_limit
+        → cond {A = Result Unit Refusal} right (cond small (Ok tt) (Err DecodeError)) (Err UnexpectedMessage) ≡ Ok tt → message_end l ≤ message_limit
     go true true h e = leb-true _ _ h
     go true false h e = let z : ◌≡◌ {A = ℕ} 0 1 = cc in absurd (omega arith)
     go false small h e = let z : ◌≡◌ {A = ℕ} 0 1 = cc in absurd (omega arith)

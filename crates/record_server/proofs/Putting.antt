@@ -4,15 +4,17 @@ use mathlib.Core.Path.{◌≡◌, refl, sym, ap, ◌∙◌}
 use Prim.Native.Nat.{ℕ, zero, suc, ◌+◌, ◌-◌, ◌*◌, ◌≤◌, ◌<◌}
 use native.Mathlib.Nat.{min-le_left}
 use native.Mathlib.Omega.{arith}
-use mathlib.Core.Bool.{Bool, true, false, cond, true≢false}
+use mathlib.Core.Bool.{Bool, true, false, cond, not, ◌||◌, true≢false}
 use mathlib.Core.List.{List, [], ◌∷◌, ◌++◌, append_assoc, append-nil}
 use lib.ListN.{length, take, drop, length-append, length-take, length-drop, take-append-drop, drop_of_length-le}
 use lib.Seq.{length-take-le, take_at, drop_at, drop-drop}
 use lib.Dec.{leb, eqb}
+use Rattle.std.specs.List.{list_any}
 use borrow.Author.Tests.{eq-eqb, ne_eqb, le-leb, leb-true}
+use Rattle.std.specs.Prelude.{Result}
+use Rattle.refusal.specs.declared.Refusal.{Refusal}
 use Rattle.lists.specs.Lists.{part}
 use Rattle.lists.proofs.Parts.{rest, length_part}
-use Rattle.refusal.specs.declared.Written.{Written}
 use Rattle.refusal.specs.declared.Refusal.TheVariants.{ShortOutput}
 use Rattle.refusal.specs.Lent.{Outcome, gives, refuses, within, answer, Answers}
 use Rattle.refusal.proofs.Laws.{answer-in-front}
@@ -33,13 +35,11 @@ total-parts zero ns = omega arith
 total-parts (suc p) [] = refl
 total-parts (suc p) (n ∷ ns) = omega (arith, total-parts p ns)
 
--- some message is there or not, as far as i
-module _ (ns : List ℕ) (i : ℕ) {n : ℕ} (was : some_message ns ≡ some_message (drop i ns)) (here : drop i ns ≡ n ∷ drop (i + 1) ns) where
-  pub some-skip : n ≡ 0 → some_message ns ≡ some_message (drop (i + 1) ns)
-  some-skip e = was ∙ ap some_message here ∙ rw (eq-eqb n 0 e)
-
-  pub some-here : (n ≡ 0 → ⊥) → true ≡ some_message ns
-  some-here e = sym (was ∙ ap some_message here ∙ rw (ne_eqb n 0 e))
+-- a length that isn't 0 is a message's
+pub some-any : (ns : List ℕ) → list_any (λ n. not (eqb n 0)) ns ≡ some_message ns
+some-any [] = refl
+some-any (n ∷ ns) =
+    elim (eqb n 0) as (λ t. (not t || list_any (λ m. not (eqb m 0)) ns) ≡ cond t (some_message ns) true) [ true ↦ some-any ns | false ↦ refl ]
 
 pub cut-none : (ns b : List ℕ) → some_message ns ≡ false → cut ns b ≡ []
 cut-none [] b e = refl
@@ -82,7 +82,7 @@ records-short s (n ∷ ns) b = go (eqb n 0) (records-short s ns b) (records-shor
 -- ---- a record that is put behind others
 
 -- no more is written than there is room
-pub counted-within : (o : Outcome) {out left : List ℕ} {said : Written} → Answers o out said left → Flight.counted said ≤ length out
+pub counted-within : (o : Outcome) {out left : List ℕ} {said : Result ℕ Refusal} → Answers o out said left → Flight.counted said ≤ length out
 counted-within o {out} a = rw a.told (go o)
   where
     tested : (bytes : List ℕ) (t : Bool) → leb (length bytes) (length out) ≡ t
@@ -104,7 +104,7 @@ put_back out at back = take at out ++ (back ++ drop (length out - at) (drop at o
 
 -- content that a record holds, and room for it: what was written, and what stands there then
 module _ (w : State) (kind : ContentType) (content bs out₀ out : List ℕ) (len : ℕ) (e : out ≡ front bs out₀) (size : length bs ≡ len)
-    (few : length content ≤ 180) (room : len + (length content + 37) ≤ length out) {said : Written} {back : List ℕ}
+    (few : length content ≤ 180) (room : len + (length content + 37) ≤ length out) {said : Result ℕ Refusal} {back : List ℕ}
     (a : Answers (sealing w kind content) (rest out len) said back) where
   long : length (sealed w kind content) ≤ length (rest out len)
   long = omega (arith, length-sealed w kind content, few-added w, length_part out len (length out - len) (omega arith))
@@ -160,7 +160,7 @@ module _ {s w : State} {ns b out₀ out : List ℕ} {len used i : ℕ} (was : Be
           room = omega (arith, sum);
         }
 
-    pub next : {w' : State} {out' back : List ℕ} {said : Written} {len' used' : ℕ} → (n ≡ 0 → ⊥) → total ns ≤ length b → total ns ≤ 180
+    pub next : {w' : State} {out' back : List ℕ} {said : Result ℕ Refusal} {len' used' : ℕ} → (n ≡ 0 → ⊥) → total ns ≤ length b → total ns ≤ 180
         → Answers (sealing w ContentType.Handshake (part used (used + n - used) b)) (rest out len) said back
         → out' ≡ put_back out len back → w' ≡ counted w → len' ≡ len + Flight.counted said
         → used' ≡ used + n → Begun s ns b out₀ out' w' len' used' (i + 1)

@@ -6,15 +6,13 @@ use mathlib.Core.Bool.{Bool, true, false, cond}
 use mathlib.Core.List.{List}
 use lib.ListN.{length}
 use lib.Dec.{eqb, leb}
+use Rattle.std.specs.Prelude.{Result, Ok, Err}
 use Rattle.refusal.specs.declared.Refusal.{Refusal}
 use Rattle.refusal.specs.declared.Refusal.TheVariants.{ShortOutput, ConnectionOver, BadValue, SequenceSpent}
-use Rattle.refusal.specs.declared.Written.{Written}
 use Rattle.refusal.specs.Table.{to_peer, number_of}
-use Rattle.refusal.specs.declared.Written.TheVariants.{Refused}
 use Rattle.refusal.specs.Lent.{Outcome, gives, refuses, within, answer, Answers}
 use Rattle.refusal.proofs.Laws.{refuses-answers}
 use Rattle.refusal.proofs.Effects.{by-receiver}
-use Rattle.layout.specs.declared.Verdict.{Verdict}
 use Rattle.records.specs.declared.ContentType.{ContentType}
 use Rattle.records.specs.declared.State.{State}
 use Rattle.records.specs.Record.{content_limit}
@@ -58,31 +56,31 @@ module _ (c next : RecordConnection) where
   settled-by (refuses r) h = rw (alerts-close r c, h)
 
   -- where `o` is what was wanted: the answer and the lent memory are those of the definition
-  pub settles : {wanted : Outcome} (o : Outcome) {out left : List ℕ} {said : Written} {a : Answer} → wanted ≡ o → ForHost o → Answers o out said left
+  pub settles : {wanted : Outcome} (o : Outcome) {out left : List ℕ} {said : Result ℕ Refusal} {a : Answer} → wanted ≡ o → ForHost o → Answers o out said left
       → a ≡ settled_by c next said → (a ≡ answered (settled c next out wanted)) × (left ≡ (settled c next out wanted).out)
   settles o {out} e h w s = rw e (s ∙ rw w.told (settled-by (within (length out) o) (within-host (length out) o h)), w.left)
 
   -- a record's sealing is refused for the host alone
-  pub seal-settles : (s : State) (kind : ContentType) (content : List ℕ) {wanted : Outcome} {out left : List ℕ} {said : Written} {a : Answer}
+  pub seal-settles : (s : State) (kind : ContentType) (content : List ℕ) {wanted : Outcome} {out left : List ℕ} {said : Result ℕ Refusal} {a : Answer}
       → wanted ≡ sealing s kind content → Answers (sealing s kind content) out said left → a ≡ settled_by c next said
       → (a ≡ answered (settled c next out wanted)) × (left ≡ (settled c next out wanted).out)
   seal-settles s kind content e w = settles (sealing s kind content) e (sealing-host s kind content) w
 
 -- ---- R4 and R9
 
-module _ (c : RecordConnection) {told : Verdict} (e : told ≡ over_test c.handshake.phase c.writing.sequence) (wanted : Outcome) where
-  pub not-over : told ≡ Verdict.Accepted → unless_over c wanted ≡ wanted
-  not-over accepted = ap (λ (v : Verdict). after_over v wanted) (sym e ∙ accepted)
+module _ (c : RecordConnection) {told : Result Unit Refusal} (e : told ≡ over_test c.handshake.phase c.writing.sequence) (wanted : Outcome) where
+  pub not-over : told ≡ Ok tt → unless_over c wanted ≡ wanted
+  not-over accepted = ap (λ (v : Result Unit Refusal). after_over v wanted) (sym e ∙ accepted)
 
   over-host : (t u : Bool) {r : Refusal}
-      → cond t (Verdict.Refused ConnectionOver) (cond u (Verdict.Refused SequenceSpent) Verdict.Accepted) ≡ Verdict.Refused r → to_peer r ≡ false
+      → cond {A = Result Unit Refusal} t (Err ConnectionOver) (cond u (Err SequenceSpent) (Ok tt)) ≡ Err r → to_peer r ≡ false
   over-host true u {r} f = let same : r ≡ ConnectionOver = cc in rw same
   over-host false true {r} f = let same : r ≡ SequenceSpent = cc in rw same
   over-host false false f = cc
 
-  pub over-settles : (next : RecordConnection) {r : Refusal} {out : List ℕ} {a : Answer} → told ≡ Verdict.Refused r → a ≡ settled_by c next (Refused r)
+  pub over-settles : (next : RecordConnection) {r : Refusal} {out : List ℕ} {a : Answer} → told ≡ Err r → a ≡ settled_by c next (Err r)
       → (a ≡ answered (settled c next out (unless_over c wanted))) × (out ≡ (settled c next out (unless_over c wanted)).out)
   over-settles next {r} {out} refused s =
       let f = sym e ∙ refused in
-      settles c next (refuses r) (ap (λ (v : Verdict). after_over v wanted) f)
+      settles c next (refuses r) (ap (λ (v : Result Unit Refusal). after_over v wanted) f)
       (over-host (is_closed c.handshake.phase) (eqb c.writing.sequence last_sequence) f) (refuses-answers r out) s

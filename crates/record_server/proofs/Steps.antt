@@ -3,11 +3,10 @@
 use Prim.Native.Nat.{ℕ}
 use mathlib.Core.Bool.{Bool, true, false, cond, not, ◌&&◌}
 use mathlib.Core.List.{List}
-use mathlib.Core.Option.{Option, none, some}
 use lib.Dec.{ltb}
+use Rattle.std.specs.Prelude.{Result, Ok, Err, Option, None, Some}
 use Rattle.refusal.specs.declared.Refusal.{Refusal}
 use Rattle.refusal.specs.Lent.{Outcome, gives, refuses}
-use Rattle.layout.specs.declared.Verdict.{Verdict}
 use Rattle.layout.specs.Place.{last_at, filled_by, contents}
 use Rattle.hellos.specs.ClientHello.{ClientHello, client_body, client_fields}
 use Rattle.keys.specs.declared.Side.TheVariants.{Client, Server}
@@ -39,21 +38,21 @@ either : (t : Bool) {a b : Step} {phase : Phase} → After a phase → After b p
 either true p q = p
 either false p q = q
 
-behind-tests : (t : Verdict) {step : Step} {phase : Phase} → After step phase → After (after_tests t step) phase
-behind-tests Verdict.Accepted p = p
-behind-tests (Verdict.Refused r) p = nowhere
+behind-tests : (t : Result Unit Refusal) {step : Step} {phase : Phase} → After step phase → After (after_tests t step) phase
+behind-tests (Ok tt) p = p
+behind-tests (Err r) p = nowhere
 
 unless-refused : (r : Option Refusal) {step : Step} {phase : Phase} → After step phase → After (unless_refused r step) phase
-unless-refused none p = p
-unless-refused (some r) p = nowhere
+unless-refused None p = p
+unless-refused (Some r) p = nowhere
 
 hello-chosen : (c : Connection) (m : List ℕ) (f : ClientHello) (suite : Option ℕ) → After (hello_chosen c m f suite) Phase.Hello
-hello-chosen c m f none = nowhere
-hello-chosen c m f (some suite) = greeted (λ h. h)
+hello-chosen c m f None = nowhere
+hello-chosen c m f (Some suite) = greeted (λ h. h)
 
 hello : (c : Connection) (m : List ℕ) (f : Option ClientHello) → After (hello_fields c m f) Phase.Hello
-hello c m none = nowhere
-hello c m (some f) =
+hello c m None = nowhere
+hello c m (Some f) =
     either (ltb f.version tls12) nowhere
     (either (not (offers_null f.methods)) nowhere
     (hello-chosen c m f (chosen c.setup.suites f.suites)))
@@ -63,21 +62,21 @@ unlisted-key Rule.Tell c m = nowhere
 unlisted-key Rule.Hide c m = keyed (λ h. h)
 
 key-found : (c : Connection) (m : List ℕ) (key : Option (List ℕ)) → After (key_found c m key) Phase.KeyExchange
-key-found c m none = unlisted-key c.setup.rule c m
-key-found c m (some key) = keyed (λ h. h)
+key-found c m None = unlisted-key c.setup.rule c m
+key-found c m (Some key) = keyed (λ h. h)
 
 key-identity : (lookup : List ℕ → Option (List ℕ)) (c : Connection) (m : List ℕ) (identity : Option (List ℕ))
     → After (key_identity lookup c m identity) Phase.KeyExchange
-key-identity lookup c m none = nowhere
-key-identity lookup c m (some identity) = key-found c m (lookup identity)
+key-identity lookup c m None = nowhere
+key-identity lookup c m (Some identity) = key-found c m (lookup identity)
 
 completes : (o : Outcome) → After (completed o) Phase.Finished
 completes (gives value) = parted (λ h. h)
 completes (refuses r) = nowhere
 
 finished : (c : Connection) (m : List ℕ) (value : Option (List ℕ)) → After (finished_value c m value) Phase.Finished
-finished c m none = nowhere
-finished c m (some value) =
+finished c m None = nowhere
+finished c m (Some value) =
     either (c.client.listed && is_value value (finished_of Client c.secrets.master c.transcript))
     (completes (finished_of Server c.secrets.master (absorb c.transcript m)))
     nowhere

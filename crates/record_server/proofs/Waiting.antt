@@ -10,6 +10,7 @@ use lib.ListN.{length, take, drop, length-append, length-drop}
 use lib.Seq.{length-take-le, take-add, drop_at, drop-drop, drop-append-add}
 use lib.Dec.{eqb}
 use borrow.Author.Tests.{ne_eqb}
+use Rattle.std.specs.Prelude.{Option}
 use Rattle.lists.specs.Lists.{part}
 use Rattle.lists.proofs.Parts.{length_part}
 use Rattle.refusal.specs.declared.Refusal.{Refusal}
@@ -18,13 +19,13 @@ use Rattle.records.specs.declared.ContentType.{ContentType}
 use Rattle.record_server.specs.declared.RecordConnection.{RecordConnection}
 use Rattle.record_server.specs.declared.progress.Progress as Code
 use Rattle.record_server.specs.declared.progress.Course.{Course}
-use Rattle.record_server.specs.declared.taking.Keep.{Keep}
+use Rattle.record_server.specs.declared.taking.Put.{Put}
 use Rattle.record_server.specs.declared.taking.Decided.{Decided}
 use Rattle.record_server.specs.Connection.{is_complete}
 use Rattle.record_server.specs.Joining.{Judged, goes_on, is_empty}
 use Rattle.record_server.specs.Taking.{refuse, content_test, handshake_step}
 use Rattle.record_server.specs.InnerProgress.{Ends, progress_of}
-use Rattle.record_server.specs.InnerTaking.{held_by, Within, Decides, Holds, Progresses}
+use Rattle.record_server.specs.InnerTaking.{put_at, held_by, Within, Decides, Holds, Progresses}
 
 -- the content of n bytes, as it is lent
 pub as_lent : (n : ℕ) → 5 + n - 5 ≡ n
@@ -56,7 +57,7 @@ left_behind held bytes n from few inside =
     ∙ rw (parts, drop_at (take from content) (take (n - from) (drop from content)) from (length-take-le from content room), drop-drop from 5 bytes)
 
 -- a decision that keeps what is left
-kept-decides : {c : RecordConnection} {p : Code.Progress} {keep : Keep} {left : ℕ} {d : Decided} {memory held bytes : List ℕ} {wanted : Judged}
+kept-decides : {c : RecordConnection} {p : Code.Progress} {keep : Option Put} {left : ℕ} {d : Decided} {memory held bytes : List ℕ} {wanted : Judged}
     (all : List ℕ) → Progresses c p keep left d → wanted ≡ goes_on (progress_of all p) → length (drop p.at all) ≡ left
     → held_by keep memory held bytes ≡ drop p.at all → Within keep memory bytes → Decides d memory held bytes (handshake_step c wanted)
 kept-decides {c} {p} {memory = memory} {held = held} {bytes = bytes} all goes e size kept within =
@@ -94,7 +95,7 @@ module _ {memory : List ℕ} {kept : ℕ} {bytes : List ℕ} {n : ℕ} (h : Hold
       pub all-few : kept + n ≤ 16383
       all-few = rw (w, all_left, length-all) at e.few
 
-      pub all-decides : {c : RecordConnection} {d : Decided} → Progresses c p (Keep.Put kept 5 n) (kept + n) d
+      pub all-decides : {c : RecordConnection} {d : Decided} → Progresses c p (put_at kept 5 n) (kept + n) d
           → Decides d memory (take kept memory) bytes (handshake_step c wanted)
       all-decides goes = kept-decides _ goes (means w) (rw all_left length-all) (sym all_left) (h.kept-inside, h.inside)
 
@@ -109,7 +110,7 @@ module _ {memory : List ℕ} {kept : ℕ} {bytes : List ℕ} {n : ℕ} (h : Hold
           rw (length-held, place) at (left_behind (take kept memory) bytes n (p.at - kept) from-few h.inside)
 
       pub rest-decides : {c : RecordConnection} {d : Decided} → p.course ≡ Course.Waits
-          → Progresses c p (Keep.Put 0 (5 + (p.at - kept)) (n - (p.at - kept))) (n - (p.at - kept)) d
+          → Progresses c p (put_at 0 (5 + (p.at - kept)) (n - (p.at - kept))) (n - (p.at - kept)) d
           → Decides d memory (take kept memory) bytes (handshake_step c wanted)
       rest-decides w goes =
           let inside : 5 + (p.at - kept) + (n - (p.at - kept)) ≤ length bytes = omega (arith, from-few, h.inside) in

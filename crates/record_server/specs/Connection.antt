@@ -1,13 +1,12 @@
 -- A record connection (document 02, P5): a connection of the server's, and around it the connection states of RFC 5246, section 6.1, one for each
 -- direction.
-use Rattle.std.specs.Prelude.{ℕ, ◌-◌, Bool, true, false, cond, List, [], ◌∷◌, ◌++◌, length, take, replicate, eqb}
+use Rattle.std.specs.Prelude.{ℕ, ◌-◌, Bool, true, false, cond, List, [], ◌∷◌, ◌++◌, length, take, replicate, eqb, Result, Ok, Err}
 use Rattle.lists.specs.Lists.{part}
 use Rattle.refusal.specs.declared.Refusal.{Refusal}
 use Rattle.refusal.specs.declared.Refusal.TheVariants.{ConnectionOver, SequenceSpent}
 use Rattle.refusal.specs.Table.{Effect, unchanged, closed, noneMade, noneInvolved, row, number_of}
 use Rattle.refusal.specs.Lent.{bytes_of}
 use Rattle.keys.specs.Secrets.{keys}
-use Rattle.layout.specs.declared.Verdict.{Verdict}
 use Rattle.handshake.specs.Alert.{fatal}
 use Rattle.server.specs.declared.Phase.{Phase}
 use Rattle.server.specs.declared.Connection.{Connection}
@@ -80,10 +79,10 @@ is_complete Phase.Complete = true
 is_complete Phase.Closed = false
 
 -- R4 on a closed connection, and R9 for a record under the last sequence number: what every call begins with
-abbrev pub over_test : Phase → (sequence : ℕ) → Verdict
+abbrev pub over_test : Phase → (sequence : ℕ) → Result Unit Refusal
 over_test phase sequence =
-    cond (is_closed phase) (Verdict.Refused ConnectionOver)
-    (cond (eqb sequence last_sequence) (Verdict.Refused SequenceSpent) Verdict.Accepted)
+    cond (is_closed phase) (Err ConnectionOver)
+    (cond (eqb sequence last_sequence) (Err SequenceSpent) (Ok tt))
 
 -- A closed connection has no secret and no trace of the client. It keeps the record of the alert that closed it, for the host to send.
 abbrev pub closed_with : ClosingAlert → RecordConnection

@@ -1,7 +1,6 @@
 -- What the contracts of private functions of src/flight.rt and src/sending.rt cite. Nothing that a public contract says stands here.
-use Rattle.std.specs.Prelude.{ℕ, ◌≤◌, ◌≡◌, Bool, true, false, cond, List, [], ◌∷◌, ◌++◌, length, drop, eqb}
-use Rattle.refusal.specs.declared.Written.{Written}
-use Rattle.refusal.specs.declared.Written.TheVariants.{Wrote, Refused}
+use Rattle.std.specs.Prelude.{ℕ, ◌≤◌, ◌≡◌, Bool, true, false, cond, List, [], ◌∷◌, ◌++◌, length, drop, eqb, Result, Ok, Err}
+use Rattle.refusal.specs.declared.Refusal.{Refusal}
 use Rattle.handshake.specs.Flight.{Flight}
 use Rattle.records.specs.declared.State.{State}
 use Rattle.record_server.specs.declared.Pending.{Pending}
@@ -16,9 +15,9 @@ use Rattle.record_server.specs.Answering.{flight_records, writing_after}
 -- ---- sending
 
 -- what a call gives back that said this and was to lead to `next`
-abbrev pub settled_by : RecordConnection → RecordConnection → Written → Answer
-settled_by c next (Wrote n) = record { said = Wrote n; next = next }
-settled_by c next (Refused r) = record { said = Refused r; next = c }
+abbrev pub settled_by : RecordConnection → RecordConnection → Result ℕ Refusal → Answer
+settled_by c next (Ok n) = record { said = Ok n; next = next }
+settled_by c next (Err r) = record { said = Err r; next = c }
 
 -- ---- a flight's records at the front of an output
 

@@ -1,21 +1,16 @@
 -- What the contracts of private functions of src/progress.rt cite: how far handshake bytes have been judged. Nothing that a public contract says
 -- stands here.
-use Rattle.std.specs.Prelude.{ℕ, ◌≤◌, ◌<◌, ◌≡◌, ◌⊎◌, Bool, true, false, List, length, drop}
-use Rattle.std.proofs.Math.Option.{Option, none, some}
+use Rattle.std.specs.Prelude.{ℕ, ◌≤◌, ◌<◌, ◌≡◌, ◌⊎◌, Bool, true, false, List, length, drop, Some}
 use Rattle.handshake.specs.Flight.{silence, longest}
-use Rattle.handshake.specs.Handed.{Derived}
 use Rattle.handshake.specs.Outgoing.{total, flight_of}
 use Rattle.server.specs.declared.Phase.{Phase}
-use Rattle.server.specs.declared.step.Decision.{Decision}
+use Rattle.server.specs.declared.Connection.{Connection}
+use Rattle.handshake.specs.declared.Decision.{Decision}
 use Rattle.server.specs.KeyExchange.{View}
 use Rattle.record_server.specs.declared.progress.Progress as Code
 use Rattle.record_server.specs.declared.progress.Course.{Course}
 use Rattle.record_server.specs.Joining as Judging
 use Rattle.record_server.specs.Joining.{Progress, Judged, goes_on, judge_bytes}
-
-abbrev pub master_of : Bool → List ℕ → ℕ → Option Derived
-master_of false secret n = none
-master_of true secret n = some (record { master = secret; blocks = n })
 
 -- the progress that the code's value stands for, over these bytes
 abbrev pub progress_of : List ℕ → Code.Progress → Progress
@@ -23,7 +18,7 @@ progress_of bytes p =
     record {
       connection = p.connection;
       flight = flight_of p.outgoing;
-      master = master_of p.handed p.master p.blocks;
+      master = p.handed;
       left = drop p.at bytes;
     }
 
@@ -49,37 +44,31 @@ on_course p course =
       connection = p.connection;
       outgoing = p.outgoing;
       handed = p.handed;
-      master = p.master;
-      blocks = p.blocks;
       at = p.at;
     }
 
 -- behind a message that was accepted: one whose step answers, or a ClientKeyExchange
-abbrev pub with_answer : Code.Progress → Decision → ℕ → Code.Progress
+abbrev pub with_answer : Code.Progress → Decision Connection → ℕ → Code.Progress
 with_answer p d at =
     record {
       course = Course.Going;
       connection = d.next;
       outgoing = d.outgoing;
       handed = p.handed;
-      master = p.master;
-      blocks = p.blocks;
       at = at;
     }
 
-abbrev pub with_master : Code.Progress → Decision → ℕ → Code.Progress
+abbrev pub with_master : Code.Progress → Decision Connection → ℕ → Code.Progress
 with_master p d at =
     record {
       course = Course.Going;
       connection = d.next;
       outgoing = p.outgoing;
-      handed = true;
-      master = d.next.secrets.master;
-      blocks = d.blocks;
+      handed = Some (record { master = d.next.secrets.master; blocks = d.blocks });
       at = at;
     }
 
-abbrev pub advanced : Phase → Code.Progress → Decision → ℕ → Code.Progress
+abbrev pub advanced : Phase → Code.Progress → Decision Connection → ℕ → Code.Progress
 advanced Phase.Hello p d at = with_answer p d at
 advanced Phase.KeyExchange p d at = with_master p d at
 advanced Phase.Change p d at = with_answer p d at

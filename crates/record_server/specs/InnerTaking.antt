@@ -1,46 +1,47 @@
 -- What the contracts of private functions of src/taking.rt cite: a record's decision, and what the call gives back. Nothing that a public contract
 -- says stands here.
-use Rattle.std.specs.Prelude.{ℕ, ◌+◌, ◌≤◌, ◌≡◌, Bool, true, cond, ◌&&◌, List, ◌++◌, length, take, replicate, leb, eqb}
+use Rattle.std.specs.Prelude.{ℕ, ◌+◌, ◌≤◌, ◌≡◌, Bool, true, cond, ◌&&◌, List, ◌++◌, length, take, leb, eqb, Result, Ok, Err, Option, None, Some}
 use Rattle.lists.specs.Lists.{part}
 use Rattle.refusal.specs.declared.Refusal.{Refusal}
 use Rattle.refusal.specs.declared.Refusal.TheVariants.{DecryptError}
 use Rattle.refusal.specs.Table.{number_of}
-use Rattle.refusal.specs.declared.Written.{Written}
-use Rattle.layout.specs.declared.Verdict.{Verdict}
 use Rattle.handshake.specs.Outgoing.{flight_of}
 use Rattle.records.specs.Joining.{unfinished}
 use Rattle.record_server.specs.declared.Taken.{Taken}
 use Rattle.record_server.specs.declared.RecordConnection.{RecordConnection}
 use Rattle.record_server.specs.declared.progress.Progress as Code
-use Rattle.record_server.specs.declared.taking.Keep.{Keep}
+use Rattle.record_server.specs.declared.taking.Put.{Put}
 use Rattle.record_server.specs.declared.taking.Decided.{Decided}
 use Rattle.record_server.specs.Joining.{Progress, goes_on}
 use Rattle.record_server.specs.Taking as Taking
 use Rattle.record_server.specs.Taking.{handshake_step, settled, Takes}
-use Rattle.record_server.specs.InnerProgress.{master_of}
 
 -- ---- a record's decision
 
--- what is held then
-abbrev pub held_by : Keep → (memory held bytes : List ℕ) → List ℕ
-held_by Keep.Same memory held bytes = held
-held_by (Keep.Put at from len) memory held bytes = take at memory ++ part from len bytes
+-- so many bytes of the record, from `from` on, for a place of the memory
+abbrev pub put_at : (at from len : ℕ) → Option Put
+put_at a f n = Some (record { at = a; from = f; len = n })
 
-abbrev pub decided_by : Verdict → Decided → (memory held bytes : List ℕ) → Taking.Step
-decided_by Verdict.Accepted d memory held bytes =
+-- what is held then
+abbrev pub held_by : Option Put → (memory held bytes : List ℕ) → List ℕ
+held_by None memory held bytes = held
+held_by (Some k) memory held bytes = take k.at memory ++ part k.from k.len bytes
+
+abbrev pub decided_by : Result Unit Refusal → Decided → (memory held bytes : List ℕ) → Taking.Step
+decided_by (Ok tt) d memory held bytes =
     Taking.accept (record {
       answer = take d.len d.records;
       next = d.next;
       held = held_by d.keep memory held bytes;
-      master = master_of d.handed d.master d.blocks;
+      master = d.handed;
       holds = d.holds;
     })
-decided_by (Verdict.Refused r) d memory held bytes = Taking.refuse r
+decided_by (Err r) d memory held bytes = Taking.refuse r
 
 -- a place in lent memory, and bytes of the record that are to go there
-abbrev pub Within : Keep → (memory bytes : List ℕ) → Type 0
-Within Keep.Same memory bytes = Unit
-Within (Keep.Put at from len) memory bytes = (at ≤ length memory) × (from + len ≤ length bytes)
+abbrev pub Within : Option Put → (memory bytes : List ℕ) → Type 0
+Within None memory bytes = Unit
+Within (Some k) memory bytes = (k.at ≤ length memory) × (k.from + k.len ≤ length bytes)
 
 pub record Decides (d : Decided) (memory held bytes : List ℕ) (step : Taking.Step) : Type 0 where
   pub means : decided_by d.verdict d memory held bytes ≡ step
@@ -58,8 +59,8 @@ pub record Holds (memory : List ℕ) (kept : ℕ) (bytes : List ℕ) (n : ℕ) :
   pub few : n ≤ 16384
 
 -- handshake bytes that came so far, the rest of them being kept so
-pub record Progresses (c : RecordConnection) (p : Code.Progress) (keep : Keep) (left : ℕ) (d : Decided) : Type 0 where
-  pub is : (q : Progress) → q.connection ≡ p.connection → q.flight ≡ flight_of p.outgoing → q.master ≡ master_of p.handed p.master p.blocks
+pub record Progresses (c : RecordConnection) (p : Code.Progress) (keep : Option Put) (left : ℕ) (d : Decided) : Type 0 where
+  pub is : (q : Progress) → q.connection ≡ p.connection → q.flight ≡ flight_of p.outgoing → q.master ≡ p.handed
       → length q.left ≡ left → (memory held bytes : List ℕ) → held_by keep memory held bytes ≡ q.left
       → decided_by d.verdict d memory held bytes ≡ handshake_step c (goes_on q)
   pub keeps : d.keep ≡ keep
@@ -70,18 +71,16 @@ refused_first first r = cond (first && eqb (number_of r) 20) DecryptError r
 
 -- ---- what the call gives back
 
-abbrev pub room_for : Keep → ℕ → Bool
-room_for Keep.Same room = true
-room_for (Keep.Put at from len) room = leb (at + len) room
+abbrev pub room_for : Option Put → ℕ → Bool
+room_for None room = true
+room_for (Some k) room = leb (k.at + k.len) room
 
-abbrev pub answered_by : Decided → Written → Taken
+abbrev pub answered_by : Decided → Result ℕ Refusal → Taken
 answered_by d said =
     record {
       said = said;
       holds = d.holds;
       handed = d.handed;
-      master = cond d.handed d.master (replicate 48 0);
-      blocks = cond d.handed d.blocks 0;
       next = d.next;
     }
 

@@ -1,12 +1,11 @@
 -- Handshake bytes (document 02, P5): each message that they finish goes through the server's step in turn, on the connection as the one before left
 -- it.
-use Rattle.std.specs.Prelude.{ℕ, zero, suc, Bool, true, false, cond, not, ◌&&◌, List, [], ◌∷◌, ◌++◌, length, take, drop, ltb}
-use Rattle.std.proofs.Math.Option.{Option, none, some}
+use Rattle.std.specs.Prelude.{ℕ, zero, suc, Bool, true, false, cond, not, ◌&&◌, List, [], ◌∷◌, ◌++◌, length, take, drop, ltb, Result, Ok, Err, Option, None, Some}
 use Rattle.refusal.specs.declared.Refusal.{Refusal}
 use Rattle.refusal.specs.declared.Refusal.TheVariants.{UnexpectedMessage}
-use Rattle.layout.specs.declared.Verdict.{Verdict}
 use Rattle.handshake.specs.Flight.{Flight, silence}
-use Rattle.handshake.specs.Handed.{Derived, derived}
+use Rattle.handshake.specs.Handed.{derived}
+use Rattle.handshake.specs.declared.Derived.{Derived}
 use Rattle.handshake.specs.Header.{early_test}
 use Rattle.handshake.specs.Step as Shared
 use Rattle.server.specs.declared.Connection.{Connection}
@@ -38,8 +37,8 @@ joined_flight f g = record { plain = f.plain ++ g.plain; protected = f.protected
 
 -- the later one where there are two
 abbrev pub later : Option Derived → Option Derived → Option Derived
-later old none = old
-later old (some d) = some d
+later old None = old
+later old (Some d) = Some d
 
 -- the message that ends at `end` was judged, for whose master secret, if one is handed over, so many blocks were hashed; `on` judges what stands behind it
 abbrev pub after_step : (Progress → Judged) → Progress → (end blocks : ℕ) → Step → Judged
@@ -60,9 +59,9 @@ where_whole v on p end =
     (message_step v p.connection (take end p.left) p.connection.phase))
 
 -- type and limit are judged as soon as the header is in
-abbrev pub after_early : Verdict → Judged → Judged
-after_early Verdict.Accepted next = next
-after_early (Verdict.Refused r) next = refuse r
+abbrev pub after_early : Result Unit Refusal → Judged → Judged
+after_early (Ok tt) next = next
+after_early (Err r) next = refuse r
 
 -- Bytes behind a right Finished are handshake bytes after completion, however few: 10. Otherwise fewer than the four bytes of a header wait unjudged.
 abbrev pub judge_first : View → (Progress → Judged) → Progress → Judged
@@ -78,4 +77,4 @@ judge_bytes (suc n) v p = judge_first v (judge_bytes n v) p
 
 -- all of the bytes
 abbrev pub judged : View → Connection → List ℕ → Judged
-judged v c bytes = judge_bytes (length bytes) v (record { connection = c; flight = silence; master = none; left = bytes })
+judged v c bytes = judge_bytes (length bytes) v (record { connection = c; flight = silence; master = None; left = bytes })

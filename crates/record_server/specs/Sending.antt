@@ -1,9 +1,8 @@
 -- What a record connection sends by itself (document 02, P5): application data after completion, and close_notify.
-use Rattle.std.specs.Prelude.{ℕ, cond, List, [], ◌∷◌, length}
+use Rattle.std.specs.Prelude.{ℕ, cond, List, [], ◌∷◌, length, Result, Ok, Err}
+use Rattle.refusal.specs.declared.Refusal.{Refusal}
 use Rattle.refusal.specs.declared.Refusal.TheVariants.{BadValue}
-use Rattle.refusal.specs.declared.Written.{Written}
 use Rattle.refusal.specs.Lent.{Outcome, gives, refuses, within, answer, after}
-use Rattle.layout.specs.declared.Verdict.{Verdict}
 use Rattle.handshake.specs.Alert.{warning, close_notify}
 use Rattle.records.specs.declared.ContentType.{ContentType}
 use Rattle.records.specs.Protection.{counted, sealing}
@@ -12,9 +11,9 @@ use Rattle.record_server.specs.declared.Answer.{Answer}
 use Rattle.record_server.specs.Connection.{no_alert, is_complete, over_test, closed_with, after_refusal}
 
 -- R4, then R9
-abbrev pub after_over : Verdict → Outcome → Outcome
-after_over Verdict.Accepted wanted = wanted
-after_over (Verdict.Refused r) wanted = refuses r
+abbrev pub after_over : Result Unit Refusal → Outcome → Outcome
+after_over (Ok tt) wanted = wanted
+after_over (Err r) wanted = refuses r
 
 abbrev pub unless_over : RecordConnection → Outcome → Outcome
 unless_over c wanted = after_over (over_test c.handshake.phase c.writing.sequence) wanted
@@ -46,7 +45,7 @@ next_after c next (gives bytes) = next
 next_after c next (refuses r) = after_refusal r c
 
 pub record Settled : Type 0 where
-  pub said : Written
+  pub said : Result ℕ Refusal
   pub next : RecordConnection
   pub out : List ℕ
 

@@ -1,29 +1,24 @@
 -- Taking a record (document 02, P5), in the order of its tests: R4, R9, those on the record and its MAC, those on what it holds; R1 comes last, for
 -- the room that all answers of the record take together. Whatever R number comes, the whole record counts as not come.
-use Rattle.std.specs.Prelude.{ℕ, ◌≡◌, Bool, true, false, cond, not, ◌&&◌, ◌||◌, List, [], ◌∷◌, ◌++◌, length, get_or, drop, replicate, leb, eqb}
-use Rattle.std.proofs.Math.Option.{Option, none, some}
+use Rattle.std.specs.Prelude.{ℕ, ◌≡◌, Bool, cond, not, ◌&&◌, ◌||◌, List, [], ◌∷◌, ◌++◌, length, get_or, drop, leb, eqb, Result, Ok, Err, Option, None, Some}
+use Rattle.records.specs.declared.Content.{Content}
 use Rattle.lists.specs.Lists.{same, part}
 use Rattle.refusal.specs.declared.Refusal.{Refusal}
 use Rattle.refusal.specs.declared.Refusal.TheVariants.{ShortOutput, UnexpectedMessage, IllegalParameter, DecodeError, DecryptError}
-use Rattle.refusal.specs.declared.Written.{Written}
-use Rattle.refusal.specs.declared.Written.TheVariants.{Wrote, Refused}
 use Rattle.refusal.specs.Table.{number_of}
-use Rattle.layout.specs.declared.Verdict.{Verdict}
 use Rattle.handshake.specs.declared.Heard.{Heard}
 use Rattle.handshake.specs.Alert.{heard}
-use Rattle.handshake.specs.Handed.{Derived}
+use Rattle.handshake.specs.declared.Derived.{Derived}
 use Rattle.handshake.specs.Step as Shared
 use Rattle.server.specs.declared.Connection.{Connection}
 use Rattle.server.specs.KeyExchange.{View}
 use Rattle.server.specs.Step as Server
 use Rattle.server.specs.Change.{change_step}
 use Rattle.records.specs.declared.ContentType.{ContentType}
-use Rattle.records.specs.declared.Opened.{Opened}
 use Rattle.records.specs.Protection.{protected_by, counted, opened, content_of}
 use Rattle.records.specs.Joining.{held_in}
 use Rattle.record_server.specs.declared.Pending.{Pending}
 use Rattle.record_server.specs.declared.RecordConnection.{RecordConnection}
-use Rattle.record_server.specs.declared.Data.{Data}
 use Rattle.record_server.specs.declared.Taken.{Taken}
 use Rattle.record_server.specs.Connection.{keys_of, no_key, no_alert, is_complete, over_test, closed_with, after_refusal}
 use Rattle.record_server.specs.Answering.{change_of_cipher, flight_records, writing_after}
@@ -39,7 +34,7 @@ pub record Accepted : Type 0 where
   pub next : RecordConnection
   pub held : List ℕ
   pub master : Option Derived
-  pub holds : Data
+  pub holds : Option ℕ
 
 pub data Step : Type 0 where
   refuse : Refusal → Step
@@ -58,14 +53,14 @@ one_more c =
     }
 
 -- nothing is sent, and what is held stays
-abbrev pub silently : RecordConnection → (held : List ℕ) → Data → Step
-silently next held holds = accept (record { answer = []; next = next; held = held; master = none; holds = holds })
+abbrev pub silently : RecordConnection → (held : List ℕ) → Option ℕ → Step
+silently next held holds = accept (record { answer = []; next = next; held = held; master = None; holds = holds })
 
 -- an alert: 47 for a level that is neither; a fatal one or close_notify closes without an answer; any other warning changes nothing
 abbrev pub alert_step : RecordConnection → List ℕ → Heard → Step
 alert_step c held Heard.Illegal = refuse IllegalParameter
-alert_step c held Heard.Ends = silently (closed_with no_alert) held Data.Nothing
-alert_step c held Heard.Ignored = silently (one_more c) held Data.Nothing
+alert_step c held Heard.Ends = silently (closed_with no_alert) held None
+alert_step c held Heard.Ignored = silently (one_more c) held None
 
 -- a change of cipher: the pending state becomes the current one (RFC 5246, section 6.1), and its numbers begin at 0
 abbrev pub changed : RecordConnection → Connection → RecordConnection
@@ -81,14 +76,14 @@ changed c next =
 
 abbrev pub changed_by : RecordConnection → List ℕ → Server.Step → Step
 changed_by c held (Shared.refuse r) = refuse r
-changed_by c held (Shared.accept flight next) = silently (changed c next) held Data.Nothing
+changed_by c held (Shared.accept flight next) = silently (changed c next) held None
 
 -- ---- handshake bytes
 
 -- the keys of the pending states: made where a master secret was handed over
 abbrev pub pending_with : Pending → Connection → Option Derived → Pending
-pending_with pending next none = pending
-pending_with pending next (some d) = keys_of next
+pending_with pending next None = pending
+pending_with pending next (Some d) = keys_of next
 
 -- the server's key is pending no more when its change of cipher is sent
 abbrev pub pending_after : Pending → List (List ℕ) → Pending
@@ -110,7 +105,7 @@ progressed c p pending =
           };
       held = p.left;
       master = p.master;
-      holds = Data.Nothing;
+      holds = None;
     }
 
 abbrev pub handshake_step : RecordConnection → Judged → Step
@@ -121,24 +116,24 @@ handshake_step c (goes_on p) = accept (progressed c p (pending_with c.pending p.
 
 -- In P5's order. 10: application data before completion, handshake bytes after it, a change of cipher after it or amid an unfinished message. 50: an
 -- empty handshake fragment, an alert not of two bytes, a change of cipher that isn't the one byte 01.
-abbrev pub content_test : ContentType → (complete amid : Bool) → List ℕ → Verdict
-content_test ContentType.ApplicationData complete amid content = cond complete Verdict.Accepted (Verdict.Refused UnexpectedMessage)
+abbrev pub content_test : ContentType → (complete amid : Bool) → List ℕ → Result Unit Refusal
+content_test ContentType.ApplicationData complete amid content = cond complete (Ok tt) (Err UnexpectedMessage)
 content_test ContentType.Handshake complete amid content =
-    cond (is_empty content) (Verdict.Refused DecodeError) (cond complete (Verdict.Refused UnexpectedMessage) Verdict.Accepted)
+    cond (is_empty content) (Err DecodeError) (cond complete (Err UnexpectedMessage) (Ok tt))
 content_test ContentType.ChangeCipherSpec complete amid content =
-    cond (complete || amid) (Verdict.Refused UnexpectedMessage) (cond (same content change_of_cipher) Verdict.Accepted (Verdict.Refused DecodeError))
-content_test ContentType.Alert complete amid content = cond (eqb (length content) 2) Verdict.Accepted (Verdict.Refused DecodeError)
+    cond (complete || amid) (Err UnexpectedMessage) (cond (same content change_of_cipher) (Ok tt) (Err DecodeError))
+content_test ContentType.Alert complete amid content = cond (eqb (length content) 2) (Ok tt) (Err DecodeError)
 
 abbrev pub content_step : View → RecordConnection → (held content : List ℕ) → ContentType → Step
-content_step v c held content ContentType.ApplicationData = silently (one_more c) held (Data.Bytes (length content))
+content_step v c held content ContentType.ApplicationData = silently (one_more c) held (Some (length content))
 content_step v c held content ContentType.Alert = alert_step c held (heard (get_or content 0 0) (get_or content 1 0))
 content_step v c held content ContentType.ChangeCipherSpec = changed_by c held (change_step c.handshake c.handshake.phase)
 content_step v c held content ContentType.Handshake = handshake_step c (judged v c.handshake (held ++ content))
 
 -- a test that stands before what the record comes to
-abbrev pub after_test : Verdict → Step → Step
-after_test Verdict.Accepted step = step
-after_test (Verdict.Refused r) step = refuse r
+abbrev pub after_test : Result Unit Refusal → Step → Step
+after_test (Ok tt) step = step
+after_test (Err r) step = refuse r
 
 -- its tests, and then what it comes to
 abbrev pub content_decided : View → RecordConnection → (held content : List ℕ) → ContentType → Step
@@ -159,10 +154,10 @@ refused_as c r = cond (is_first c && eqb (number_of r) 20) DecryptError r
 abbrev pub unlisted_first : RecordConnection → Bool
 unlisted_first c = is_first c && not c.handshake.client.listed
 
-abbrev pub opened_step : View → RecordConnection → (held bytes : List ℕ) → Opened → Step
-opened_step v c held bytes (Opened.Refused r) = refuse (refused_as c r)
-opened_step v c held bytes (Opened.Content kind n) =
-    cond (unlisted_first c) (refuse DecryptError) (content_decided v c held (content_of c.reading bytes) kind)
+abbrev pub opened_step : View → RecordConnection → (held bytes : List ℕ) → Result Content Refusal → Step
+opened_step v c held bytes (Err r) = refuse (refused_as c r)
+opened_step v c held bytes (Ok content) =
+    cond (unlisted_first c) (refuse DecryptError) (content_decided v c held (content_of c.reading bytes) content.kind)
 
 abbrev pub take_step : View → RecordConnection → (memory bytes : List ℕ) → Step
 take_step v c memory bytes =
@@ -173,16 +168,16 @@ take_step v c memory bytes =
 -- what is said, the connection, the lent output and the lent memory afterwards, the master secret with the number of its blocks if one is handed over, and
 -- application data
 pub record Settled : Type 0 where
-  pub said : Written
+  pub said : Result ℕ Refusal
   pub next : RecordConnection
   pub out : List ℕ
   pub memory : List ℕ
   pub master : Option Derived
-  pub holds : Data
+  pub holds : Option ℕ
 
 abbrev pub refused : RecordConnection → (out memory : List ℕ) → Refusal → Settled
 refused c out memory r =
-    record { said = Refused r; next = after_refusal r c; out = out; memory = memory; master = none; holds = Data.Nothing }
+    record { said = Err r; next = after_refusal r c; out = out; memory = memory; master = None; holds = None }
 
 -- bytes at the front of lent memory
 abbrev pub front : List ℕ → List ℕ → List ℕ
@@ -194,7 +189,7 @@ settled c out memory (refuse r) = refused c out memory r
 settled c out memory (accept a) =
     cond (leb (length a.answer) (length out) && leb (length a.held) (length memory))
     (record {
-      said = Wrote (length a.answer);
+      said = Ok (length a.answer);
       next = a.next;
       out = front a.answer out;
       memory = front a.held memory;
@@ -206,13 +201,9 @@ settled c out memory (accept a) =
 abbrev pub take_call : View → RecordConnection → (bytes memory out : List ℕ) → Settled
 take_call v c bytes memory out = settled c out memory (take_step v c memory bytes)
 
--- as the code's type has it: zeros where no master secret is handed over
-abbrev pub handed : Option Derived → Settled → Taken
-handed none s = record { said = s.said; holds = s.holds; handed = false; master = replicate 48 0; blocks = 0; next = s.next }
-handed (some d) s = record { said = s.said; holds = s.holds; handed = true; master = d.master; blocks = d.blocks; next = s.next }
-
+-- as the code's type has it
 abbrev pub taken : Settled → Taken
-taken s = handed s.master s
+taken s = record { said = s.said; holds = s.holds; handed = s.master; next = s.next }
 
 -- A call that was to come to `wanted` gave this back and left this.
 pub record Takes (wanted : Settled) (given : Taken) (out memory : List ℕ) : Type 0 where
@@ -221,6 +212,6 @@ pub record Takes (wanted : Settled) (given : Taken) (out memory : List ℕ) : Ty
   pub memory-left : memory ≡ wanted.memory
 
 -- the application data as that part of the record, none where there is none
-abbrev pub data_in : Data → List ℕ → List ℕ
-data_in Data.Nothing bytes = []
-data_in (Data.Bytes n) bytes = part 5 n bytes
+abbrev pub data_in : Option ℕ → List ℕ → List ℕ
+data_in None bytes = []
+data_in (Some n) bytes = part 5 n bytes

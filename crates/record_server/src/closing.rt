@@ -6,9 +6,8 @@ ghost use Rattle.record_server.specs.Connection.{alert_of, after_refusal};
 ghost use Rattle.record_server.specs.Sending.{close_call, answered};
 
 use crate::{Answer, ClosingAlert, RecordConnection, sending, starting};
-use layout::Verdict;
 use records::{ContentType, State, protection};
-use refusal::{Refusal, Written};
+use refusal::Refusal;
 use server::Phase;
 
 // Whether a connection is closed.
@@ -40,16 +39,16 @@ pub(crate) fn is_complete(phase: Phase) -> bool
 }
 
 // R4 on a closed connection, R9 under the last sequence number.
-pub(crate) fn test_over(phase: Phase, sequence: u64) -> Verdict
+pub(crate) fn test_over(phase: Phase, sequence: u64) -> Result<(), Refusal>
     ensures { result ≡ Conn.over_test phase sequence }
 {
     if is_closed(phase) {
-        return Verdict::Refused(Refusal::ConnectionOver);
+        return Err(Refusal::ConnectionOver);
     }
     if sequence == protection::LAST {
-        return Verdict::Refused(Refusal::SequenceSpent);
+        return Err(Refusal::SequenceSpent);
     }
-    Verdict::Accepted
+    Ok(())
 }
 
 // The record of a fatal alert under this state.
@@ -61,11 +60,11 @@ fn closing_alert(writing: State, number: u8) -> ClosingAlert
     }
     let mut bytes = [0u8; 39];
     match protection::seal(writing, ContentType::Alert, &[2, number], &mut bytes) {
-        Written::Wrote(n) => ClosingAlert {
+        Ok(n) => ClosingAlert {
             length: n as u8,
             bytes,
         },
-        Written::Refused(_) => starting::no_alert(),
+        Err(_) => starting::no_alert(),
     }
 }
 
@@ -82,7 +81,7 @@ pub(crate) fn after_refusal(c: RecordConnection, r: Refusal) -> RecordConnection
 
 // The record of the alert that closed the connection, at the front of the lent output; no bytes where there is none to
 // be sent.
-pub fn alert(c: RecordConnection, out: &mut [u8]) -> Written
+pub fn alert(c: RecordConnection, out: &mut [u8]) -> Result<usize, Refusal>
     ensures { Answers (gives (alert_of c)) out.old result out.new }
 {
     let alert = c.alert;
@@ -102,11 +101,11 @@ pub fn close(c: RecordConnection, out: &mut [u8]) -> Answer
     let phase = handshake.phase;
     let writing = c.writing;
     match test_over(phase, writing.sequence) {
-        Verdict::Accepted => {
+        Ok(()) => {
             let next = starting::closed_with(starting::no_alert());
             let said = protection::seal(writing, ContentType::Alert, &[1, 0], out);
             sending::settle(c, next, said)
         }
-        Verdict::Refused(r) => sending::settle(c, c, Written::Refused(r)),
+        Err(r) => sending::settle(c, c, Err(r)),
     }
 }

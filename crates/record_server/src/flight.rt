@@ -7,7 +7,7 @@ ghost use Rattle.record_server.specs.InnerFlight.{Puts, Sends, some_message};
 
 use handshake::Outgoing;
 use records::{ContentType, State, protection};
-use refusal::Written;
+use refusal::Refusal;
 
 // Records that were put at the front of an output: how many bytes they are, how many bytes of messages they hold,
 // and the state behind them.
@@ -19,12 +19,12 @@ pub struct Put {
 }
 
 // How many bytes were written, where there was room.
-fn count(said: Written) -> usize
+fn count(said: Result<usize, Refusal>) -> usize
     ensures { result ≡ counted said }
 {
     match said {
-        Written::Wrote(n) => n,
-        Written::Refused(_) => 0,
+        Ok(n) => n,
+        Err(_) => 0,
     }
 }
 
@@ -37,11 +37,9 @@ fn put_messages(bytes: &[u8], lengths: &[usize], s: State, out: &mut [u8]) -> Pu
     let mut writing = s;
     let mut len: usize = 0;
     let mut used: usize = 0;
-    let mut i: usize = 0;
-    while i < lengths.len() {
-        let n = lengths[i];
-        if n != 0 {
-            let end = used + n;
+    for n in lengths {
+        if *n != 0 {
+            let end = used + *n;
             let said = protection::seal(
                 writing,
                 ContentType::Handshake,
@@ -52,7 +50,6 @@ fn put_messages(bytes: &[u8], lengths: &[usize], s: State, out: &mut [u8]) -> Pu
             used = end;
             writing = protection::counted(writing);
         }
-        i = i + 1;
     }
     Put { len, used, writing }
 }
@@ -61,14 +58,7 @@ fn put_messages(bytes: &[u8], lengths: &[usize], s: State, out: &mut [u8]) -> Pu
 fn some_message(lengths: &[usize]) -> bool
     ensures { result ≡ some_message lengths.now }
 {
-    let mut i: usize = 0;
-    while i < lengths.len() {
-        if lengths[i] != 0 {
-            return true;
-        }
-        i = i + 1;
-    }
-    false
+    lengths.iter().any(|n| *n != 0)
 }
 
 // How many of the three lengths stand before the change of cipher.

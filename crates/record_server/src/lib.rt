@@ -14,8 +14,9 @@ mod starting;
 mod taking;
 
 pub use closing::{alert, close};
+use handshake::Derived;
 use records::State;
-use refusal::Written;
+use refusal::Refusal;
 pub use sending::send;
 use server::Connection;
 pub use starting::start;
@@ -52,25 +53,16 @@ pub struct RecordConnection {
 // What a call gives back that hands over nothing but bytes.
 #[derive(Drop)]
 pub struct Answer {
-    pub said: Written,
+    pub said: Result<usize, Refusal>,
     pub next: RecordConnection,
 }
 
-// Application data in a record: so many bytes behind its header, or none.
-#[derive(Clone, Copy)]
-pub enum Data {
-    Nothing,
-    Bytes(usize),
-}
-
-// What a record is answered with: how many bytes were written or a refusal, whether it holds application data, the
-// master secret where one is handed over with how many blocks were hashed for it, and the connection.
+// What a record is answered with: how many bytes were written or a refusal, how many bytes of application data it holds
+// behind its header if it holds any, the master secret where one is handed over with how many blocks were hashed for it, and the connection.
 #[derive(Clone, Copy)]
 pub struct Taken {
-    pub said: Written,
-    pub holds: Data,
-    pub handed: bool,
-    pub master: [u8; 48],
-    pub blocks: u64,
+    pub said: Result<usize, Refusal>,
+    pub holds: Option<usize>,
+    pub handed: Option<Derived>,
     pub next: RecordConnection,
 }

@@ -1,25 +1,25 @@
 // Handshake bytes: what is held of a message in lent memory, and the content of a record behind it. Each message that
 // they finish goes through the server's step; one that came whole is read where it stands.
-ghost use Rattle.std.specs.Prelude.{◌≡◌, ◌⊎◌, true, false, ◌++◌, ◌+◌, ◌-◌, ◌≤◌, ◌<◌, length, get_or, take, drop};
+ghost use Rattle.std.specs.Prelude.{◌≡◌, ◌⊎◌, true, false, ◌++◌, ◌+◌, ◌-◌, ◌≤◌, ◌<◌, length, get_or, take, drop, None};
 ghost use Rattle.lists.specs.Lists.{part};
 ghost use Rattle.handshake.specs.Flight.{silence};
 ghost use Rattle.handshake.specs.Outgoing.{flight_of, total};
 ghost use Rattle.server.specs.KeyExchange.{view_of};
 ghost use Rattle.server.specs.Message.{message_step, blocks_in};
-ghost use Rattle.server.specs.Decision as Server;
+ghost use Rattle.handshake.specs.Decision as Server;
 ghost use Rattle.records.specs.Joining.{unfinished};
 ghost use Rattle.record_server.specs.declared.progress.Course.{Course};
 ghost use Rattle.record_server.specs.Joining.{judged, where_whole};
 ghost use Rattle.record_server.specs.InnerProgress.{Sound, Goes, Ends, progress_of, judge_left, on_course, with_answer, with_master, advanced, is_going};
 
 use crate::closing;
-use handshake::Outgoing;
-use layout::Verdict;
+use handshake::{Decision, Derived, Outgoing};
 use records::joining;
 use refusal::Refusal;
-use server::{Connection, Decision, Phase};
+use server::{Connection, Phase};
 
-// Whether there is more to be judged, what is left waits for the rest of a message, or something was refused.
+// Whether there is more to be judged, what is left waits for the rest of a message, or something was refused. A Result of a
+// flag would read worse.
 #[derive(Clone, Copy)]
 pub enum Course {
     Going,
@@ -33,9 +33,7 @@ pub struct Progress {
     pub course: Course,
     pub connection: Connection,
     pub outgoing: Outgoing,
-    pub handed: bool,
-    pub master: [u8; 48],
-    pub blocks: u64,
+    pub handed: Option<Derived>,
     pub at: usize,
 }
 
@@ -73,7 +71,7 @@ fn decide_at(
     content: &[u8],
     at: usize,
     end: usize,
-) -> Decision
+) -> Result<Decision<Connection>, Refusal>
     requires at_le_end { (at ≤ end) × (end ≤ length held.now + length content.now) × (end ≤ at + 16384) }
     requires fact { ((at ≡ 0) × (length held.now ≤ end)) ⊎ (length held.now ≤ at) }
     ensures { Server.Decides result (message_step (view_of table.now starts.now count) c (take (end - at) (drop at (held.now ++ content.now))) c.phase)
@@ -93,68 +91,47 @@ fn decide_at(
 fn on_course(p: Progress, course: Course) -> Progress
     ensures { result ≡ on_course p course }
 {
-    let connection = p.connection;
-    let outgoing = p.outgoing;
-    let master = p.master;
-    Progress {
-        course,
-        connection,
-        outgoing,
-        handed: p.handed,
-        master,
-        blocks: p.blocks,
-        at: p.at,
-    }
+    Progress { course, ..p }
 }
 
 // Behind a message whose step answers; nothing was answered before it.
-fn with_answer(p: Progress, d: Decision, at: usize) -> Progress
+fn with_answer(p: Progress, d: Decision<Connection>, at: usize) -> Progress
     ensures { result ≡ with_answer p d at }
 {
-    let connection = d.next;
-    let outgoing = d.outgoing;
-    let master = p.master;
     Progress {
         course: Course::Going,
-        connection,
-        outgoing,
-        handed: p.handed,
-        master,
-        blocks: p.blocks,
+        connection: d.next,
+        outgoing: d.outgoing,
         at,
+        ..p
     }
 }
 
 // Behind a ClientKeyExchange, which is not answered: its master secret is handed over, with the number of its blocks.
-fn with_master(p: Progress, d: Decision, at: usize) -> Progress
+fn with_master(p: Progress, d: Decision<Connection>, at: usize) -> Progress
     ensures { result ≡ with_master p d at }
 {
-    let connection = d.next;
-    let secrets = connection.secrets;
+    let secrets = d.next.secrets;
     let master = secrets.master;
-    let outgoing = p.outgoing;
     Progress {
         course: Course::Going,
-        connection,
-        outgoing,
-        handed: true,
-        master,
-        blocks: d.blocks,
+        connection: d.next,
+        handed: Some(Derived {
+            master,
+            blocks: d.blocks,
+        }),
         at,
+        ..p
     }
 }
 
 // Behind a message that was accepted in this phase.
-fn advance(phase: Phase, p: Progress, d: Decision, at: usize) -> Progress
+fn advance(phase: Phase, p: Progress, d: Decision<Connection>, at: usize) -> Progress
     ensures { result ≡ advanced phase p d at }
 {
     match phase {
-        Phase::Hello => with_answer(p, d, at),
         Phase::KeyExchange => with_master(p, d, at),
-        Phase::Change => with_answer(p, d, at),
-        Phase::Finished => with_answer(p, d, at),
-        Phase::Complete => with_answer(p, d, at),
-        Phase::Closed => with_answer(p, d, at),
+        _ => with_answer(p, d, at),
     }
 }
 
@@ -178,12 +155,9 @@ fn judge_whole(
         return on_course(p, Course::Waits);
     }
     let c = p.connection;
-    let d = decide_at(c, table, starts, count, held, content, at, at + size);
-    let verdict = d.verdict;
-    let phase = c.phase;
-    match verdict {
-        Verdict::Accepted => advance(phase, p, d, at + size),
-        Verdict::Refused(r) => on_course(p, Course::Refused(r)),
+    match decide_at(c, table, starts, count, held, content, at, at + size) {
+        Ok(d) => advance(c.phase, p, d, at + size),
+        Err(r) => on_course(p, Course::Refused(r)),
     }
 }
 
@@ -216,7 +190,7 @@ fn judge_first(
     }
     let header = header_at(held, content, at);
     match server::judge_header(phase, header) {
-        Verdict::Accepted => {
+        Ok(()) => {
             judge_whole(
                 p,
                 table,
@@ -227,22 +201,20 @@ fn judge_first(
                 joining::message_end(header),
             )
         }
-        Verdict::Refused(r) => on_course(p, Course::Refused(r)),
+        Err(r) => on_course(p, Course::Refused(r)),
     }
 }
 
 // Before any of the bytes are judged.
 fn begin(c: Connection) -> Progress
-    ensures { (result.connection ≡ c) × (result.course ≡ Course.Going) × (result.at ≡ 0) × (result.handed ≡ false) × (flight_of result.outgoing ≡ silence) × (total result.outgoing.lengths ≤ 180) }
+    ensures { (result.connection ≡ c) × (result.course ≡ Course.Going) × (result.at ≡ 0) × (result.handed ≡ None) × (flight_of result.outgoing ≡ silence) × (total result.outgoing.lengths ≤ 180) }
 {
     let outgoing = handshake::no_messages();
     Progress {
         course: Course::Going,
         connection: c,
         outgoing,
-        handed: false,
-        master: [0u8; 48],
-        blocks: 0,
+        handed: None,
         at: 0,
     }
 }
@@ -273,11 +245,8 @@ pub(crate) fn judge(
         (judged (view_of table.now starts.now count) c (held.now ++ content.now)) result }
 {
     let mut p = begin(c);
-    let mut going = true;
-    while going {
+    while is_going(p.course) {
         p = judge_first(p, table, starts, count, held, content);
-        let course = p.course;
-        going = is_going(course);
     }
     p
 }

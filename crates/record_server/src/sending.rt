@@ -4,9 +4,8 @@ ghost use Rattle.record_server.specs.Sending.{send_call, after_sending, answered
 ghost use Rattle.record_server.specs.InnerFlight.{settled_by};
 
 use crate::{Answer, RecordConnection, closing};
-use layout::Verdict;
 use records::{ContentType, protection};
-use refusal::{Refusal, Written};
+use refusal::Refusal;
 
 // The connection when one more record was sent.
 fn after_sending(c: RecordConnection) -> RecordConnection
@@ -29,12 +28,16 @@ fn after_sending(c: RecordConnection) -> RecordConnection
 }
 
 // What a call gives back that was to lead to `next`.
-pub(crate) fn settle(c: RecordConnection, next: RecordConnection, said: Written) -> Answer
+pub(crate) fn settle(
+    c: RecordConnection,
+    next: RecordConnection,
+    said: Result<usize, Refusal>,
+) -> Answer
     ensures { result ≡ settled_by c next said }
 {
     match said {
-        Written::Wrote(_) => Answer { said, next },
-        Written::Refused(_) => Answer { said, next: c },
+        Ok(_) => Answer { said, next },
+        Err(_) => Answer { said, next: c },
     }
 }
 
@@ -46,14 +49,14 @@ pub fn send(c: RecordConnection, content: &[u8], out: &mut [u8]) -> Answer
     let phase = handshake.phase;
     let writing = c.writing;
     match closing::test_over(phase, writing.sequence) {
-        Verdict::Accepted => {
+        Ok(()) => {
             if !closing::is_complete(phase) {
-                return settle(c, c, Written::Refused(Refusal::BadValue));
+                return settle(c, c, Err(Refusal::BadValue));
             }
             let next = after_sending(c);
             let said = protection::seal(writing, ContentType::ApplicationData, content, out);
             settle(c, next, said)
         }
-        Verdict::Refused(r) => settle(c, c, Written::Refused(r)),
+        Err(r) => settle(c, c, Err(r)),
     }
 }

@@ -5,7 +5,7 @@ ghost use Rattle.record_server.specs.Connection.{offered, record_start};
 
 use crate::{Answer, ClosingAlert, Pending, RecordConnection};
 use records::protection;
-use server::{Connection, Named, Phase};
+use server::{Connection, Phase, Rule};
 
 // TLS_PSK_WITH_NULL_SHA256 alone.
 const SUITES: [u16; 3] = [0x00b0, 0x00b0, 0x00b0];
@@ -46,7 +46,7 @@ pub(crate) fn closed_with(alert: ClosingAlert) -> RecordConnection
 }
 
 // A record connection that awaits a ClientHello, or R3.
-pub fn start(random: &[u8], hint: &[u8], stand_in: &[u8], named: Named) -> Answer
+pub fn start(random: &[u8], hint: &[u8], stand_in: &[u8], named: Option<Rule>) -> Answer
     ensures { result ≡ record_start (record { random = random.now; hint = hint.now; stand_in = stand_in.now; named = named; suites = offered }) }
 {
     let begun = server::start_with(random, hint, stand_in, named, SUITES);

@@ -10,39 +10,37 @@ ghost use Rattle.record_server.specs.Connection.{keys_of};
 ghost use Rattle.record_server.specs.Taking as Taking;
 ghost use Rattle.record_server.specs.Taking.{Takes, data_in, taken, take_call, take_step, content_step, content_test, content_decided, opened_step, one_more, changed};
 ghost use Rattle.record_server.specs.InnerFlight.{pending_if};
-ghost use Rattle.record_server.specs.InnerProgress.{master_of};
 ghost use Rattle.record_server.specs.InnerTaking.{Decides, Does, Holds, Progresses, Within, held_by, refused_first, room_for, answered_by};
 ghost use Rattle.server.specs.Change.{change_step};
 ghost use Rattle.records.specs.Protection.{opened};
 ghost use Rattle.records.specs.declared.ContentType.{ContentType};
 
 use crate::progress::{Course, Progress};
-use crate::{Data, Pending, RecordConnection, Taken, closing, flight, progress, starting};
-use handshake::Heard;
-use layout::Verdict;
-use records::{ContentType, Opened, joining, protection};
-use refusal::{Refusal, Written};
+use crate::{Pending, RecordConnection, Taken, closing, flight, progress, starting};
+use handshake::{Derived, Heard};
+use layout::Part;
+use records::{ContentType, joining, protection};
+use refusal::Refusal;
 use server::Connection;
 
-// What goes to the lent memory: nothing, or so many bytes of the record, from `from` on, at a place of it.
+// What goes to the lent memory: so many bytes of the record, from `from` on, at a place of it.
 #[derive(Clone, Copy)]
-pub enum Keep {
-    Same,
-    Put { at: usize, from: usize, len: usize },
+pub struct Put {
+    pub at: usize,
+    pub from: usize,
+    pub len: usize,
 }
 
 // What a record comes to, whatever the room: a refusal, or the records for the client and the connection as it is then.
 #[derive(Drop)]
 pub struct Decided {
-    pub verdict: Verdict,
+    pub verdict: Result<(), Refusal>,
     pub records: [u8; 336],
     pub len: usize,
     pub next: RecordConnection,
-    pub keep: Keep,
-    pub handed: bool,
-    pub master: [u8; 48],
-    pub blocks: u64,
-    pub holds: Data,
+    pub keep: Option<Put>,
+    pub handed: Option<Derived>,
+    pub holds: Option<usize>,
 }
 
 // ---- decisions
@@ -52,31 +50,27 @@ fn refused(c: RecordConnection, r: Refusal) -> Decided
     ensures { (memory held bytes : List ℕ) → Decides result memory held bytes (Taking.refuse r) }
 {
     Decided {
-        verdict: Verdict::Refused(r),
+        verdict: Err(r),
         records: [0u8; 336],
         len: 0,
         next: c,
-        keep: Keep::Same,
-        handed: false,
-        master: [0u8; 48],
-        blocks: 0,
-        holds: Data::Nothing,
+        keep: None,
+        handed: None,
+        holds: None,
     }
 }
 
 // Nothing for the client, and nothing for the lent memory.
-fn silent(next: RecordConnection, holds: Data) -> Decided
+fn silent(next: RecordConnection, holds: Option<usize>) -> Decided
     ensures { (memory held bytes : List ℕ) → Decides result memory held bytes (Taking.silently next held holds) }
 {
     Decided {
-        verdict: Verdict::Accepted,
+        verdict: Ok(()),
         records: [0u8; 336],
         len: 0,
         next,
-        keep: Keep::Same,
-        handed: false,
-        master: [0u8; 48],
-        blocks: 0,
+        keep: None,
+        handed: None,
         holds,
     }
 }
@@ -110,8 +104,8 @@ fn hear(c: RecordConnection, content: &[u8]) -> Decided
 {
     match handshake::hear(content[0], content[1]) {
         Heard::Illegal => refused(c, Refusal::IllegalParameter),
-        Heard::Ends => silent(starting::closed_with(starting::no_alert()), Data::Nothing),
-        Heard::Ignored => silent(one_more(c), Data::Nothing),
+        Heard::Ends => silent(starting::closed_with(starting::no_alert()), None),
+        Heard::Ignored => silent(one_more(c), None),
     }
 }
 
@@ -147,8 +141,8 @@ fn change(c: RecordConnection) -> Decided
     let said = answer.said;
     let next = answer.next;
     match said {
-        Written::Wrote(_) => silent(after_change(c, next), Data::Nothing),
-        Written::Refused(r) => refused(c, r),
+        Ok(_) => silent(after_change(c, next), None),
+        Err(r) => refused(c, r),
     }
 }
 
@@ -163,7 +157,7 @@ fn keys_of(c: Connection) -> Pending
     let own = setup.random;
     let random = said.random;
     let mut block = [0u8; 64];
-    keys::key_block(&master, &own, &random, 0x00b0, &mut block);
+    let _ = keys::key_block(&master, &own, &random, 0x00b0, &mut block);
     let mut client = [0u8; 32];
     let mut server = [0u8; 32];
     lists::copy(&block[..32], &mut client);
@@ -173,11 +167,10 @@ fn keys_of(c: Connection) -> Pending
 
 // The keys of the pending states behind handshake bytes.
 fn pending_with(pending: Pending, p: Progress) -> Pending
-    ensures { result ≡ Taking.pending_with pending p.connection (master_of p.handed p.master p.blocks) }
+    ensures { result ≡ Taking.pending_with pending p.connection p.handed }
 {
-    if p.handed {
-        let connection = p.connection;
-        return keys_of(connection);
+    if p.handed.is_some() {
+        return keys_of(p.connection);
     }
     pending
 }
@@ -197,7 +190,7 @@ fn pending_after(pending: Pending, changed: bool) -> Pending
 }
 
 // Handshake bytes that were judged and leave so many bytes of a message unfinished.
-fn progressed(c: RecordConnection, p: Progress, keep: Keep, left: usize) -> Decided
+fn progressed(c: RecordConnection, p: Progress, keep: Option<Put>, left: usize) -> Decided
     requires { (total p.outgoing.lengths ≤ 180) × (left ≤ 65535) }
     ensures { Progresses c p keep left result }
 {
@@ -209,7 +202,6 @@ fn progressed(c: RecordConnection, p: Progress, keep: Keep, left: usize) -> Deci
     let key = pending.server;
     let connection = p.connection;
     let outgoing = p.outgoing;
-    let master = p.master;
     let mut records = [0u8; 336];
     let sent = flight::put_flight(outgoing, writing, key, &mut records);
     let counted = protection::counted(reading);
@@ -223,15 +215,13 @@ fn progressed(c: RecordConnection, p: Progress, keep: Keep, left: usize) -> Deci
         alert,
     };
     Decided {
-        verdict: Verdict::Accepted,
+        verdict: Ok(()),
         records,
         len: sent.len,
         next,
         keep,
         handed: p.handed,
-        master,
-        blocks: p.blocks,
-        holds: Data::Nothing,
+        holds: None,
     }
 }
 
@@ -268,11 +258,11 @@ fn shake(
                 return progressed(
                     c,
                     p,
-                    Keep::Put {
+                    Some(Put {
                         at: kept,
                         from: 5,
                         len: n,
-                    },
+                    }),
                     kept + n,
                 );
             }
@@ -280,11 +270,11 @@ fn shake(
             progressed(
                 c,
                 p,
-                Keep::Put {
+                Some(Put {
                     at: 0,
                     from: 5 + from,
                     len: n - from,
-                },
+                }),
                 n - from,
             )
         }
@@ -293,47 +283,52 @@ fn shake(
 }
 
 // The tests on a change of cipher.
-fn test_change(complete: bool, amid: bool, content: &[u8]) -> Verdict
+fn test_change(complete: bool, amid: bool, content: &[u8]) -> Result<(), Refusal>
     ensures { result ≡ content_test ContentType.ChangeCipherSpec complete amid content.now }
 {
     if complete {
-        return Verdict::Refused(Refusal::UnexpectedMessage);
+        return Err(Refusal::UnexpectedMessage);
     }
     if amid {
-        return Verdict::Refused(Refusal::UnexpectedMessage);
+        return Err(Refusal::UnexpectedMessage);
     }
     if lists::same(content, &[1]) {
-        return Verdict::Accepted;
+        return Ok(());
     }
-    Verdict::Refused(Refusal::DecodeError)
+    Err(Refusal::DecodeError)
 }
 
 // The tests on what a record holds.
-fn test_content(kind: ContentType, complete: bool, amid: bool, content: &[u8]) -> Verdict
+fn test_content(
+    kind: ContentType,
+    complete: bool,
+    amid: bool,
+    content: &[u8],
+) -> Result<(), Refusal>
     ensures { result ≡ content_test kind complete amid content.now }
 {
     match kind {
         ContentType::ApplicationData => {
             if complete {
-                return Verdict::Accepted;
+                return Ok(());
             }
-            Verdict::Refused(Refusal::UnexpectedMessage)
+            Err(Refusal::UnexpectedMessage)
         }
         ContentType::Handshake => {
             if content.len() == 0 {
-                return Verdict::Refused(Refusal::DecodeError);
+                return Err(Refusal::DecodeError);
             }
             if complete {
-                return Verdict::Refused(Refusal::UnexpectedMessage);
+                return Err(Refusal::UnexpectedMessage);
             }
-            Verdict::Accepted
+            Ok(())
         }
         ContentType::ChangeCipherSpec => test_change(complete, amid, content),
         ContentType::Alert => {
             if content.len() == 2 {
-                return Verdict::Accepted;
+                return Ok(());
             }
-            Verdict::Refused(Refusal::DecodeError)
+            Err(Refusal::DecodeError)
         }
     }
 }
@@ -358,13 +353,13 @@ fn decide_content(
     let phase = handshake.phase;
     let complete = closing::is_complete(phase);
     match test_content(kind, complete, kept != 0, &received[5..5 + n]) {
-        Verdict::Accepted => match kind {
-            ContentType::ApplicationData => silent(one_more(c), Data::Bytes(n)),
+        Ok(()) => match kind {
+            ContentType::ApplicationData => silent(one_more(c), Some(n)),
             ContentType::Alert => hear(c, &received[5..5 + n]),
             ContentType::ChangeCipherSpec => change(c),
             ContentType::Handshake => shake(c, table, starts, count, memory, kept, received, n),
         },
-        Verdict::Refused(r) => refused(c, r),
+        Err(r) => refused(c, r),
     }
 }
 
@@ -409,15 +404,25 @@ fn decide_opened(
     let handshake = c.handshake;
     let client = handshake.client;
     match protection::open(reading, received) {
-        Opened::Content { kind, len } => {
+        Ok(content) => {
             if is_first(c) {
                 if !client.listed {
                     return refused(c, Refusal::DecryptError);
                 }
             }
-            decide_content(c, table, starts, count, memory, kept, received, kind, len)
+            decide_content(
+                c,
+                table,
+                starts,
+                count,
+                memory,
+                kept,
+                received,
+                content.kind,
+                content.len,
+            )
         }
-        Opened::Refused(r) => refused(c, refused_as(is_first(c), r)),
+        Err(r) => refused(c, refused_as(is_first(c), r)),
     }
 }
 
@@ -437,11 +442,11 @@ fn decide(
     let reading = c.reading;
     let phase = handshake.phase;
     match closing::test_over(phase, reading.sequence) {
-        Verdict::Accepted => {
+        Ok(()) => {
             let kept = joining::held(memory, c.held as usize);
             decide_opened(c, table, starts, count, memory, kept, received)
         }
-        Verdict::Refused(r) => refused(c, r),
+        Err(r) => refused(c, r),
     }
 }
 
@@ -453,69 +458,49 @@ fn refuse(c: RecordConnection, r: Refusal) -> Taken
 {
     let next = closing::after_refusal(c, r);
     Taken {
-        said: Written::Refused(r),
-        holds: Data::Nothing,
-        handed: false,
-        master: [0u8; 48],
-        blocks: 0,
+        said: Err(r),
+        holds: None,
+        handed: None,
         next,
     }
 }
 
 // Whether memory of so many bytes has room for what goes there.
-fn has_room(keep: Keep, room: usize) -> bool
+fn has_room(keep: Option<Put>, room: usize) -> bool
     ensures { result ≡ room_for keep room }
 {
     match keep {
-        Keep::Same => true,
-        Keep::Put { at, from: _, len } => {
-            if room < at {
+        None => true,
+        Some(put) => {
+            if room < put.at {
                 return false;
             }
-            len <= room - at
+            put.len <= room - put.at
         }
     }
 }
 
 // What is to be held goes to the memory, which has room for it.
-fn put_held(keep: Keep, received: &[u8], memory: &mut [u8])
+fn put_held(keep: Option<Put>, received: &[u8], memory: &mut [u8])
     requires within { Within keep memory.old received.now }
     requires memory_value { room_for keep (length memory.old) ≡ true }
     ensures { (held : List ℕ) → held ++ drop (length held) memory.old ≡ memory.old → memory.new ≡ Taking.front (held_by keep memory.old held received.now) memory.old }
 {
-    match keep {
-        Keep::Same => {}
-        Keep::Put { at, from, len } => {
-            let end = from + len;
-            lists::copy(&received[from..end], &mut memory[at..]);
-        }
+    if let Some(put) = keep {
+        let end = put.from + put.len;
+        lists::copy(&received[put.from..end], &mut memory[put.at..]);
     }
 }
 
 // What a decision that was accepted is answered with.
-fn answered(d: Decided, said: Written) -> Taken
+fn answered(d: Decided, said: Result<usize, Refusal>) -> Taken
     ensures { result ≡ answered_by d said }
 {
-    let next = d.next;
-    let holds = d.holds;
-    if d.handed {
-        let master = d.master;
-        return Taken {
-            said,
-            holds,
-            handed: true,
-            master,
-            blocks: d.blocks,
-            next,
-        };
-    }
     Taken {
         said,
-        holds,
-        handed: false,
-        master: [0u8; 48],
-        blocks: 0,
-        next,
+        holds: d.holds,
+        handed: d.handed,
+        next: d.next,
     }
 }
 
@@ -536,20 +521,20 @@ fn settle(
     let records = d.records;
     let n = d.len;
     match verdict {
-        Verdict::Accepted => {
+        Ok(()) => {
             if !has_room(keep, memory.len()) {
                 return refuse(c, Refusal::ShortOutput);
             }
             let said = refusal::put(&records[..n], out);
             match said {
-                Written::Wrote(_) => {
+                Ok(_) => {
                     put_held(keep, received, memory);
                     answered(d, said)
                 }
-                Written::Refused(_) => refuse(c, Refusal::ShortOutput),
+                Err(_) => refuse(c, Refusal::ShortOutput),
             }
         }
-        Verdict::Refused(r) => refuse(c, r),
+        Err(r) => refuse(c, r),
     }
 }
 
@@ -574,20 +559,11 @@ pub fn take(
 
 // The application data of a record that was taken, as that part of it; empty where there is none, which `holds` tells
 // from data of no bytes.
-pub fn application_data(holds: Data, received: &[u8]) -> &[u8]
+pub fn application_data(holds: Option<usize>, received: &[u8]) -> &[u8]
     ensures { result.now ≡ data_in holds received.now }
 {
     match holds {
-        Data::Nothing => &received[0..0],
-        Data::Bytes(n) => {
-            if received.len() < 5 {
-                return &received[0..0];
-            }
-            if received.len() - 5 < n {
-                return &received[5..];
-            }
-            let end = 5 + n;
-            &received[5..end]
-        }
+        Some(len) => Part { start: 5, len }.of(received),
+        None => &[],
     }
 }

@@ -13,9 +13,9 @@
 
 ghost use Rattle.std.specs.Prelude.{◌≤◌};
 
-use record_server::{Answer, Data, RecordConnection, Taken};
-use refusal::Written;
-use server::Named;
+use record_server::{Answer, RecordConnection, Taken};
+use refusal::Refusal;
+use server::Rule;
 use std::io;
 use std::io::{Read, Write};
 
@@ -34,19 +34,20 @@ fn print_bytes(output: &mut impl Write, bytes: &[u8]) -> io::Result<()> {
         return Ok(());
     }
     let mut digest = [0u8; 32];
-    sha256::hash(bytes, &mut digest);
+    // Not refused: there is room, and the bytes are far from the limit.
+    let _ = sha256::hash(bytes, &mut digest);
     lines::hex(output, lines::part(&digest, 0, 8))?;
     Ok(())
 }
 
 // How many bytes were written, the alert, or the R number.
-fn print_said(output: &mut impl Write, said: Written) -> io::Result<()> {
+fn print_said(output: &mut impl Write, said: Result<usize, Refusal>) -> io::Result<()> {
     match said {
-        Written::Wrote(n) => {
+        Ok(n) => {
             lines::text(output, b"wrote ")?;
             lines::number(output, n)?;
         }
-        Written::Refused(r) => {
+        Err(r) => {
             if refusal::for_peer(r) {
                 lines::text(output, b"alert ")?;
             }
@@ -61,14 +62,12 @@ fn end_line(output: &mut impl Write) -> io::Result<()> {
     Ok(())
 }
 
-fn named(byte: u8) -> Named {
-    if byte == 1 {
-        return Named::Tell;
+fn named(byte: u8) -> Option<Rule> {
+    match byte {
+        1 => Some(Rule::Tell),
+        2 => Some(Rule::Hide),
+        _ => None,
     }
-    if byte == 2 {
-        return Named::Hide;
-    }
-    Named::Nothing
 }
 
 fn start(input: &mut impl Read, output: &mut impl Write) -> io::Result<RecordConnection> {
@@ -88,9 +87,8 @@ fn start(input: &mut impl Read, output: &mut impl Write) -> io::Result<RecordCon
         lines::part(&stand_in, 0, key_length),
         rule,
     );
-    let said = answer.said;
     lines::text(output, b"start ")?;
-    print_said(output, said)?;
+    print_said(output, answer.said)?;
     end_line(output)?;
     Ok(answer.next)
 }
@@ -99,19 +97,15 @@ fn start(input: &mut impl Read, output: &mut impl Write) -> io::Result<RecordCon
 // were hashed for it.
 fn print_taken(output: &mut impl Write, taken: Taken, received: &[u8]) -> io::Result<()> {
     let holds = taken.holds;
-    match holds {
-        Data::Nothing => {}
-        Data::Bytes(_) => {
-            lines::text(output, b" data")?;
-            print_bytes(output, record_server::application_data(holds, received))?;
-        }
+    if holds.is_some() {
+        lines::text(output, b" data")?;
+        print_bytes(output, record_server::application_data(holds, received))?;
     }
-    if taken.handed {
-        let master = taken.master;
+    if let Some(derived) = taken.handed {
         lines::text(output, b" blocks ")?;
-        lines::number(output, taken.blocks as usize)?;
+        lines::number(output, derived.blocks as usize)?;
         lines::text(output, b" master")?;
-        print_bytes(output, &master)?;
+        print_bytes(output, &derived.master)?;
     }
     end_line(output)
 }
@@ -128,9 +122,8 @@ fn take_one(
     out: &mut [u8],
 ) -> io::Result<RecordConnection> {
     let taken = record_server::take(c, table, starts, count, received, memory, out);
-    let said = taken.said;
     lines::text(output, b"record ")?;
-    print_said(output, said)?;
+    print_said(output, taken.said)?;
     print_bytes(output, out)?;
     print_bytes(output, memory)?;
     print_taken(output, taken, received)?;
@@ -166,8 +159,7 @@ fn take(
 
 // The end of a line that has what was said and the whole output.
 fn answered(output: &mut impl Write, answer: Answer, out: &[u8]) -> io::Result<RecordConnection> {
-    let said = answer.said;
-    print_said(output, said)?;
+    print_said(output, answer.said)?;
     print_bytes(output, out)?;
     end_line(output)?;
     Ok(answer.next)
@@ -188,10 +180,7 @@ fn send_one(
 fn room_of(n: usize) -> usize
     ensures { result ≤ 16500 }
 {
-    if 16500 < n {
-        return 16500;
-    }
-    n
+    n.min(16500)
 }
 
 fn send(
@@ -271,8 +260,7 @@ fn once(
 
 // Before the first call: a connection that is closed.
 fn nothing() -> RecordConnection {
-    let answer = record_server::start(b"", b"", b"", Named::Nothing);
-    answer.next
+    record_server::start(b"", b"", b"", None).next
 }
 
 // Call 2: another table, and its list where it is well formed.
@@ -285,13 +273,10 @@ fn new_table(
     let n = lines::number24(input)?;
     let size = lines::fill(input, table, n)?;
     let made = keytable::make_list(lines::part(table, 0, size), starts);
-    match made {
-        Written::Wrote(count) => Ok(Sizes { table: size, count }),
-        Written::Refused(_) => Ok(Sizes {
-            table: size,
-            count: sizes.count,
-        }),
-    }
+    Ok(Sizes {
+        table: size,
+        count: made.unwrap_or(sizes.count),
+    })
 }
 
 // Call 7: another count, and another number at a place of the list.
@@ -299,13 +284,10 @@ fn new_list(input: &mut impl Read, starts: &mut [u32], sizes: Sizes) -> io::Resu
     let count = lines::number24(input)?;
     let at = lines::number16(input)?;
     let start = lines::number24(input)? as u32;
-    if at < starts.len() {
-        starts[at] = start;
+    if let Some(place) = starts.get_mut(at) {
+        *place = start;
     }
-    Ok(Sizes {
-        table: sizes.table,
-        count,
-    })
+    Ok(Sizes { count, ..sizes })
 }
 
 // The sizes of table and list from now on: calls 2 and 7 bring others.
@@ -323,6 +305,7 @@ fn next_table(
     }
 }
 
+// Nothing says that input ends, so the calls are counted, up to a number that no input has.
 fn main(rt: HostRuntime) -> io::Result<()> {
     let mut input = rt.stdin();
     let mut output = rt.stdout();

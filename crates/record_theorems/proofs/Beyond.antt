@@ -5,9 +5,10 @@ use mathlib.Core.Path.{◌≡◌, refl, sym, ap}
 use Prim.Native.Nat.{ℕ, zero, suc}
 use mathlib.Core.Bool.{Bool, true, false, cond, not, ◌&&◌}
 use mathlib.Core.List.{List, ◌++◌}
-use mathlib.Core.Option.{Option, none, some}
 use lib.ListN.{length, get_or, take, drop, take-append-drop}
 use lib.Dec.{leb, ltb}
+use Rattle.std.specs.Prelude.{Result, Ok, Err, Option, None, Some}
+use Rattle.records.specs.declared.Content.{Content}
 use Rattle.refusal.specs.declared.Refusal.{Refusal}
 use Rattle.refusal.specs.declared.Refusal.TheVariants.{UnexpectedMessage, DecryptError}
 use Rattle.refusal.specs.Lent.{Outcome, gives, refuses, within}
@@ -15,7 +16,6 @@ use Rattle.refusal.specs.Table.{to_peer, number_of}
 use Rattle.sha256.specs.State.{absorb}
 use Rattle.keys.specs.declared.Side.TheVariants.{Client, Server}
 use Rattle.keys.specs.Secrets.{finished_of}
-use Rattle.layout.specs.declared.Verdict.{Verdict}
 use Rattle.layout.specs.Header.{header}
 use Rattle.layout.specs.Place.{filled_by, contents}
 use Rattle.handshake.specs.declared.Heard.{Heard}
@@ -31,7 +31,6 @@ use Rattle.server.specs.Change.{change_step}
 use Rattle.server.specs.Finished.{completed, finished_value}
 use Rattle.server.specs.Message.{awaited, message_step, blocks_in}
 use Rattle.records.specs.declared.ContentType.{ContentType}
-use Rattle.records.specs.declared.Opened.{Opened}
 use Rattle.records.specs.Protection.{opened, content_of}
 use Rattle.records.specs.Joining.{message_end, held_in}
 use Rattle.record_server.specs.declared.RecordConnection.{RecordConnection}
@@ -81,7 +80,7 @@ turn-pair v v' on on' R p refused waits steps =
     after n n' (Shared.accept flight next) (Shared.refuse q) h = h
     after n n' (Shared.accept flight next) (Shared.accept flight' next') h = h
 
-    go : (over few : Bool) (early : Verdict) (short : Bool) (n n' : ℕ) (step step' : Server.Step)
+    go : (over few : Bool) (early : Result Unit Refusal) (short : Bool) (n n' : ℕ) (step step' : Server.Step)
         → R (behind on p rest n step) (behind on' p rest n' step')
         → R (cond over (Judging.refuse UnexpectedMessage) (cond few (goes_on p) (after_early early (cond short (goes_on p)
         (after_step on p (message_end p.left) n step)))))
@@ -89,9 +88,9 @@ turn-pair v v' on on' R p refused waits steps =
         (after_step on' p (message_end p.left) n' step')))))
     go true few early short n n' step step' h = refused UnexpectedMessage
     go false true early short n n' step step' h = waits
-    go false false (Verdict.Refused r) short n n' step step' h = refused r
-    go false false Verdict.Accepted true n n' step step' h = waits
-    go false false Verdict.Accepted false n n' step step' h = after n n' step step' h
+    go false false (Err r) short n n' step step' h = refused r
+    go false false (Ok tt) true n n' step step' h = waits
+    go false false (Ok tt) false n n' step step' h = after n n' step step' h
 
 -- ---- past the ClientKeyExchange
 
@@ -107,13 +106,13 @@ abbrev Stays : Server.Step → Type 0
 Stays (Shared.refuse r) = Unit
 Stays (Shared.accept flight next) = Beyond next.phase
 
-tested_stays : (h : Verdict) (step : Server.Step) → Stays step → Stays (Shared.after_tests h step)
-tested_stays Verdict.Accepted step stays = stays
-tested_stays (Verdict.Refused r) step stays = tt
+tested_stays : (h : Result Unit Refusal) (step : Server.Step) → Stays step → Stays (Shared.after_tests h step)
+tested_stays (Ok tt) step stays = stays
+tested_stays (Err r) step stays = tt
 
 finished-stays : (c : Connection) (m : List ℕ) (o : Option (List ℕ)) → Stays (finished_value c m o)
-finished-stays c m none = tt
-finished-stays c m (some value) =
+finished-stays c m None = tt
+finished-stays c m (Some value) =
     go (c.client.listed && is_value value (finished_of Client c.secrets.master c.transcript))
     (finished_of Server c.secrets.master (absorb c.transcript m))
   where
@@ -179,9 +178,9 @@ StaysTaken (accept a) = Beyond a.next.handshake.phase
 abbrev SameTaken : Step → Step → Type 0
 SameTaken step step' = (step ≡ step') × StaysTaken step
 
-tested-same : (h : Verdict) (step step' : Step) → SameTaken step step' → SameTaken (after_test h step) (after_test h step')
-tested-same Verdict.Accepted step step' same = same
-tested-same (Verdict.Refused r) step step' same = (refl, tt)
+tested-same : (h : Result Unit Refusal) (step step' : Step) → SameTaken step step' → SameTaken (after_test h step) (after_test h step')
+tested-same (Ok tt) step step' same = same
+tested-same (Err r) step step' same = (refl, tt)
 
 module _ (v v' : View) (c : RecordConnection) (past : Beyond c.handshake.phase) where
   alert-same : (held : List ℕ) (h : Heard) → SameTaken (alert_step c held h) (alert_step c held h)
@@ -224,9 +223,9 @@ module _ (v v' : View) (c : RecordConnection) (past : Beyond c.handshake.phase) 
           tested-same (content_test kind (is_complete c.handshake.phase) (not (is_empty held)) (content_of c.reading b)) _ _
           (content-same held (content_of c.reading b) kind)
 
-      of-opened : (o : Opened) → SameTaken (opened_step v c held b o) (opened_step v' c held b o)
-      of-opened (Opened.Refused r) = (refl, tt)
-      of-opened (Opened.Content kind n) = of-first (unlisted_first c) kind
+      of-opened : (o : Result Content Refusal) → SameTaken (opened_step v c held b o) (opened_step v' c held b o)
+      of-opened (Err r) = (refl, tt)
+      of-opened (Ok content) = of-first (unlisted_first c) content.kind
 
   refused-past : (r : Refusal) → Beyond (after_refusal r c).handshake.phase
   refused-past r = rw (alerts-close r c) (go (to_peer r))

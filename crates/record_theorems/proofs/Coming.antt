@@ -6,9 +6,9 @@ use mathlib.Core.Bool.{Bool, true, false, cond, not, ◌&&◌, false≢true}
 use mathlib.Core.List.{List, [], ◌∷◌, ◌++◌}
 use lib.ListN.{length}
 use lib.Dec.{leb, eqb}
+use Rattle.std.specs.Prelude.{Ok, Err}
 use Rattle.refusal.specs.declared.Refusal.{Refusal}
 use Rattle.refusal.specs.declared.Refusal.TheVariants.{ShortOutput}
-use Rattle.refusal.specs.declared.Written.TheVariants.{Wrote, Refused}
 use Rattle.refusal.specs.Lent.{Outcome, gives, refuses, within, answer}
 use Rattle.refusal.specs.Table.{number_of, to_peer}
 use Rattle.server.specs.KeyExchange.{View}
@@ -28,14 +28,14 @@ Come v k (x ∷ xs) = (refused_to_host (call v k x).said ≡ false) × Come v (c
 -- ---- one call
 
 -- a refusal to the host is no alert
-host-refused : (r : Refusal) → refused_to_host (Refused r) ≡ true → to_peer r ≡ false
+host-refused : (r : Refusal) → refused_to_host (Err r) ≡ true → to_peer r ≡ false
 host-refused r h = go (to_peer r) (not (eqb (number_of r) 4)) h
   where
     go : (b e : Bool) → (not b && e) ≡ true → b ≡ false
     go true e h = absurd (false≢true h)
     go false e h = refl
 
-host-stays : (r : Refusal) (c : RecordConnection) → refused_to_host (Refused r) ≡ true → after_refusal r c ≡ c
+host-stays : (r : Refusal) (c : RecordConnection) → refused_to_host (Err r) ≡ true → after_refusal r c ≡ c
 host-stays r c h = alerts-close r c ∙ rw (host-refused r h)
 
 taken-stays : (c : RecordConnection) (out memory : List ℕ) (step : Step) → refused_to_host (settled c out memory step).said ≡ true
@@ -47,7 +47,7 @@ taken-stays c out memory (accept a) h = go (leb (length a.answer) (length out) &
     given b =
         cond b
         (record {
-          said = Wrote (length a.answer);
+          said = Ok (length a.answer);
           next = a.next;
           out = front a.answer out;
           memory = front a.held memory;

@@ -6,10 +6,10 @@ use mathlib.Core.Logic.{◌↔◌}
 use Prim.Native.Nat.{ℕ, ◌+◌}
 use mathlib.Core.Bool.{Bool, true, false, cond, false≢true}
 use mathlib.Core.List.{List, [], ◌∷◌, ◌++◌, append-nil, append_assoc}
-use mathlib.Core.Option.{Option, none, some, none-ne-some}
 use lib.ListN.{length}
+use Rattle.std.proofs.lemmas.Option.{none-some}
+use Rattle.std.specs.Prelude.{Err, Option, None, Some}
 use Rattle.refusal.specs.declared.Refusal.TheVariants.{BadTable, BadList}
-use Rattle.refusal.specs.declared.Written.TheVariants.{Refused}
 use Rattle.keytable.specs.Table.{well_formed}
 use Rattle.keytable.specs.Starts.{is_list}
 use Rattle.server.specs.declared.Rule.{Rule}
@@ -51,7 +51,7 @@ module _ (s : Settings) (v : View) (ok : acceptable s ≡ true) (proper : Proper
 
   -- ---- a series that came right completes
 
-  module _ {first : List Call} (began : ChangeCame s first) (key : List ℕ) (listed : v.lookup (named s began) ≡ some key) where
+  module _ {first : List Call} (began : ChangeCame s first) (key : List ℕ) (listed : v.lookup (named s began) ≡ Some key) where
     abbrev c : Connection
     c = (changed_to s v began).handshake
 
@@ -117,7 +117,7 @@ module _ (s : Settings) (v : View) (ok : acceptable s ≡ true) (proper : Proper
     sealed-run (Terms.fragment {rest = rest} sealed others) = run-fragment rest sealed (sealed-run others)
     sealed-run (Terms.warning {rest = rest} ignored sealed others) = run-warning rest ignored sealed (sealed-run others)
 
-  listed-known : (rule : Rule) {found : Option (List ℕ)} {key : List ℕ} → found ≡ some key → unknown rule found ≡ false
+  listed-known : (rule : Rule) {found : Option (List ℕ)} {key : List ℕ} → found ≡ Some key → unknown rule found ≡ false
   listed-known Rule.Tell e = rw e
   listed-known Rule.Hide e = refl
 
@@ -167,8 +167,8 @@ module _ (s : Settings) (v : View) (ok : acceptable s ≡ true) (proper : Proper
 table-proper : (table starts : List ℕ) (count : ℕ) → Proper (view_of table starts count)
 table-proper table starts count r e = go (well_formed table) (is_list table starts count) e
   where
-    go : (formed own : Bool) → cond formed (cond own none (some BadList)) (some BadTable) ≡ some r → refused_to_host (Refused r) ≡ true
-    go true true e = absurd (none-ne-some r e)
+    go : (formed own : Bool) → cond formed (cond own None (Some BadList)) (Some BadTable) ≡ Some r → refused_to_host (Err r) ≡ true
+    go true true e = absurd (none-some r e)
     go true false e = let is : BadList ≡ r = cc in rw (← is)
     go false own e = let is : BadTable ≡ r = cc in rw (← is)
 

@@ -6,17 +6,18 @@ use Prim.Native.Nat.{ℕ, zero, suc, ◌+◌, ◌≤◌, ◌<◌}
 use native.Mathlib.Omega.{arith}
 use mathlib.Core.Bool.{Bool, true, false, cond, not, ◌&&◌, false≢true}
 use mathlib.Core.List.{List, [], ◌∷◌, ◌++◌, append-nil, append_assoc}
-use mathlib.Core.Option.{Option, none, some, none-ne-some}
 use lib.ListN.{length, take, drop, length-append, length-drop, take-append-drop, get_or-append}
 use lib.Seq.{take-length, take-append-le, drop-append-le, drop-append_seam}
 use lib.Dec.{ltb}
 use borrow.Author.Tests.{ltb-false, le-ltb}
+use Rattle.std.proofs.lemmas.Option.{none-some}
+use Rattle.std.specs.Prelude.{Result, Ok, Err, Option, None, Some}
 use Rattle.endian.specs.Vector.{stated}
 use Rattle.refusal.specs.declared.Refusal.{Refusal}
 use Rattle.refusal.specs.declared.Refusal.TheVariants.{UnexpectedMessage}
-use Rattle.layout.specs.declared.Verdict.{Verdict}
 use Rattle.handshake.specs.Flight.{Flight, silence, joined}
-use Rattle.handshake.specs.Handed.{Derived, derived}
+use Rattle.handshake.specs.Handed.{derived}
+use Rattle.handshake.specs.declared.Derived.{Derived}
 use Rattle.handshake.specs.Header.{early_test}
 use Rattle.handshake.specs.Step as Shared
 use Rattle.server.specs.declared.Phase.{Phase}
@@ -43,8 +44,8 @@ module _ (bytes more : List ℕ) (header : 4 ≤ length bytes) where
       rw (drop-append-le 1 bytes more (omega arith), take-append-le 3 (drop 1 bytes) more some)
 
   early-more : (kind : Option ℕ) → early_test kind (bytes ++ more) ≡ early_test kind bytes
-  early-more none = refl
-  early-more (some kind) = rw (stated-more, get_or-append bytes more 0 0 (omega arith))
+  early-more None = refl
+  early-more (Some kind) = rw (stated-more, get_or-append bytes more 0 0 (omega arith))
 
 -- ---- one turn
 
@@ -79,7 +80,7 @@ module _ (v : View) (on : Progress → Judged) where
 
   -- the message is in
   first_more : (p : Progress) (more : List ℕ) → is_complete p.connection.phase ≡ false → 4 ≤ length p.left
-      → early_test (awaited p.connection.phase) p.left ≡ Verdict.Accepted → message_end p.left ≤ length p.left
+      → early_test (awaited p.connection.phase) p.left ≡ Ok tt → message_end p.left ≤ length p.left
       → judge_first v on (with_more p more)
       ≡ after_step on (with_more p more) (message_end p.left) (blocks_for v p (take (message_end p.left) p.left))
       (message_step v p.connection (take (message_end p.left) p.left) p.connection.phase)
@@ -96,7 +97,7 @@ module _ (v : View) (on : Progress → Judged) where
       )
 
 -- a message is awaited only where the connection is not over
-awaited-going : (phase : Phase) (m : List ℕ) → early_test (awaited phase) m ≡ Verdict.Accepted → is_over phase ≡ false
+awaited-going : (phase : Phase) (m : List ℕ) → early_test (awaited phase) m ≡ Ok tt → is_over phase ≡ false
 awaited-going Phase.Hello m e = refl
 awaited-going Phase.KeyExchange m e = refl
 awaited-going Phase.Change m e = refl
@@ -116,7 +117,7 @@ turn v p = of-header (ltb (length p.left) 4) refl (is_complete p.connection.phas
     full-more (b ∷ bs) more h = refl
 
     of-step : is_complete p.connection.phase ≡ false → 4 ≤ length p.left
-        → early_test (awaited p.connection.phase) p.left ≡ Verdict.Accepted
+        → early_test (awaited p.connection.phase) p.left ≡ Ok tt
         → message_end p.left ≤ length p.left
         → (step : Step) → message_step v p.connection (take (message_end p.left) p.left) p.connection.phase ≡ step → Turn v p
     of-step going long early whole (Shared.refuse r) step =
@@ -128,15 +129,15 @@ turn v p = of-header (ltb (length p.left) 4) refl (is_complete p.connection.phas
         (rw length-drop (omega arith)) step
         (λ on more. first_more v on p more going long early whole ∙ rw (step, drop-append-le (message_end p.left) p.left more whole))
 
-    of-early : is_complete p.connection.phase ≡ false → 4 ≤ length p.left → (verdict : Verdict)
+    of-early : is_complete p.connection.phase ≡ false → 4 ≤ length p.left → (verdict : Result Unit Refusal)
         → early_test (awaited p.connection.phase) p.left ≡ verdict → (b : Bool) → ltb (length p.left) (message_end p.left) ≡ b → Turn v p
-    of-early going long (Verdict.Refused r) early b whole =
+    of-early going long (Err r) early b whole =
         refused r (inl (early-told (awaited p.connection.phase) p.left r early))
         (λ on more. let long-more : 4 ≤ length (p.left ++ more) = rw length-append (omega arith) in
         first-tested v on (with_more p more) going long-more ∙ rw (early-more p.left more long (awaited p.connection.phase), early))
-    of-early going long Verdict.Accepted early true whole =
+    of-early going long (Ok tt) early true whole =
         waiting (rw (le-ltb _ _ long, whole)) (λ on. first-tested v on p going long ∙ rw (early, whole))
-    of-early going long Verdict.Accepted early false whole =
+    of-early going long (Ok tt) early false whole =
         of-step going long early (ltb-false _ _ whole) (message_step v p.connection (take (message_end p.left) p.left) p.connection.phase)
         refl
 
@@ -166,8 +167,8 @@ all_onto before master (refuse r) = refuse r
 all_onto before master (goes_on p) = goes_on (onto before master p)
 
 later-later : (a b d : Option Derived) → later (later a b) d ≡ later a (later b d)
-later-later a b none = refl
-later-later a b (some d) = refl
+later-later a b None = refl
+later-later a b (Some d) = refl
 
 onto-taken : (before : Flight) (master : Option Derived) (p : Progress) (rest : List ℕ) (n : ℕ) (flight : Flight) (next : Connection)
     → taken (onto before master p) rest n flight next ≡ onto before master (taken p rest n flight next)
@@ -210,7 +211,7 @@ module _ (v : View) where
           (all_first p ∙ at_once (judge_all v) p (e (judge_all v) []) ∙ ap (judge_all v) (no_more (taken p rest (blocks_for v p m) flight next)))
 
   -- a message at the front that passed the tests on its header
-  module _ (p : Progress) (m rest : List ℕ) {kind : ℕ} (is : p.left ≡ m ++ rest) (awaits : awaited p.connection.phase ≡ some kind)
+  module _ (p : Progress) (m rest : List ℕ) {kind : ℕ} (is : p.left ≡ m ++ rest) (awaits : awaited p.connection.phase ≡ Some kind)
       (passed : HeaderPassed kind m) where
     message-stepped : judge_all v p ≡ after_step (judge_all v) p (length m) (blocks_for v p m) (message_step v p.connection m p.connection.phase)
     message-stepped =
@@ -221,12 +222,12 @@ module _ (v : View) where
         ∙ first_more v (judge_all v) alone rest (going p.connection.phase awaits) passed.long (rw awaits passed.early) inside
         ∙ rw (passed.ends, take-length, is)
       where
-        going : (phase : Phase) → awaited phase ≡ some kind → is_complete phase ≡ false
+        going : (phase : Phase) → awaited phase ≡ Some kind → is_complete phase ≡ false
         going Phase.Hello e = refl
         going Phase.KeyExchange e = refl
         going Phase.Change e = refl
         going Phase.Finished e = refl
-        going Phase.Complete e = absurd (none-ne-some kind e)
+        going Phase.Complete e = absurd (none-some kind e)
         going Phase.Closed e = refl
 
     pub message-first : (flight : Flight) (next : Connection) → message_step v p.connection m p.connection.phase ≡ Shared.accept flight next
@@ -308,7 +309,7 @@ module _ (v : View) where
       (ltb (length p.left) (message_end p.left)) (blocks_for v p (take (message_end p.left) p.left))
       (message_step v p.connection (take (message_end p.left) p.left) p.connection.phase) (onto-within before master n)
     where
-      go : (over few : Bool) (early : Verdict) (short : Bool) (blocks : ℕ) (step : Step)
+      go : (over few : Bool) (early : Result Unit Refusal) (short : Bool) (blocks : ℕ) (step : Step)
           → ((q : Progress) → judge_bytes n v (onto before master q) ≡ all_onto before master (judge_bytes n v q))
           → cond over (refuse UnexpectedMessage)
           (cond few (goes_on (onto before master p)) (after_early early (cond short (goes_on (onto before master p))
@@ -317,10 +318,10 @@ module _ (v : View) where
           (after_step (judge_bytes n v) p (message_end p.left) blocks step)))))
       go true few early short blocks step next = refl
       go false true early short blocks step next = refl
-      go false false (Verdict.Refused r) short blocks step next = refl
-      go false false Verdict.Accepted true blocks step next = refl
-      go false false Verdict.Accepted false blocks (Shared.refuse r) next = refl
-      go false false Verdict.Accepted false blocks (Shared.accept flight after) next =
+      go false false (Err r) short blocks step next = refl
+      go false false (Ok tt) true blocks step next = refl
+      go false false (Ok tt) false blocks (Shared.refuse r) next = refl
+      go false false (Ok tt) false blocks (Shared.accept flight after) next =
           ap (judge_bytes n v) (onto-taken before master p (drop (message_end p.left) p.left) blocks flight after)
           ∙ next (taken p (drop (message_end p.left) p.left) blocks flight after)
 
@@ -346,4 +347,4 @@ module _ (v : View) where
       go (goes_on q) is next = rw is (next q (rests (with_more p part) q is))
 
 pub cut-free : CutFree
-cut-free v c parts = fed-joined v parts (record { connection = c; flight = silence; master = none; left = [] }) (unfold judge_bytes in refl)
+cut-free v c parts = fed-joined v parts (record { connection = c; flight = silence; master = None; left = [] }) (unfold judge_bytes in refl)

@@ -6,10 +6,10 @@ use mathlib.Core.Logic.{inl, inr}
 use Prim.Native.Nat.{ℕ}
 use mathlib.Core.Bool.{Bool, true, false, cond, true≢false}
 use mathlib.Core.List.{List, [], ◌∷◌, ◌++◌, append-nil, append_assoc}
-use mathlib.Core.Option.{none, some}
 use lib.ListN.{length, get_or}
 use lib.Dec.{eqb, ltb}
 use borrow.Author.Tests.{eqb-true}
+use Rattle.std.specs.Prelude.{Result, Ok, Err, None, Some}
 use Rattle.lists.specs.Lists.{same}
 use Rattle.lists.proofs.Equal.{same-eq}
 use Rattle.refusal.specs.declared.Refusal.{Refusal}
@@ -22,7 +22,6 @@ use Rattle.server.specs.Connection.{Settings}
 use Rattle.server.specs.KeyExchange.{View}
 use Rattle.server.specs.Change.{after_change}
 use Rattle.records.specs.declared.ContentType.{ContentType}
-use Rattle.records.specs.declared.Read.{Read}
 use Rattle.records.specs.Record.{fragment_of, record_read}
 use Rattle.records.specs.Protection.{last_sequence, following, mac_length, right_mac}
 use Rattle.records.specs.Joining.{unfinished}
@@ -56,7 +55,7 @@ module _ (s : Settings) (Set : List ℕ → Type 0) (v v' : View) where
       alert = ap (λ (d : RecordConnection). d.alert) c.is ∙ sym (ap (λ (d : RecordConnection). d.alert) c.is');
     }
 
-    step-at : (last : Bool) → eqb c.number last_sequence ≡ last → (b : List ℕ) (read : Read) → record_read 0 b ≡ read
+    step-at : (last : Bool) → eqb c.number last_sequence ≡ last → (b : List ℕ) (read : Result ContentType Refusal) → record_read 0 b ≡ read
         → (take_step v k.connection k.memory b ≡ cond last (refuse SequenceSpent) (plain_step v c.number (keys_by v) b read))
         × (take_step v' k'.connection k'.memory b ≡ cond last (refuse SequenceSpent) (plain_step v' c.number (keys_by v') b read))
     step-at last e b read is = (
@@ -69,20 +68,20 @@ module _ (s : Settings) (Set : List ℕ → Type 0) (v v' : View) where
         let both = unsent-seen v v' near (rw c.is) (rw c.is) (rw c.is') (rw c.is') content out in
         goes s Set v v' calls (sends content out) both.0 (changing c) (λ comes. absurd (true≢false (sym both.1 ∙ comes)))
 
-    module _ (b out : List ℕ) (not_last : eqb c.number last_sequence ≡ false) {kind : ContentType} (read : record_read 0 b ≡ Read.Record kind) where
-      both-refuse : (r : Refusal) → to_peer r ≡ true → plain_step v c.number (keys_by v) b (Read.Record kind) ≡ refuse r
-          → plain_step v' c.number (keys_by v') b (Read.Record kind) ≡ refuse r → Goes s Set v v' calls (takes b out) k k'
+    module _ (b out : List ℕ) (not_last : eqb c.number last_sequence ≡ false) {kind : ContentType} (read : record_read 0 b ≡ Ok kind) where
+      both-refuse : (r : Refusal) → to_peer r ≡ true → plain_step v c.number (keys_by v) b (Ok kind) ≡ refuse r
+          → plain_step v' c.number (keys_by v') b (Ok kind) ≡ refuse r → Goes s Set v v' calls (takes b out) k k'
       both-refuse r told e e' =
-          let both = step-at false not_last b (Read.Record kind) read in
+          let both = step-at false not_last b (Ok kind) read in
           refused-goes s Set v v' calls b out near (changing c) r (inl told) (both.0 ∙ e) (both.1 ∙ e')
 
       both-accept : (a a' : Accepted) → a.answer ≡ a'.answer → a.held ≡ a'.held → a.next.alert ≡ a'.next.alert
-          → plain_step v c.number (keys_by v) b (Read.Record kind) ≡ accept a → plain_step v' c.number (keys_by v') b (Read.Record kind) ≡ accept a'
+          → plain_step v c.number (keys_by v) b (Ok kind) ≡ accept a → plain_step v' c.number (keys_by v') b (Ok kind) ≡ accept a'
           → Together s v v' Set (calls ++ (takes b out ∷ [])) (record { connection = a.next; memory = front a.held k.memory })
           (record { connection = a'.next; memory = front a'.held k'.memory })
           → Goes s Set v v' calls (takes b out) k k'
       both-accept a a' answer held alert e e' next =
-          let both = step-at false not_last b (Read.Record kind) read in
+          let both = step-at false not_last b (Ok kind) read in
           accepted-goes s Set v v' calls b out near (changing c) a a' answer held alert (both.0 ∙ e) (both.1 ∙ e') next
 
     module _ (b out : List ℕ) (not_last : eqb c.number last_sequence ≡ false) where
@@ -108,7 +107,7 @@ module _ (s : Settings) (Set : List ℕ → Type 0) (v v' : View) where
             holds = held-front left k.memory short;
           })
 
-      alert-on : record_read 0 b ≡ Read.Record ContentType.Alert → (two : Bool) → eqb (length (fragment_of b)) 2 ≡ two
+      alert-on : record_read 0 b ≡ Ok ContentType.Alert → (two : Bool) → eqb (length (fragment_of b)) 2 ≡ two
           → (h : Heard) → heard (get_or (fragment_of b) 0 0) (get_or (fragment_of b) 1 0) ≡ h → Goes s Set v v' calls (takes b out) k k'
       alert-on read false e h is = both-refuse b out not_last read DecodeError refl (rw e) (rw e)
       alert-on read true e Heard.Illegal is = both-refuse b out not_last read IllegalParameter refl (rw (e, is)) (rw (e, is))
@@ -125,7 +124,7 @@ module _ (s : Settings) (Set : List ℕ → Type 0) (v v' : View) where
           (quiet (one_more (plainly c.number (keys_by v'))) c.left)
           refl refl refl (rw (e, is)) (rw (e, is)) (changing-still c.left (held-short k.memory (length c.left) c.left c.holds) plain)
 
-      change-on : record_read 0 b ≡ Read.Record ContentType.ChangeCipherSpec → (nothing_left : Bool) → is_empty c.left ≡ nothing_left
+      change-on : record_read 0 b ≡ Ok ContentType.ChangeCipherSpec → (nothing_left : Bool) → is_empty c.left ≡ nothing_left
           → (one : Bool) → same (fragment_of b) change_of_cipher ≡ one → Goes s Set v v' calls (takes b out) k k'
       change-on read false e one is = both-refuse b out not_last read UnexpectedMessage refl (rw e) (rw e)
       change-on read true e false is = both-refuse b out not_last read DecodeError refl (rw (e, is)) (rw (e, is))
@@ -159,7 +158,7 @@ module _ (s : Settings) (Set : List ℕ → Type 0) (v v' : View) where
               ap (λ (l : List ℕ). changed (plainly c.number (keys_made s c.legal c.exchange (w.lookup c.legal-exchange.identity) l))
               (after_change (keys_by w).connection)) nothing
 
-      handshake-bytes : record_read 0 b ≡ Read.Record ContentType.Handshake → (content : List ℕ) → fragment_of b ≡ content
+      handshake-bytes : record_read 0 b ≡ Ok ContentType.Handshake → (content : List ℕ) → fragment_of b ≡ content
           → Goes s Set v v' calls (takes b out) k k'
       handshake-bytes read [] is = both-refuse b out not_last read DecodeError refl (rw is) (rw is)
       handshake-bytes read (d ∷ ds) is = of_length (ltb (length all) 4) refl
@@ -181,7 +180,7 @@ module _ (s : Settings) (Set : List ℕ → Type 0) (v v' : View) where
           going_on : View → Accepted
           going_on w =
               progressed (plainly c.number (keys_by w)) (alone (keys_by w).connection all)
-              (pending_with (plainly c.number (keys_by w)).pending (keys_by w).connection none)
+              (pending_with (plainly c.number (keys_by w)).pending (keys_by w).connection None)
 
           of_length : (few : Bool) → ltb (length all) 4 ≡ few → Goes s Set v v' calls (takes b out) k k'
           of_length true few =
@@ -194,27 +193,27 @@ module _ (s : Settings) (Set : List ℕ → Type 0) (v v' : View) where
     changing-on (sends content out) = changing-sends content out
     changing-on (takes b out) = of-last (eqb c.number last_sequence) refl (record_read 0 b) refl
       where
-        of-last : (last : Bool) → eqb c.number last_sequence ≡ last → (read : Read) → record_read 0 b ≡ read
+        of-last : (last : Bool) → eqb c.number last_sequence ≡ last → (read : Result ContentType Refusal) → record_read 0 b ≡ read
             → Goes s Set v v' calls (takes b out) k k'
         of-last true e read is =
             let both = step-at true e b read is in refused-goes s Set v v' calls b out near (changing c) SequenceSpent (inr refl) both.0 both.1
-        of-last false e (Read.Refused r) is =
-            let both = step-at false e b (Read.Refused r) is in
+        of-last false e (Err r) is =
+            let both = step-at false e b (Err r) is in
             refused-goes s Set v v' calls b out near (changing c) r (inl (read-alerts 0 b is)) both.0 both.1
-        of-last false e (Read.Record ContentType.ApplicationData) is = both-refuse b out e is UnexpectedMessage refl refl refl
-        of-last false e (Read.Record ContentType.Alert) is =
+        of-last false e (Ok ContentType.ApplicationData) is = both-refuse b out e is UnexpectedMessage refl refl refl
+        of-last false e (Ok ContentType.Alert) is =
             alert-on b out e is (eqb (length (fragment_of b)) 2) refl (heard (get_or (fragment_of b) 0 0) (get_or (fragment_of b) 1 0)) refl
-        of-last false e (Read.Record ContentType.ChangeCipherSpec) is =
+        of-last false e (Ok ContentType.ChangeCipherSpec) is =
             change-on b out e is (is_empty c.left) refl (same (fragment_of b) change_of_cipher) refl
-        of-last false e (Read.Record ContentType.Handshake) is = handshake-bytes b out e is (fragment_of b) refl
+        of-last false e (Ok ContentType.Handshake) is = handshake-bytes b out e is (fragment_of b) refl
 
   -- ---- the first record under the client's protection, on connections that differ
 
   -- no record whose MAC is right under the key of an identity of the set is judged at x
   abbrev pub Unjudged : View → List Call → Call → Type 0
   Unjudged w calls x =
-      (began : ChangeCame s calls) → Set (named s began) → (key : List ℕ) → w.lookup (named s began) ≡ some key
-      → (b out : List ℕ) → x ≡ takes b out → (kind : ContentType) → record_read mac_length b ≡ Read.Record kind
+      (began : ChangeCame s calls) → Set (named s began) → (key : List ℕ) → w.lookup (named s began) ≡ Some key
+      → (b out : List ℕ) → x ≡ takes b out → (kind : ContentType) → record_read mac_length b ≡ Ok kind
       → ¬ (right_mac (under (bytes_of (client_key s began key)) 0) b ≡ true)
 
   module _ (calls : List Call) (k k' : Kept) (began : ChangeCame s calls) (set : Set (named s began)) (is : k.connection ≡ changed_to s v began)

@@ -6,7 +6,7 @@ use Prim.Native.Nat.{ℕ}
 use native.Mathlib.Omega.{arith}
 use mathlib.Core.Bool.{true}
 use mathlib.Core.List.{List, [], ◌∷◌, ◌++◌, append-nil}
-use mathlib.Core.Option.{Option, none}
+use Rattle.std.specs.Prelude.{Option, None}
 use Rattle.refusal.specs.declared.Refusal.{Refusal}
 use Rattle.refusal.specs.declared.Refusal.TheVariants.{UnexpectedMessage}
 use Rattle.layout.specs.Place.{filled_by, after_header, contents}
@@ -30,7 +30,7 @@ use Rattle.record_theorems.proofs.Cutting.{taken, blocks_for, First, is-refused,
 
 -- all of the bytes are left, and nothing is sent
 abbrev pub waiting : Connection → List ℕ → Progress
-waiting c bytes = record { connection = c; flight = silence; master = none; left = bytes }
+waiting c bytes = record { connection = c; flight = silence; master = None; left = bytes }
 
 pub data Finishing (s : Settings) (v : View) {hello : List ℕ} (legal : LegalHello s.suites hello) (exchange : List ℕ) (found : Option (List ℕ))
     (bytes : List ℕ) : Type 0 where

@@ -5,8 +5,8 @@ use mathlib.Core.Path.{◌≡◌, refl, sym, ap, subst, ◌∙◌}
 use Prim.Native.Nat.{ℕ}
 use mathlib.Core.Bool.{Bool, true, false, cond}
 use mathlib.Core.List.{List, []}
-use mathlib.Core.Option.{Option, none, some}
 use lib.Dec.{eqb}
+use Rattle.std.specs.Prelude.{Result, Ok, Err, Option, None, Some}
 use Rattle.lists.specs.Lists.{part}
 use Rattle.refusal.specs.declared.Refusal.{Refusal}
 use Rattle.refusal.specs.declared.Refusal.TheVariants.{DecryptError}
@@ -16,7 +16,6 @@ use Rattle.keys.specs.Secrets.{master_under, keys}
 use Rattle.server.specs.Connection.{Settings, started}
 use Rattle.server.specs.KeyExchange.{View}
 use Rattle.records.specs.declared.ContentType.{ContentType}
-use Rattle.records.specs.declared.Read.{Read}
 use Rattle.records.specs.Record.{record_read}
 use Rattle.records.specs.Protection.{right_mac, mac_read}
 use Rattle.record_server.specs.Connection.{null_suite, keys_of}
@@ -28,17 +27,17 @@ use Rattle.record_theorems.proofs.Taking.{read-alerts}
 use Rattle.record_theorems.proofs.Standing.{changed_with}
 
 -- what it is refused with, by the tests on records
-abbrev pub first_refusal : Read → Refusal
-first_refusal (Read.Refused r) = cond (eqb (number_of r) 20) DecryptError r
-first_refusal (Read.Record kind) = DecryptError
+abbrev pub first_refusal : Result ContentType Refusal → Refusal
+first_refusal (Err r) = cond (eqb (number_of r) 20) DecryptError r
+first_refusal (Ok kind) = DecryptError
 
-pub first-alerts : (b : List ℕ) (read : Read) → record_read 32 b ≡ read → to_peer (first_refusal read) ≡ true
-first-alerts b (Read.Refused r) e = go (eqb (number_of r) 20)
+pub first-alerts : (b : List ℕ) (read : Result ContentType Refusal) → record_read 32 b ≡ read → to_peer (first_refusal read) ≡ true
+first-alerts b (Err r) e = go (eqb (number_of r) 20)
   where
     go : (t : Bool) → to_peer (cond t DecryptError r) ≡ true
     go true = refl
     go false = read-alerts 32 b e
-first-alerts b (Read.Record kind) e = refl
+first-alerts b (Ok kind) e = refl
 
 -- the first of the key block, where there is a master secret and where there is none
 client-part : (o : Outcome) (server client : List ℕ)
@@ -53,32 +52,32 @@ client-part (gives secret) server client = go (keys secret server client null_su
 client-part (refuses r) server client = refl
 
 module _ (s : Settings) {calls : List Call} (began : ChangeCame s calls) where
-  key-is : (key : List ℕ) → (keys_of (keyed s began.legal_hello began.exchange (some key))).client ≡ bytes_of (client_key s began key)
+  key-is : (key : List ℕ) → (keys_of (keyed s began.legal_hello began.exchange (Some key))).client ≡ bytes_of (client_key s began key)
   unfolding started
   key-is key =
       sym (client-part (master_under key began.legal_hello.fields.random s.random) s.random began.legal_hello.fields.random)
 
   module _ (w : View) (memory b : List ℕ) where
-    abbrev opened_as : Option (List ℕ) → Read → Step
+    abbrev opened_as : Option (List ℕ) → Result ContentType Refusal → Step
     opened_as found read = opened_step w (changed_with s began found) [] b (mac_read (changed_with s began found).reading b read)
 
-    opens : (found : Option (List ℕ)) (read : Read) → record_read 32 b ≡ read → take_step w (changed_with s began found) memory b ≡ opened_as found read
+    opens : (found : Option (List ℕ)) (read : Result ContentType Refusal) → record_read 32 b ≡ read → take_step w (changed_with s began found) memory b ≡ opened_as found read
     opens found read is = ap (opened_as found) is
 
-    pub first-refused : (found : Option (List ℕ)) (read : Read) → record_read 32 b ≡ read
-        → ((key : List ℕ) → found ≡ some key → (kind : ContentType) → read ≡ Read.Record kind
+    pub first-refused : (found : Option (List ℕ)) (read : Result ContentType Refusal) → record_read 32 b ≡ read
+        → ((key : List ℕ) → found ≡ Some key → (kind : ContentType) → read ≡ Ok kind
         → ¬ (right_mac (under (bytes_of (client_key s began key)) 0) b ≡ true))
         → take_step w (changed_with s began found) memory b ≡ refuse (first_refusal read)
-    first-refused found (Read.Refused r) is never = opens found (Read.Refused r) is
-    first-refused none (Read.Record kind) is never = opens none (Read.Record kind) is ∙ go (right_mac (changed_with s began none).reading b) refl
+    first-refused found (Err r) is never = opens found (Err r) is
+    first-refused None (Ok kind) is never = opens None (Ok kind) is ∙ go (right_mac (changed_with s began None).reading b) refl
       where
-        go : (right : Bool) → right_mac (changed_with s began none).reading b ≡ right → opened_as none (Read.Record kind) ≡ refuse DecryptError
+        go : (right : Bool) → right_mac (changed_with s began None).reading b ≡ right → opened_as None (Ok kind) ≡ refuse DecryptError
         go true e = rw e
         go false e = rw e
-    first-refused (some key) (Read.Record kind) is never =
-        opens (some key) (Read.Record kind) is ∙ go (right_mac (changed_with s began (some key)).reading b) refl
+    first-refused (Some key) (Ok kind) is never =
+        opens (Some key) (Ok kind) is ∙ go (right_mac (changed_with s began (Some key)).reading b) refl
       where
-        go : (right : Bool) → right_mac (changed_with s began (some key)).reading b ≡ right
-            → opened_as (some key) (Read.Record kind) ≡ refuse DecryptError
+        go : (right : Bool) → right_mac (changed_with s began (Some key)).reading b ≡ right
+            → opened_as (Some key) (Ok kind) ≡ refuse DecryptError
         go true e = absurd (never key refl kind refl (subst (λ (l : List ℕ). right_mac (under l 0) b ≡ true) (key-is key) e))
         go false e = rw e

@@ -5,15 +5,14 @@ use mathlib.Core.Logic.{inl, inr}
 use Prim.Native.Nat.{ℕ}
 use mathlib.Core.Bool.{Bool, true, false, cond, true≢false}
 use mathlib.Core.List.{List, [], ◌∷◌, ◌++◌, append-nil, append_assoc}
-use mathlib.Core.Option.{Option, none, some}
 use lib.ListN.{length, get_or}
 use lib.Dec.{eqb}
 use borrow.Author.Tests.{eqb-true}
+use Rattle.std.specs.Prelude.{Result, Ok, Err, Option, None, Some}
 use Rattle.lists.specs.Lists.{same}
 use Rattle.lists.proofs.Equal.{same-eq}
 use Rattle.refusal.specs.declared.Refusal.{Refusal}
 use Rattle.refusal.specs.declared.Refusal.TheVariants.{UnexpectedMessage, IllegalParameter, DecodeError, SequenceSpent}
-use Rattle.refusal.specs.declared.Written.TheVariants.{Refused}
 use Rattle.refusal.specs.Table.{to_peer}
 use Rattle.handshake.specs.declared.Heard.{Heard}
 use Rattle.handshake.specs.Alert.{heard}
@@ -22,7 +21,6 @@ use Rattle.server.specs.Connection.{Settings, rule_of, acceptable, started}
 use Rattle.server.specs.KeyExchange.{View}
 use Rattle.server.specs.Change.{after_change, change_step}
 use Rattle.records.specs.declared.ContentType.{ContentType}
-use Rattle.records.specs.declared.Read.{Read}
 use Rattle.records.specs.Record.{fragment_of, record_read}
 use Rattle.records.specs.Protection.{last_sequence, following}
 use Rattle.records.specs.Joining.{held_in}
@@ -74,7 +72,7 @@ module _ (s : Settings) (v : View) where
       abbrev step : Step
       step = take_step v k.connection k.memory b
 
-      not-to-host : {r : Refusal} → step ≡ refuse r → refused_to_host (Refused r) ≡ true → ⊥
+      not-to-host : {r : Refusal} → step ≡ refuse r → refused_to_host (Err r) ≡ true → ⊥
       not-to-host e host =
           true≢false (sym host ∙ subst (λ (t : Step). refused_to_host (settled k.connection out k.memory t).said ≡ false) e comes)
 
@@ -90,20 +88,20 @@ module _ (s : Settings) (v : View) where
           go true e = absurd (not-to-host e refl)
           go false e = e
 
-      module _ {kind : ContentType} (read : record_read 0 b ≡ Read.Record kind) where
-        decided : {t : Step} → plain_step v n p b (Read.Record kind) ≡ t → step ≡ t
+      module _ {kind : ContentType} (read : record_read 0 b ≡ Ok kind) where
+        decided : {t : Step} → plain_step v n p b (Ok kind) ≡ t → step ≡ t
         decided e = step_is ∙ ap (plain_step v n p b) read ∙ e
 
-        closed-by : (r : Refusal) → to_peer r ≡ true → plain_step v n p b (Read.Record kind) ≡ refuse r
+        closed-by : (r : Refusal) → to_peer r ≡ true → plain_step v n p b (Ok kind) ≡ refuse r
             → AfterPlain s v (calls ++ (x ∷ [])) (call v k x).kept
         closed-by r told e = closes (alerted v k b out (decided e) told)
 
-        kept-is : (a : Accepted) → plain_step v n p b (Read.Record kind) ≡ accept a
+        kept-is : (a : Accepted) → plain_step v n p b (Ok kind) ≡ accept a
             → (call v k x).kept ≡ record { connection = a.next; memory = front a.held k.memory }
         kept-is a e = accepted v k b out (decided e) comes
 
         -- one more record without protection
-        stays_plain : (a : Accepted) → plain_step v n p b (Read.Record kind) ≡ accept a → (all : List ℕ) → Plain (calls ++ (x ∷ [])) all
+        stays_plain : (a : Accepted) → plain_step v n p b (Ok kind) ≡ accept a → (all : List ℕ) → Plain (calls ++ (x ∷ [])) all
             → (q : Progress) → judged v (started s) all ≡ goes_on q → a.next ≡ plainly (following n) q → a.held ≡ q.left
             → StandsPlain s v (calls ++ (x ∷ [])) all (call v k x).kept
         stays_plain a e all plain q goes_on_lem next held =
@@ -121,14 +119,14 @@ module _ (s : Settings) (v : View) where
         this = record { bytes = b; out = out; is = refl; read = read; holds = refl }
 
       -- an ignored warning
-      warned : record_read 0 b ≡ Read.Record ContentType.Alert → eqb (length (fragment_of b)) 2 ≡ true
+      warned : record_read 0 b ≡ Ok ContentType.Alert → eqb (length (fragment_of b)) 2 ≡ true
           → heard (get_or (fragment_of b) 0 0) (get_or (fragment_of b) 1 0) ≡ Heard.Ignored → StandsPlain s v (calls ++ (x ∷ [])) bytes (call v k x).kept
       warned read two is =
           stays_plain read (quiet (one_more (plainly n p)) p.left) (rw (two, is)) bytes
           (plain-warned stands.came (ignored-warning (fragment_of b) (eqb-true _ _ two) is) (this read)) p stands.goes refl refl
 
       -- handshake bytes that are judged to go on
-      continued : record_read 0 b ≡ Read.Record ContentType.Handshake → (content : List ℕ) → fragment_of b ≡ content → is_empty content ≡ false
+      continued : record_read 0 b ≡ Ok ContentType.Handshake → (content : List ℕ) → fragment_of b ≡ content → is_empty content ≡ false
           → (q : Progress)
           → judged v p.connection (p.left ++ content) ≡ goes_on q → StandsPlain s v (calls ++ (x ∷ [])) (bytes ++ content) (call v k x).kept
       continued read [] is some_bytes q e = absurd (true≢false some_bytes)
@@ -139,7 +137,7 @@ module _ (s : Settings) (v : View) where
           (handshake-next s v bytes n p stands.goes (d ∷ ds) q e) refl
 
       -- the change of cipher
-      changed-now : record_read 0 b ≡ Read.Record ContentType.ChangeCipherSpec → same (fragment_of b) change_of_cipher ≡ true → {hello : List ℕ}
+      changed-now : record_read 0 b ≡ Ok ContentType.ChangeCipherSpec → same (fragment_of b) change_of_cipher ≡ true → {hello : List ℕ}
           (legal : LegalHello s.suites hello) (exchange : List ℕ) (found : Option (List ℕ)) → p ≡ keys_made s legal exchange found []
           → (call v k x).kept.connection ≡ changed (plainly n (keys_made s legal exchange found [])) (after_change (keyed s legal exchange found))
       changed-now read one legal exchange found is =
@@ -154,7 +152,7 @@ module _ (s : Settings) (v : View) where
       abbrev After : Type 0
       After = AfterPlain s v (calls ++ (x ∷ [])) (call v k x).kept
 
-      after-alert : record_read 0 b ≡ Read.Record ContentType.Alert → After
+      after-alert : record_read 0 b ≡ Ok ContentType.Alert → After
       after-alert read = of_length (eqb (length (fragment_of b)) 2) refl (heard (get_or (fragment_of b) 0 0) (get_or (fragment_of b) 1 0)) refl
         where
           of_length : (two : Bool) → eqb (length (fragment_of b)) 2 ≡ two → (h : Heard)
@@ -165,7 +163,7 @@ module _ (s : Settings) (v : View) where
               closes (ap (λ (l : Kept). l.connection.handshake.phase) (kept-is read (quiet (closed_with no_alert) p.left) (rw (e, is))))
           of_length true e Heard.Ignored is = still bytes (warned read e is)
 
-      after-change : record_read 0 b ≡ Read.Record ContentType.ChangeCipherSpec → After
+      after-change : record_read 0 b ≡ Ok ContentType.ChangeCipherSpec → After
       unfolding started
       after-change read = of_left (is_empty p.left) refl (same (fragment_of b) change_of_cipher) refl stage
         where
@@ -198,7 +196,7 @@ module _ (s : Settings) (v : View) where
               changes began good known (changed-now read is legal exchange found (q ∙ ap (keys_made s legal exchange found) nothing))
 
       module _ (proper : Proper v) where
-        after-handshake : record_read 0 b ≡ Read.Record ContentType.Handshake → After
+        after-handshake : record_read 0 b ≡ Ok ContentType.Handshake → After
         after-handshake read = of-content (fragment_of b) refl
           where
             of-judged : (d : ℕ) (ds : List ℕ) → fragment_of b ≡ d ∷ ds → (j : Judged) → judged v p.connection (p.left ++ (d ∷ ds)) ≡ j → After
@@ -213,12 +211,12 @@ module _ (s : Settings) (v : View) where
             of-content [] is = closed-by read DecodeError refl (rw is)
             of-content (d ∷ ds) is = of-judged d ds is (judged v p.connection (p.left ++ (d ∷ ds))) refl
 
-        after-record : (read : Read) → record_read 0 b ≡ read → After
-        after-record (Read.Refused r) e = closes (alerted v k b out (step_is ∙ ap (plain_step v n p b) e) (read-alerts 0 b e))
-        after-record (Read.Record ContentType.ApplicationData) e = closed-by e UnexpectedMessage refl refl
-        after-record (Read.Record ContentType.Alert) e = after-alert e
-        after-record (Read.Record ContentType.ChangeCipherSpec) e = after-change e
-        after-record (Read.Record ContentType.Handshake) e = after-handshake e
+        after-record : (read : Result ContentType Refusal) → record_read 0 b ≡ read → After
+        after-record (Err r) e = closes (alerted v k b out (step_is ∙ ap (plain_step v n p b) e) (read-alerts 0 b e))
+        after-record (Ok ContentType.ApplicationData) e = closed-by e UnexpectedMessage refl refl
+        after-record (Ok ContentType.Alert) e = after-alert e
+        after-record (Ok ContentType.ChangeCipherSpec) e = after-change e
+        after-record (Ok ContentType.Handshake) e = after-handshake e
 
   pub plain-on : Proper v → {calls : List Call} {bytes : List ℕ} (k : Kept) (x : Call) → StandsPlain s v calls bytes k
       → refused_to_host (call v k x).said ≡ false → AfterPlain s v (calls ++ (x ∷ [])) (call v k x).kept
@@ -229,7 +227,7 @@ module _ (s : Settings) (v : View) where
 
   -- where bytes are refused at all, the host is told
   abbrev ToHost : List ℕ → Type 0
-  ToHost bytes = (r : Refusal) → judged v (started s) bytes ≡ Judging.refuse r → refused_to_host (Refused r) ≡ true
+  ToHost bytes = (r : Refusal) → judged v (started s) bytes ≡ Judging.refuse r → refused_to_host (Err r) ≡ true
 
   fragment-comes : {calls : List Call} {bytes : List ℕ} (k : Kept) (stands : StandsPlain s v calls bytes k) {x : Call} {d : ℕ} {ds : List ℕ}
       → PlainRecord ContentType.Handshake (d ∷ ds) x → refused_to_host (call v k x).said ≡ false → (rest : List ℕ)
@@ -296,8 +294,8 @@ module _ (s : Settings) (v : View) where
     keyed-now = keys_made s began.legal_hello began.exchange (v.lookup (named s began)) []
 
     -- a refusal of the table is the only one
-    first-judged : (v.refusal ≡ Option.none → judged v (started s) (began.hello ++ began.exchange) ≡ goes_on keyed-now)
-        × ((r : Refusal) → v.refusal ≡ some r → judged v (started s) (began.hello ++ began.exchange) ≡ Judging.refuse r)
+    first-judged : (v.refusal ≡ None → judged v (started s) (began.hello ++ began.exchange) ≡ goes_on keyed-now)
+        × ((r : Refusal) → v.refusal ≡ Some r → judged v (started s) (began.hello ++ began.exchange) ≡ Judging.refuse r)
     first-judged =
         let last : judged v (started s) (began.hello ++ began.exchange) ≡ judged v (started s) (began.hello ++ (began.exchange ++ [])) =
         ap (λ (l : List ℕ). judged v (started s) (began.hello ++ l)) (sym (append-nil began.exchange)) in (
@@ -308,16 +306,16 @@ module _ (s : Settings) (v : View) where
     first-to-host : ToHost (began.hello ++ began.exchange)
     first-to-host r e = of-table v.refusal refl
       where
-        of-table : (o : Option Refusal) → v.refusal ≡ o → refused_to_host (Refused r) ≡ true
-        of-table none good = absurd (refused-on (sym e ∙ first-judged.0 good))
-        of-table (some q) bad = let is : q ≡ r = cc (first-judged.1 q bad) in rw (← is) (proper q bad)
+        of-table : (o : Option Refusal) → v.refusal ≡ o → refused_to_host (Err r) ≡ true
+        of-table None good = absurd (refused-on (sym e ∙ first-judged.0 good))
+        of-table (Some q) bad = let is : q ≡ r = cc (first-judged.1 q bad) in rw (← is) (proper q bad)
 
     first_goes : (p : Progress) → judged v (started s) (began.hello ++ began.exchange) ≡ goes_on p → p ≡ keyed-now
     first_goes p e = of-table v.refusal refl
       where
         of-table : (o : Option Refusal) → v.refusal ≡ o → p ≡ keyed-now
-        of-table none good = cc (first-judged.0 good)
-        of-table (some q) bad = absurd (refused-on (sym (first-judged.1 q bad) ∙ e))
+        of-table None good = cc (first-judged.0 good)
+        of-table (Some q) bad = absurd (refused-on (sym (first-judged.1 q bad) ∙ e))
 
     pub change-run : (memory : List ℕ) → acceptable s ≡ true → Come v (begun s memory) calls
         → (run v (begun s memory) calls).connection ≡ changed_to s v began

@@ -4,13 +4,13 @@ use mathlib.Core.Path.{◌≡◌, refl, sym, ap, ◌∙◌}
 use Prim.Native.Nat.{ℕ}
 use mathlib.Core.Bool.{Bool, true, false, cond}
 use mathlib.Core.List.{List}
-use mathlib.Core.Option.{Option, none, some}
 use lib.ListN.{length}
 use lib.Dec.{ltb}
+use Rattle.std.specs.Prelude.{Option, None, Some}
 use Rattle.refusal.specs.declared.Refusal.TheVariants.{UnexpectedMessage}
 use Rattle.messages.specs.KeyExchange.{read_vector}
 use Rattle.handshake.specs.Flight.{Flight, silence}
-use Rattle.handshake.specs.Handed.{Derived}
+use Rattle.handshake.specs.declared.Derived.{Derived}
 use Rattle.handshake.specs.Step as Shared
 use Rattle.server.specs.declared.Rule.{Rule}
 use Rattle.server.specs.declared.Phase.{Phase}
@@ -37,7 +37,7 @@ pub data Pair (j j' : Judged) : Type 0 where
 pair-by : {j j' i i' : Judged} → j ≡ i → j' ≡ i' → Pair i i' → Pair j j'
 pair-by e e' pair = rw (e, e') pair
 
-module _ (s : Settings) (hide : rule_of s.named ≡ Rule.Hide) (v v' : View) (good : v.refusal ≡ none) (good' : v'.refusal ≡ none) where
+module _ (s : Settings) (hide : rule_of s.named ≡ Rule.Hide) (v v' : View) (good : v.refusal ≡ None) (good' : v'.refusal ≡ None) where
   change-pair : (p p' : Progress) → p.connection.phase ≡ Phase.Change → p'.connection.phase ≡ Phase.Change → p.flight ≡ p'.flight
       → p.left ≡ p'.left
       → Pair (judge_all v p) (judge_all v' p')
@@ -68,10 +68,10 @@ module _ (s : Settings) (hide : rule_of s.named ≡ Rule.Hide) (v v' : View) (go
       of-read : (m rest : List ℕ) (o : Option (List ℕ)) → read_vector 16 m ≡ o
           → Pair (behind (judge_all v) p rest (blocks_for v p m) (message_step v (helloed s legal) m Phase.KeyExchange))
           (behind (judge_all v') p rest (blocks_for v' p m) (message_step v' (helloed s legal) m Phase.KeyExchange))
-      of-read m rest none read =
+      of-read m rest None read =
           of_steps rest _ _ (Shared.refuse (unread 16 m)) (Shared.refuse (unread 16 m))
           (exchange-read s v legal m good ∙ rw read) (exchange-read s v' legal m good' ∙ rw read) (equal refl)
-      of-read m rest (some identity) read =
+      of-read m rest (Some identity) read =
           let exchange : LegalKeyExchange m = record { identity = identity; read = read } in
           of_steps rest (blocks_for v p m) (blocks_for v' p m) (Shared.accept silence (keyed s legal m (v.lookup identity))) (Shared.accept silence (keyed s legal m (v'.lookup identity)))
           (exchange-legal s v legal good exchange ∙ rw hide) (exchange-legal s v' legal good' exchange ∙ rw hide)
@@ -95,13 +95,13 @@ module _ (s : Settings) (hide : rule_of s.named ≡ Rule.Hide) (v v' : View) (go
       of-step m rest (Shared.refuse r) e = rw e (equal refl)
       of-step m rest (Shared.accept flight next) e =
           let legal = hello-accepted s v m flight next e in
-          rw (hello-legal s v legal) (exchange-pair legal (joined_flight silence (answer_to s legal)) none rest)
+          rw (hello-legal s v legal) (exchange-pair legal (joined_flight silence (answer_to s legal)) None rest)
 
   -- at a stage before the change of cipher
   pub reached-pair : {bytes : List ℕ} {p : Progress} → Reached s v bytes p → (left : List ℕ)
       → Pair (judged v p.connection left) (judged v' p.connection left)
   reached-pair (awaits-hello is) left = rw is (hello-pair left)
-  reached-pair (awaits-exchange hello rest legal split is) left = rw is (exchange-pair legal silence none left)
+  reached-pair (awaits-exchange hello rest legal split is) left = rw is (exchange-pair legal silence None left)
   reached-pair (awaits-change hello exchange rest legal legal-exchange split good known is) left =
       let p = alone (keyed s legal exchange (v.lookup legal-exchange.identity)) left in
       rw is (change-pair p p refl refl refl refl)

@@ -5,7 +5,7 @@ use mathlib.Core.Path.{◌≡◌, refl, sym, ap, ◌∙◌}
 use Prim.Native.Nat.{ℕ}
 use mathlib.Core.Bool.{true, false}
 use mathlib.Core.List.{List, [], ◌∷◌, ◌++◌, append-nil, append_assoc}
-use mathlib.Core.Option.{Option, none, some}
+use Rattle.std.specs.Prelude.{Option, None, Some}
 use Rattle.refusal.specs.declared.Refusal.TheVariants.{ConnectionOver}
 use Rattle.refusal.specs.Lent.{Outcome, gives, refuses}
 use Rattle.server.specs.declared.Phase.{Phase}
@@ -43,7 +43,7 @@ closed-stays v k (sends content out) closed =
 -- after the calls that came the host keeps k
 pub data Stands (s : Settings) (v : View) (calls : List Call) (k : Kept) : Type 0 where
   plain : (bytes : List ℕ) → StandsPlain s v calls bytes k → Stands s v calls k
-  protected : v.refusal ≡ none → (first : List Call) (began : ChangeCame s first) (sealed : List Call) → calls ≡ first ++ sealed
+  protected : v.refusal ≡ None → (first : List Call) (began : ChangeCame s first) (sealed : List Call) → calls ≡ first ++ sealed
       → Under s v began sealed k → Stands s v calls k
   -- at some call; it may be closed since
   complete : CameRight s v calls → Stands s v calls k
@@ -69,7 +69,7 @@ right-behind s v calls more right =
 
 module _ (s : Settings) (v : View) {first : List Call} (began : ChangeCame s first) where
   -- the connection reads with the key that the identity's leads to
-  pub reads : (key m : List ℕ) → v.lookup (named s began) ≡ some key → client_key s began key ≡ gives m → mac_key s v began ≡ m
+  pub reads : (key m : List ℕ) → v.lookup (named s began) ≡ Some key → client_key s began key ≡ gives m → mac_key s v began ≡ m
   reads key m listed under-key =
       ap (λ (found : Option (List ℕ)). (keys_of (keyed s began.legal_hello began.exchange found)).client) listed
       ∙ reads-under s began key m under-key

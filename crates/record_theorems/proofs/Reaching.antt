@@ -7,12 +7,11 @@ use Prim.Native.Nat.{ℕ}
 use native.Mathlib.Omega.{arith}
 use mathlib.Core.Bool.{Bool, true, false, cond}
 use mathlib.Core.List.{List, ◌++◌, append-nil}
-use mathlib.Core.Option.{Option, none, some}
 use lib.ListN.{length}
 use lib.Dec.{ltb}
+use Rattle.std.specs.Prelude.{Result, Ok, Err, Option, None, Some}
 use Rattle.refusal.specs.declared.Refusal.{Refusal}
 use Rattle.refusal.specs.declared.Refusal.TheVariants.{UnexpectedMessage, UnknownPskIdentity}
-use Rattle.layout.specs.declared.Verdict.{Verdict}
 use Rattle.layout.specs.Header.{header}
 use Rattle.layout.specs.Place.{last_at, after_header, contents}
 use Rattle.hellos.specs.ClientHello.{client_header, client_fields}
@@ -58,32 +57,32 @@ module _ (s : Settings) (v : View) where
 
     -- a message that is accepted where the ClientKeyExchange is awaited
     record Accepts (m : List ℕ) : Type 0 where
-      good : v.refusal ≡ none
+      good : v.refusal ≡ None
       exchange : LegalKeyExchange m
       known : unknown (rule_of s.named) (v.lookup exchange.identity) ≡ false
 
     exchange-accepted : (m : List ℕ) (flight : Flight) (next : Connection) → exchange_step m ≡ Shared.accept flight next → Accepts m
     exchange-accepted m flight next e = of-table v.refusal refl
       where
-        of-known : v.refusal ≡ none → (exchange : LegalKeyExchange m) → (b : Bool) → unknown (rule_of s.named) (v.lookup exchange.identity) ≡ b
+        of-known : v.refusal ≡ None → (exchange : LegalKeyExchange m) → (b : Bool) → unknown (rule_of s.named) (v.lookup exchange.identity) ≡ b
             → Accepts m
         of-known good exchange true not_known =
             absurd (never_both e UnknownPskIdentity (exchange-legal s v legal good exchange ∙ rw not_known))
         of-known good exchange false known = record { good = good; exchange = exchange; known = known }
 
-        of-read : v.refusal ≡ none → (o : Option (List ℕ)) → read_vector 16 m ≡ o → Accepts m
-        of-read good none read = absurd (never_both e (unread 16 m) (exchange-read s v legal m good ∙ rw read))
-        of-read good (some identity) read =
+        of-read : v.refusal ≡ None → (o : Option (List ℕ)) → read_vector 16 m ≡ o → Accepts m
+        of-read good None read = absurd (never_both e (unread 16 m) (exchange-read s v legal m good ∙ rw read))
+        of-read good (Some identity) read =
             let exchange : LegalKeyExchange m = record { identity = identity; read = read } in
             of-known good exchange (unknown (rule_of s.named) (v.lookup identity)) refl
 
-        of-header : (r : Refusal) → v.refusal ≡ some r → (h : Verdict) → header 16 m ≡ h → Accepts m
-        of-header r bad Verdict.Accepted passed = absurd (never_both e r (rw (passed, bad)))
-        of-header r bad (Verdict.Refused q) refuses = absurd (never_both e q (rw refuses))
+        of-header : (r : Refusal) → v.refusal ≡ Some r → (h : Result Unit Refusal) → header 16 m ≡ h → Accepts m
+        of-header r bad (Ok tt) passed = absurd (never_both e r (rw (passed, bad)))
+        of-header r bad (Err q) refuses = absurd (never_both e q (rw refuses))
 
         of-table : (o : Option Refusal) → v.refusal ≡ o → Accepts m
-        of-table none good = of-read good (read_vector 16 m) refl
-        of-table (some r) bad = of-header r bad (header 16 m) refl
+        of-table None good = of-read good (read_vector 16 m) refl
+        of-table (Some r) bad = of-header r bad (header 16 m) refl
 
     exchange-accepts : {m : List ℕ} (a : Accepts m) → exchange_step m ≡ Shared.accept silence (keyed s legal m (v.lookup a.exchange.identity))
     exchange-accepts a = exchange-legal s v legal a.good a.exchange ∙ rw a.known
@@ -106,11 +105,11 @@ change-waits v p q awaits e = go (ltb (length p.left) 4) (sym (change-judged v p
     go false f = absurd (refused-on f)
 
 abbrev pub from : Settings → List ℕ → Progress
-from s bytes = record { connection = started s; flight = silence; master = none; left = bytes }
+from s bytes = record { connection = started s; flight = silence; master = None; left = bytes }
 
 module _ (s : Settings) {hello : List ℕ} (legal : LegalHello s.suites hello) where
   abbrev pub hello_read : (left : List ℕ) → Progress
-  hello_read left = record { connection = helloed s legal; flight = answer_to s legal; master = none; left = left }
+  hello_read left = record { connection = helloed s legal; flight = answer_to s legal; master = None; left = left }
 
   abbrev pub keys_made : (exchange : List ℕ) (found : Option (List ℕ)) (left : List ℕ) → Progress
   keys_made exchange found left =
@@ -118,7 +117,7 @@ module _ (s : Settings) {hello : List ℕ} (legal : LegalHello s.suites hello) w
         connection = keyed s legal exchange found;
         flight = answer_to s legal;
         master =
-            some (record {
+            Some (record {
               master = (keyed s legal exchange found).secrets.master;
               blocks = blocks_under (helloed s legal) (key_used (helloed s legal) found);
             });
@@ -131,7 +130,7 @@ pub data Reached (s : Settings) (v : View) (bytes : List ℕ) (p : Progress) : T
   awaits-exchange : (hello left : List ℕ) (legal : LegalHello s.suites hello) → bytes ≡ hello ++ left → p ≡ hello_read s legal left
       → Reached s v bytes p
   awaits-change : (hello exchange left : List ℕ) (legal : LegalHello s.suites hello) (legal-exchange : LegalKeyExchange exchange)
-      → bytes ≡ hello ++ (exchange ++ left) → v.refusal ≡ none → unknown (rule_of s.named) (v.lookup legal-exchange.identity) ≡ false
+      → bytes ≡ hello ++ (exchange ++ left) → v.refusal ≡ None → unknown (rule_of s.named) (v.lookup legal-exchange.identity) ≡ false
       → p ≡ keys_made s legal exchange (v.lookup legal-exchange.identity) left → Reached s v bytes p
 
 module _ (s : Settings) (v : View) where
@@ -151,7 +150,7 @@ module _ (s : Settings) (v : View) where
       (answer_to s legal) (helloed s legal) (hello-legal s v legal)
 
   pub exchange-judged : {hello exchange : List ℕ} (legal : LegalHello s.suites hello) (legal-exchange : LegalKeyExchange exchange) (left : List ℕ)
-      → v.refusal ≡ none → unknown (rule_of s.named) (v.lookup legal-exchange.identity) ≡ false
+      → v.refusal ≡ None → unknown (rule_of s.named) (v.lookup legal-exchange.identity) ≡ false
       → judged v (started s) (hello ++ (exchange ++ left)) ≡ judge_all v (keys_made s legal exchange (v.lookup legal-exchange.identity) left)
   exchange-judged {exchange = exchange} legal legal-exchange left good known =
       let found = v.lookup legal-exchange.identity in
@@ -164,7 +163,7 @@ module _ (s : Settings) (v : View) where
 
   -- with a table that is refused
   pub exchange-refused : {hello exchange : List ℕ} (legal : LegalHello s.suites hello) (legal-exchange : LegalKeyExchange exchange) (left : List ℕ)
-      (r : Refusal) → v.refusal ≡ some r → judged v (started s) (hello ++ (exchange ++ left)) ≡ refuse r
+      (r : Refusal) → v.refusal ≡ Some r → judged v (started s) (hello ++ (exchange ++ left)) ≡ refuse r
   exchange-refused {exchange = exchange} legal legal-exchange left r bad =
       let passed = exchange-passed legal-exchange in
       hello-judged legal (exchange ++ left)

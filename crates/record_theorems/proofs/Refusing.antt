@@ -6,9 +6,9 @@ use Prim.Native.Nat.{ℕ, ◌+◌}
 use native.Mathlib.Omega.{arith}
 use mathlib.Core.Bool.{Bool, true, false, cond, not, ◌&&◌, true≢false}
 use mathlib.Core.List.{List}
-use mathlib.Core.Option.{Option, none, some}
 use lib.ListN.{length, get_or, drop}
 use lib.Dec.{leb, ltb, eqb}
+use Rattle.std.specs.Prelude.{Result, Ok, Err, Option, None, Some}
 use Rattle.endian.specs.Vector.{stated}
 use Rattle.refusal.specs.declared.Refusal.{Refusal}
 use Rattle.refusal.specs.declared.Refusal.TheVariants.{UnexpectedMessage, IllegalParameter, DecodeError, DecryptError, ProtocolVersion}
@@ -17,7 +17,6 @@ use Rattle.refusal.specs.Table.{to_peer}
 use Rattle.sha256.specs.State.{absorb}
 use Rattle.keys.specs.declared.Side.TheVariants.{Client, Server}
 use Rattle.keys.specs.Secrets.{finished_of}
-use Rattle.layout.specs.declared.Verdict.{Verdict}
 use Rattle.layout.specs.Types.{message_limit}
 use Rattle.layout.specs.Header.{header}
 use Rattle.layout.specs.Place.{last_at, filled_by, contents}
@@ -39,7 +38,7 @@ use Rattle.handshake.proofs.Settling.{Tested, header-tested}
 
 -- the client, or the host of the key table's refusal
 abbrev pub Told : View → Refusal → Type 0
-Told v r = (to_peer r ≡ true) ⊎ (v.refusal ≡ some r)
+Told v r = (to_peer r ≡ true) ⊎ (v.refusal ≡ Some r)
 
 abbrev Tells : View → Step → Type 0
 Tells v (refuse r) = Told v r
@@ -47,35 +46,35 @@ Tells v (accept flight next) = Unit
 
 module _ (v : View) where
   hello-tells : (c : Connection) (m : List ℕ) (o : Option ClientHello) → Tells v (hello_fields c m o)
-  hello-tells c m none = inl refl
-  hello-tells c m (some f) = of-tests (ltb f.version tls12) (not (offers_null f.methods)) (chosen c.setup.suites f.suites)
+  hello-tells c m None = inl refl
+  hello-tells c m (Some f) = of-tests (ltb f.version tls12) (not (offers_null f.methods)) (chosen c.setup.suites f.suites)
     where
       of-tests : (old unlike : Bool) (suite : Option ℕ)
           → Tells v (cond old (refuse ProtocolVersion) (cond unlike (refuse IllegalParameter) (hello_chosen c m f suite)))
       of-tests true unlike suite = inl refl
       of-tests false true suite = inl refl
-      of-tests false false none = inl refl
-      of-tests false false (some suite) = tt
+      of-tests false false None = inl refl
+      of-tests false false (Some suite) = tt
 
   exchange-tells : (c : Connection) (m : List ℕ) (o : Option (List ℕ)) → Tells v (key_identity v.lookup c m o)
-  exchange-tells c m none = inl refl
-  exchange-tells c m (some identity) = of-found (v.lookup identity)
+  exchange-tells c m None = inl refl
+  exchange-tells c m (Some identity) = of-found (v.lookup identity)
     where
       of-rule : (rule : Rule) → Tells v (unlisted rule c m)
       of-rule Rule.Tell = inl refl
       of-rule Rule.Hide = tt
 
       of-found : (found : Option (List ℕ)) → Tells v (key_found c m found)
-      of-found none = of-rule c.setup.rule
-      of-found (some key) = tt
+      of-found None = of-rule c.setup.rule
+      of-found (Some key) = tt
 
   table-tells : (o : Option Refusal) → v.refusal ≡ o → (step : Step) → Tells v step → Tells v (unless_refused o step)
-  table-tells none e step told = told
-  table-tells (some r) e step told = inr e
+  table-tells None e step told = told
+  table-tells (Some r) e step told = inr e
 
   finished-tells : (c : Connection) (m : List ℕ) (o : Option (List ℕ)) → Tells v (finished_value c m o)
-  finished-tells c m none = inl refl
-  finished-tells c m (some value) =
+  finished-tells c m None = inl refl
+  finished-tells c m (Some value) =
       of_right (c.client.listed && is_value value (finished_of Client c.secrets.master c.transcript))
       (finished_of Server c.secrets.master (absorb c.transcript m))
     where
@@ -87,9 +86,9 @@ module _ (v : View) where
   tested-tells : (kind : ℕ) (m : List ℕ) (step : Step) → Tells v step → Tells v (after_tests (header kind m) step)
   tested-tells kind m step told = go (header kind m) (header-tested kind m)
     where
-      go : (h : Verdict) → Tested m h → Tells v (after_tests h step)
-      go Verdict.Accepted t = told
-      go (Verdict.Refused r) t = inl t
+      go : (h : Result Unit Refusal) → Tested m h → Tells v (after_tests h step)
+      go (Ok tt) t = told
+      go (Err r) t = inl t
 
   message-tells : (c : Connection) (m : List ℕ) (phase : Phase) → is_over phase ≡ false → Tells v (message_step v c m phase)
   message-tells c m Phase.Hello going = tested-tells 1 m _ (hello-tells c m (client_fields m (client_body m)))
@@ -109,11 +108,11 @@ module _ (v : View) where
   message-told c m phase going r e = rw e at (message-tells c m phase going)
 
 -- what is judged by the header alone
-pub early-told : (kind : Option ℕ) (m : List ℕ) (r : Refusal) → early_test kind m ≡ Verdict.Refused r → to_peer r ≡ true
-early-told none m r e = let is : r ≡ UnexpectedMessage = cc in rw is
-early-told (some kind) m r e = go (eqb (get_or m 0 0) kind) (leb (4 + stated 3 (drop 1 m)) message_limit) e
+pub early-told : (kind : Option ℕ) (m : List ℕ) (r : Refusal) → early_test kind m ≡ Err r → to_peer r ≡ true
+early-told None m r e = let is : r ≡ UnexpectedMessage = cc in rw is
+early-told (Some kind) m r e = go (eqb (get_or m 0 0) kind) (leb (4 + stated 3 (drop 1 m)) message_limit) e
   where
-    go : (a b : Bool) → cond a (cond b Verdict.Accepted (Verdict.Refused DecodeError)) (Verdict.Refused UnexpectedMessage) ≡ Verdict.Refused r
+    go : (a b : Bool) → cond {A = Result Unit Refusal} a (cond b (Ok tt) (Err DecodeError)) (Err UnexpectedMessage) ≡ Err r
         → to_peer r ≡ true
     go true true f = absurd (let z : ◌≡◌ {A = ℕ} 0 1 = cc in omega arith)
     go true false f = let is : r ≡ DecodeError = cc in rw is

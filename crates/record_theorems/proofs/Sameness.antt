@@ -6,8 +6,10 @@ use mathlib.Core.Logic.{◌⊎◌, inl, inr}
 use Prim.Native.Nat.{ℕ}
 use mathlib.Core.Bool.{Bool, true, false, cond, not, true≢false}
 use mathlib.Core.List.{List, [], ◌∷◌, ◌++◌, append_assoc}
-use mathlib.Core.Option.{Option, none, some, none-ne-some}
 use lib.Dec.{eqb}
+use Rattle.std.proofs.lemmas.Option.{none-some}
+use Rattle.std.specs.Prelude.{Result, Ok, Err, Option, None, Some}
+use Rattle.refusal.specs.declared.Refusal.{Refusal}
 use Rattle.lists.specs.Lists.{same}
 use Rattle.lists.proofs.Equal.{same-eq, same_refl}
 use Rattle.refusal.specs.declared.Refusal.TheVariants.{SequenceSpent}
@@ -20,7 +22,6 @@ use Rattle.server.specs.declared.Phase.{Phase}
 use Rattle.server.specs.Connection.{Settings, rule_of, started}
 use Rattle.server.specs.KeyExchange.{View, view_of}
 use Rattle.records.specs.declared.ContentType.{ContentType}
-use Rattle.records.specs.declared.Read.{Read}
 use Rattle.records.specs.declared.State.{State}
 use Rattle.records.specs.Record.{fragment_of, record_read}
 use Rattle.records.specs.Protection.{last_sequence}
@@ -64,14 +65,14 @@ unprotected : (state : State) (key key' : List ℕ) (f : Flight) → f.protected
 unprotected state key key' f e = rw e
 
 module _ (s : Settings) (hide : rule_of s.named ≡ Rule.Hide) (Set : List ℕ → Type 0) (v v' : View)
-    (good : v.refusal ≡ none) (good' : v'.refusal ≡ none) (agree : AgreeOutside Set v v') where
+    (good : v.refusal ≡ None) (good' : v'.refusal ≡ None) (agree : AgreeOutside Set v v') where
   -- ---- on the same connection
 
   proper : Proper v
-  proper r bad = absurd (none-ne-some r (sym good ∙ bad))
+  proper r bad = absurd (none-some r (sym good ∙ bad))
 
   proper' : Proper v'
-  proper' r bad = absurd (none-ne-some r (sym good' ∙ bad))
+  proper' r bad = absurd (none-some r (sym good' ∙ bad))
 
   beyond-on : (calls : List Call) (x : Call) (k : Kept) → Beyond k.connection.handshake.phase → Goes s Set v v' calls x k k
   beyond-on calls x k past =
@@ -185,23 +186,23 @@ module _ (s : Settings) (hide : rule_of s.named ≡ Rule.Hide) (Set : List ℕ �
     stage : Reached s v bytes p
     stage = reached s v bytes p stands.goes
 
-    plain-step-at : (w : View) (read : Read) → record_read 0 b ≡ read → (last : Bool) → eqb n last_sequence ≡ last
+    plain-step-at : (w : View) (read : Result ContentType Refusal) → record_read 0 b ≡ read → (last : Bool) → eqb n last_sequence ≡ last
         → take_step w k.connection k.memory b ≡ cond last (refuse SequenceSpent) (plain_step w n p b read)
     plain-step-at w = step_of w k n p stands.is (reached-going s v stage).0 (reached-going s v stage).1 stands.holds b
 
     -- most records are taken alike
-    alike-on : (read : Read) → record_read 0 b ≡ read → plain_step v n p b read ≡ plain_step v' n p b read → Goes s Set v v' calls x k k
+    alike-on : (read : Result ContentType Refusal) → record_read 0 b ≡ read → plain_step v n p b read ≡ plain_step v' n p b read → Goes s Set v v' calls x k k
     alike-on read is e =
         plain-same calls bytes k stands stands' x
         (ap (took k out) (plain-step-at v read is (eqb n last_sequence) refl ∙ ap (λ (t : Step). cond (eqb n last_sequence) (refuse SequenceSpent) t) e
         ∙ sym (plain-step-at v' read is (eqb n last_sequence) refl)))
 
-    module _ (read : record_read 0 b ≡ Read.Record ContentType.Handshake) where
+    module _ (read : record_read 0 b ≡ Ok ContentType.Handshake) where
       handshake-alike : (j j' : Judged) → judged v p.connection (p.left ++ fragment_of b) ≡ j
           → judged v' p.connection (p.left ++ fragment_of b) ≡ j' → j ≡ j'
           → Goes s Set v v' calls x k k
       handshake-alike j j' e e' same-judged =
-          alike-on (Read.Record ContentType.Handshake) read
+          alike-on (Ok ContentType.Handshake) read
           (ap (λ (i : Judged). after_test (content_test ContentType.Handshake false (not (is_empty p.left)) (fragment_of b))
           (handshake_step (plainly n p) i))
           (e ∙ same-judged ∙ sym e'))
@@ -227,7 +228,7 @@ module _ (s : Settings) (hide : rule_of s.named ≡ Rule.Hide) (Set : List ℕ �
           where
             step : (w : View) (r : Progress) → judged w p.connection (p.left ++ fragment_of b) ≡ goes_on r
                 → take_step w k.connection k.memory b ≡ accept (progress_by r)
-            step w r is = plain-step-at w (Read.Record ContentType.Handshake) read false not_last ∙ rw (some_bytes, is)
+            step w r is = plain-step-at w (Ok ContentType.Handshake) read false not_last ∙ rw (some_bytes, is)
 
             answers-alike : (progress_by q).answer ≡ (progress_by q').answer
             answers-alike =
@@ -248,17 +249,17 @@ module _ (s : Settings) (hide : rule_of s.named ≡ Rule.Hide) (Set : List ℕ �
           of-tests : (last : Bool) → eqb n last_sequence ≡ last → (empty : Bool) → is_empty (fragment_of b) ≡ empty → Goes s Set v v' calls x k k
           of-tests true spent empty is =
               plain-same calls bytes k stands stands' x
-              (ap (took k out) (plain-step-at v (Read.Record ContentType.Handshake) read true spent
-              ∙ sym (plain-step-at v' (Read.Record ContentType.Handshake) read true spent)))
-          of-tests false not_last true is = alike-on (Read.Record ContentType.Handshake) read (rw is)
+              (ap (took k out) (plain-step-at v (Ok ContentType.Handshake) read true spent
+              ∙ sym (plain-step-at v' (Ok ContentType.Handshake) read true spent)))
+          of-tests false not_last true is = alike-on (Ok ContentType.Handshake) read (rw is)
           of-tests false not_last false is = parted-on q q' e e' awaits awaits' flight left not_last is
 
-    takes-on : (read : Read) → record_read 0 b ≡ read → Goes s Set v v' calls x k k
-    takes-on (Read.Refused r) is = alike-on (Read.Refused r) is refl
-    takes-on (Read.Record ContentType.ApplicationData) is = alike-on (Read.Record ContentType.ApplicationData) is refl
-    takes-on (Read.Record ContentType.Alert) is = alike-on (Read.Record ContentType.Alert) is refl
-    takes-on (Read.Record ContentType.ChangeCipherSpec) is = alike-on (Read.Record ContentType.ChangeCipherSpec) is refl
-    takes-on (Read.Record ContentType.Handshake) is = handshake-on is (reached-pair s hide v v' good good' stage (p.left ++ fragment_of b))
+    takes-on : (read : Result ContentType Refusal) → record_read 0 b ≡ read → Goes s Set v v' calls x k k
+    takes-on (Err r) is = alike-on (Err r) is refl
+    takes-on (Ok ContentType.ApplicationData) is = alike-on (Ok ContentType.ApplicationData) is refl
+    takes-on (Ok ContentType.Alert) is = alike-on (Ok ContentType.Alert) is refl
+    takes-on (Ok ContentType.ChangeCipherSpec) is = alike-on (Ok ContentType.ChangeCipherSpec) is refl
+    takes-on (Ok ContentType.Handshake) is = handshake-on is (reached-pair s hide v v' good good' stage (p.left ++ fragment_of b))
 
   plain-on-both : (calls : List Call) (bytes : List ℕ) (k : Kept) → StandsPlain s v calls bytes k → StandsPlain s v' calls bytes k → (x : Call)
       → Goes s Set v v' calls x k k
@@ -351,9 +352,9 @@ sameness s s' alike ok hide hide' identity table without removed good good' star
     -- the second table has no key for it
     unlisted : (i : List ℕ) → i ≡ identity → (before : List Call) (x : Call) → ¬ JudgedRight s (view_of without starts' count') memory i before x
     unlisted i is before x judged =
-        let gone : key_of without identity ≡ none = removed-gone identity table without removed good in
-        let found : key_of without identity ≡ some judged.key = rw (← is) judged.listed in
-        none-ne-some judged.key (sym gone ∙ found)
+        let gone : key_of without identity ≡ None = removed-gone identity table without removed good in
+        let found : key_of without identity ≡ Some judged.key = rw (← is) judged.listed in
+        none-some judged.key (sym gone ∙ found)
 
     never-judged : (i : List ℕ) → i ≡ identity
         → NoneJudgedRight s (view_of table starts count) memory i calls × NoneJudgedRight s (view_of without starts' count') memory i calls

@@ -6,11 +6,11 @@ use Prim.Native.Nat.{ℕ, suc, ◌+◌}
 use native.Mathlib.Omega.{arith}
 use mathlib.Core.Bool.{Bool, true, false, cond, ◌&&◌}
 use mathlib.Core.List.{List, ◌++◌, append_assoc}
-use mathlib.Core.Option.{some}
 use lib.ListN.{length}
 use lib.Seq.{length-take-le}
 use lib.Dec.{eqb}
 use borrow.Author.Tests.{eqb-true}
+use Rattle.std.specs.Prelude.{Some}
 use Rattle.refusal.specs.declared.Refusal.{Refusal}
 use Rattle.refusal.specs.Lent.{Outcome, gives, refuses, and_then, bytes_of}
 use Rattle.refusal.proofs.Laws.{refuses-gives}
@@ -21,9 +21,8 @@ use Rattle.keys.specs.Secrets.{master, master_under, premaster, keys, verify_dat
 use Rattle.keys.proofs.Lengths.{key-block-given, value-master}
 use Rattle.server.specs.Connection.{Settings, started}
 use Rattle.records.specs.declared.ContentType.{ContentType}
-use Rattle.records.specs.declared.Opened.{Opened}
 use Rattle.records.specs.Record.{fragment_of}
-use Rattle.records.specs.Protection.{opened, content_of, content_length}
+use Rattle.records.specs.Protection.{opened, content_of, content_length, holding}
 use Rattle.records.proofs.Opening.{opened_inside}
 use Rattle.record_server.specs.Connection.{null_suite, keys_of}
 use Rattle.theorems.specs.Terms.{flight_to}
@@ -34,13 +33,13 @@ use Rattle.record_theorems.specs.Terms.{under, Sealed, none, fragment, warning, 
 -- ---- records
 
 -- a record that passed its tests has its content
-pub sealed-record : (key : List ℕ) (n : ℕ) (bytes out : List ℕ) {kind : ContentType} {m : ℕ} → opened (under key n) bytes ≡ Opened.Content kind m
+pub sealed-record : (key : List ℕ) (n : ℕ) (bytes out : List ℕ) {kind : ContentType} {m : ℕ} → opened (under key n) bytes ≡ holding kind m
     → SealedRecord key n kind (content_of (under key n) bytes) (takes bytes out)
 sealed-record key n bytes out {kind} {m} e =
     let size : length (content_of (under key n) bytes) ≡ content_length (under key n) bytes =
     length-take-le (content_length (under key n) bytes) (fragment_of bytes) (omega arith) in
     let long : m ≡ content_length (under key n) bytes = (opened_inside (under key n) bytes e).2 in
-    record { bytes = bytes; out = out; is = refl; opens = e ∙ ap (Opened.Content kind) (cc); holds = refl }
+    record { bytes = bytes; out = out; is = refl; opens = e ∙ ap (holding kind) (cc); holds = refl }
 
 pub sealed-append : {key : List ℕ} {n : ℕ} {xs ys : List Call} {bytes more : List ℕ} → Sealed key n xs bytes → Sealed key (n + length xs) ys more
     → Sealed key n (xs ++ ys) (bytes ++ more)
@@ -71,7 +70,7 @@ master-randoms key client server secret e = of-premaster (premaster key) e
 module _ (s : Settings) {calls : List Call} (began : ChangeCame s calls) (key : List ℕ) where
   -- what the connection reads with
   abbrev reads : List ℕ
-  reads = (keys_of (keyed s began.legal_hello began.exchange (some key))).client
+  reads = (keys_of (keyed s began.legal_hello began.exchange (Some key))).client
 
   pub reads-under : (m : List ℕ) → client_key s began key ≡ gives m → reads ≡ m
   unfolding started

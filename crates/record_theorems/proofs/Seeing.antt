@@ -7,9 +7,9 @@ use mathlib.Core.Bool.{Bool, true, false, cond, ◌&&◌}
 use mathlib.Core.List.{List}
 use lib.ListN.{length, take}
 use lib.Dec.{leb, eqb}
+use Rattle.std.specs.Prelude.{Err}
 use Rattle.refusal.specs.declared.Refusal.{Refusal}
 use Rattle.refusal.specs.declared.Refusal.TheVariants.{BadValue, SequenceSpent}
-use Rattle.refusal.specs.declared.Written.TheVariants.{Refused}
 use Rattle.refusal.specs.Table.{to_peer, number_of}
 use Rattle.server.specs.KeyExchange.{View}
 use Rattle.records.specs.declared.State.{State}
@@ -39,7 +39,7 @@ module _ {k k' : Kept} (near : Near k k') (out : List ℕ) where
       go false = rw near.alert
 
   pub refused-seen : (r : Refusal) → seen (took k out (refuse r)) ≡ seen (took k' out (refuse r))
-  refused-seen r = ap (λ (l : List ℕ). record { said = Refused r; out = out; alert = l }) (alert-alike r)
+  refused-seen r = ap (λ (l : List ℕ). record { said = Err r; out = out; alert = l }) (alert-alike r)
 
   -- an alert closes both alike
   pub refused-closed : (r : Refusal) → to_peer r ≡ true → (took k out (refuse r)).kept ≡ (took k' out (refuse r)).kept
@@ -62,22 +62,22 @@ module _ {k k' : Kept} (near : Near k k') (out : List ℕ) where
 abbrev unsent : State → Refusal
 unsent writing = cond (eqb writing.sequence last_sequence) SequenceSpent BadValue
 
-unsent-to-host : (writing : State) → refused_to_host (Refused (unsent writing)) ≡ true
+unsent-to-host : (writing : State) → refused_to_host (Err (unsent writing)) ≡ true
 unsent-to-host writing = go (eqb writing.sequence last_sequence)
   where
-    go : (b : Bool) → refused_to_host (Refused (cond b SequenceSpent BadValue)) ≡ true
+    go : (b : Bool) → refused_to_host (Err (cond b SequenceSpent BadValue)) ≡ true
     go true = refl
     go false = refl
 
 module _ (v : View) (k : Kept) (going : is_closed k.connection.handshake.phase ≡ false)
     (early : is_complete k.connection.handshake.phase ≡ false) (content out : List ℕ) where
   sends-nothing : seen (call v k (sends content out))
-      ≡ record { said = Refused (unsent k.connection.writing); out = out; alert = alert_of k.connection }
+      ≡ record { said = Err (unsent k.connection.writing); out = out; alert = alert_of k.connection }
   sends-nothing = go (eqb k.connection.writing.sequence last_sequence) refl
     where
       go : (b : Bool) → eqb k.connection.writing.sequence last_sequence ≡ b
           → seen (call v k (sends content out))
-          ≡ record { said = Refused (unsent k.connection.writing); out = out; alert = alert_of k.connection }
+          ≡ record { said = Err (unsent k.connection.writing); out = out; alert = alert_of k.connection }
       go true e = rw (going, e)
       go false e = rw (going, early, e)
 
@@ -88,7 +88,7 @@ pub unsent-seen : (v v' : View) {k k' : Kept} → Near k k' → is_closed k.conn
 unsent-seen v v' {k} {k'} near going early going' early' content out =
     let is = sends-nothing v k going early content out in (
       is
-          ∙ ap₂ (λ (w : State) (a : ClosingAlert). record { said = Refused (unsent w); out = out; alert = take a.length a.bytes })
+          ∙ ap₂ (λ (w : State) (a : ClosingAlert). record { said = Err (unsent w); out = out; alert = take a.length a.bytes })
           near.writing near.alert
           ∙ sym (sends-nothing v' k' going' early' content out),
       ap (λ (seen-it : Seen). refused_to_host seen-it.said) is ∙ unsent-to-host k.connection.writing,

@@ -5,17 +5,15 @@ use Prim.Native.Nat.{ℕ, ◌-◌}
 use native.Mathlib.Omega.{arith}
 use mathlib.Core.Bool.{Bool, true, false, cond, not, false≢true}
 use mathlib.Core.List.{List, [], ◌∷◌, ◌++◌, append-nil, append_assoc}
-use mathlib.Core.Option.{Option, none, some}
 use lib.ListN.{length, take}
 use lib.Seq.{take_all}
 use lib.Dec.{eqb}
+use Rattle.std.specs.Prelude.{Result, Ok, Err, Option, None, Some}
 use Rattle.lists.specs.Lists.{same}
 use Rattle.refusal.specs.declared.Refusal.{Refusal}
 use Rattle.refusal.specs.declared.Refusal.TheVariants.{UnexpectedMessage, SequenceSpent}
-use Rattle.refusal.specs.declared.Written.TheVariants.{Refused}
-use Rattle.layout.specs.declared.Verdict.{Verdict}
 use Rattle.handshake.specs.Flight.{silence}
-use Rattle.handshake.specs.Handed.{Derived}
+use Rattle.handshake.specs.declared.Derived.{Derived}
 use Rattle.handshake.specs.Step as Shared
 use Rattle.server.specs.declared.Phase.{Phase}
 use Rattle.server.specs.declared.Connection.{Connection}
@@ -23,12 +21,10 @@ use Rattle.server.specs.Connection.{Settings, rule_of, acceptable, started}
 use Rattle.server.specs.KeyExchange.{View}
 use Rattle.server.specs.Change.{after_change, change_step}
 use Rattle.records.specs.declared.ContentType.{ContentType}
-use Rattle.records.specs.declared.Read.{Read}
 use Rattle.records.specs.declared.State.{State}
 use Rattle.records.specs.Record.{fragment_of, record_read}
 use Rattle.records.specs.Protection.{initial_state, protected_by, last_sequence, following, counted, mac_read}
 use Rattle.records.specs.Joining.{held_in}
-use Rattle.record_server.specs.declared.Data.{Data}
 use Rattle.record_server.specs.declared.RecordConnection.{RecordConnection}
 use Rattle.record_server.specs.Connection.{no_key, no_alert, keys_of, is_closed, is_complete}
 use Rattle.record_server.specs.Answering.{change_of_cipher, counted_over}
@@ -86,13 +82,13 @@ pub record StandsPlain (s : Settings) (v : View) (calls : List Call) (bytes : Li
 -- what a call that came makes of it
 pub data AfterPlain (s : Settings) (v : View) (calls : List Call) (k : Kept) : Type 0 where
   still : (bytes : List ℕ) → StandsPlain s v calls bytes k → AfterPlain s v calls k
-  changes : (began : ChangeCame s calls) → v.refusal ≡ Option.none → unknown (rule_of s.named) (v.lookup (named s began)) ≡ false
+  changes : (began : ChangeCame s calls) → v.refusal ≡ None → unknown (rule_of s.named) (v.lookup (named s began)) ≡ false
       → k.connection ≡ changed_to s v began → AfterPlain s v calls k
   closes : k.connection.handshake.phase ≡ Phase.Closed → AfterPlain s v calls k
 
 -- a refusal of the key table or of its list, R2 or R10, is for the host
 abbrev pub Proper : View → Type 0
-Proper v = (r : Refusal) → v.refusal ≡ some r → refused_to_host (Refused r) ≡ true
+Proper v = (r : Refusal) → v.refusal ≡ Some r → refused_to_host (Err r) ≡ true
 
 -- ---- Plain, one call behind others
 
@@ -119,7 +115,7 @@ content-once r q = let same_bytes : r.bytes ≡ q.bytes = cc in sym r.holds ∙ 
 kinds-apart : {content other : List ℕ} {x : Call} → PlainRecord ContentType.Handshake content x → PlainRecord ContentType.Alert other x → ⊥
 kinds-apart r q =
     let same_bytes : r.bytes ≡ q.bytes = cc in
-    let reads : Read.Record ContentType.Handshake ≡ Read.Record ContentType.Alert = sym r.read ∙ ap (record_read 0) same_bytes ∙ q.read in
+    let reads : Ok ContentType.Handshake ≡ Ok ContentType.Alert = sym r.read ∙ ap (record_read 0) same_bytes ∙ q.read in
     let z : ◌≡◌ {A = ℕ} 0 1 = cc in
     omega arith
 
@@ -134,9 +130,9 @@ plain-once (warning w r first) (warning z q second) = plain-once first second
 -- ---- a record that is taken there
 
 -- what stands between the tests on the connection and those on the handshake
-abbrev pub plain_step : View → ℕ → Progress → List ℕ → Read → Step
-plain_step v n p b (Read.Refused r) = refuse r
-plain_step v n p b (Read.Record kind) =
+abbrev pub plain_step : View → ℕ → Progress → List ℕ → Result ContentType Refusal → Step
+plain_step v n p b (Err r) = refuse r
+plain_step v n p b (Ok kind) =
     after_test (content_test kind false (not (is_empty p.left)) (fragment_of b)) (content_step v (plainly n p) p.left (fragment_of b) kind)
 
 plain_step_lem : (v : View) (n : ℕ) (p : Progress) (memory b : List ℕ) → is_closed p.connection.phase ≡ false
@@ -145,44 +141,44 @@ plain_step_lem : (v : View) (n : ℕ) (p : Progress) (memory b : List ℕ) → i
     → take_step v (plainly n p) memory b ≡ cond (eqb n last_sequence) (refuse SequenceSpent) (plain_step v n p b (record_read 0 b))
 plain_step_lem v n p memory b going early holds = rw (going, holds) (go (eqb n last_sequence) (record_read 0 b))
   where
-    go : (last : Bool) (read : Read)
-        → after_test (cond last (Verdict.Refused SequenceSpent) Verdict.Accepted)
+    go : (last : Bool) (read : Result ContentType Refusal)
+        → after_test (cond last (Err SequenceSpent) (Ok tt))
         (opened_step v (plainly n p) p.left b (mac_read (plainly n p).reading b read))
         ≡ cond last (refuse SequenceSpent) (plain_step v n p b read)
     go true read = refl
-    go false (Read.Refused r) = refl
-    go false (Read.Record kind) =
+    go false (Err r) = refl
+    go false (Ok kind) =
         let whole : take (length (fragment_of b) - 0) (fragment_of b) ≡ fragment_of b =
         take_all (length (fragment_of b) - 0) (fragment_of b) (omega arith) in rw (early, whole)
 
 -- the step of a record that is taken before the client's protection begins
 pub step_of : (w : View) (k : Kept) (n : ℕ) (p : Progress) → k.connection ≡ plainly n p → is_closed p.connection.phase ≡ false
     → is_complete p.connection.phase ≡ false → held_in k.memory (length p.left) ≡ p.left
-    → (b : List ℕ) (read : Read) → record_read 0 b ≡ read → (last : Bool) → eqb n last_sequence ≡ last
+    → (b : List ℕ) (read : Result ContentType Refusal) → record_read 0 b ≡ read → (last : Bool) → eqb n last_sequence ≡ last
     → take_step w k.connection k.memory b ≡ cond last (refuse SequenceSpent) (plain_step w n p b read)
 step_of w k n p is going early holds b read reads last e =
     ap (λ (c : RecordConnection). take_step w c k.memory b) is ∙ plain_step_lem w n p k.memory b going early holds
-    ∙ ap₂ (λ (t : Bool) (r : Read). cond t (refuse SequenceSpent) (plain_step w n p b r)) e reads
+    ∙ ap₂ (λ (t : Bool) (r : Result ContentType Refusal). cond t (refuse SequenceSpent) (plain_step w n p b r)) e reads
 
 -- nothing is sent
 abbrev pub quiet : RecordConnection → List ℕ → Accepted
-quiet next held = record { answer = []; next = next; held = held; master = Option.none; holds = Data.Nothing }
+quiet next held = record { answer = []; next = next; held = held; master = None; holds = None }
 
 pub change-step : (v : View) (n : ℕ) (p : Progress) (b : List ℕ) → p.connection.phase ≡ Phase.Change → is_empty p.left ≡ true
     → same (fragment_of b) change_of_cipher ≡ true
-    → plain_step v n p b (Read.Record ContentType.ChangeCipherSpec) ≡ accept (quiet (changed (plainly n p) (after_change p.connection)) p.left)
+    → plain_step v n p b (Ok ContentType.ChangeCipherSpec) ≡ accept (quiet (changed (plainly n p) (after_change p.connection)) p.left)
 change-step v n p b awaits nothing_left one = rw (awaits, nothing_left, one)
 
 pub early-change : (v : View) (n : ℕ) (p : Progress) (b : List ℕ) → change_step p.connection p.connection.phase ≡ Shared.refuse UnexpectedMessage
     → is_empty p.left ≡ true → same (fragment_of b) change_of_cipher ≡ true
-    → plain_step v n p b (Read.Record ContentType.ChangeCipherSpec) ≡ refuse UnexpectedMessage
+    → plain_step v n p b (Ok ContentType.ChangeCipherSpec) ≡ refuse UnexpectedMessage
 early-change v n p b refuses nothing_left one = rw (nothing_left, one, refuses)
 
 -- ---- how far the handshake came
 
 -- bytes on a connection by themselves
 abbrev pub alone : Connection → List ℕ → Progress
-alone c left = record { connection = c; flight = silence; master = Option.none; left = left }
+alone c left = record { connection = c; flight = silence; master = None; left = left }
 
 counted-append : (state : State) (ms ns : List (List ℕ)) → counted_over (counted_over state ms) ns ≡ counted_over state (ms ++ ns)
 counted-append state [] ns = refl
@@ -227,10 +223,10 @@ module _ (s : Settings) (v : View) where
       pending-kept : Reached s v bytes p → (o : Option Derived) → q.master ≡ o
           → pending_with (plainly n p).pending q.connection o
           ≡ pending_with (record { client = no_key; server = no_key }) q.connection (later p.master o)
-      pending-kept r (some d) e = refl
-      pending-kept (awaits-hello is) none e = rw is
-      pending-kept (awaits-exchange hello left legal split is) none e = rw is
-      pending-kept (awaits-change hello exchange left legal legal-exchange split good known is) none e =
+      pending-kept r (Some d) e = refl
+      pending-kept (awaits-hello is) None e = rw is
+      pending-kept (awaits-exchange hello left legal split is) None e = rw is
+      pending-kept (awaits-change hello exchange left legal legal-exchange split good known is) None e =
           rw (change-waits v (alone p.connection (p.left ++ content)) q (rw is) more)
 
       pub handshake-next : (progressed (plainly n p) q (pending_with (plainly n p).pending q.connection q.master)).next

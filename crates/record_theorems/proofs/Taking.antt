@@ -5,11 +5,11 @@ use Prim.Native.Nat.{ℕ, ◌+◌}
 use native.Mathlib.Omega.{arith}
 use mathlib.Core.Bool.{Bool, true, false, cond, not, ◌&&◌, ◌||◌, true≢false}
 use mathlib.Core.List.{List, [], ◌∷◌}
-use mathlib.Core.Option.{Option, none, some}
 use lib.ListN.{length, get_or, take, drop}
 use lib.Seq.{take-append_seam}
 use lib.Dec.{leb, eqb}
 use borrow.Author.Tests.{eqb-true, eqb-false, ne_eqb}
+use Rattle.std.specs.Prelude.{Result, Ok, Err, Option, None, Some}
 use Rattle.refusal.specs.declared.Refusal.{Refusal}
 use Rattle.refusal.specs.declared.Refusal.TheVariants.{UnexpectedMessage, RecordOverflow, DecodeError}
 use Rattle.refusal.specs.Table.{to_peer}
@@ -18,7 +18,6 @@ use Rattle.handshake.specs.Alert.{heard}
 use Rattle.server.specs.declared.Phase.{Phase}
 use Rattle.server.specs.KeyExchange.{View}
 use Rattle.records.specs.declared.ContentType.{ContentType}
-use Rattle.records.specs.declared.Read.{Read}
 use Rattle.records.specs.Record.{whole, fragment_of, type_of, type_read, record_read}
 use Rattle.records.specs.Joining.{unfinished, held_in}
 use Rattle.record_server.specs.Taking.{Accepted, Step, refuse, accept, front, settled, take_step}
@@ -74,20 +73,20 @@ held-short memory n bytes e = go (unfinished (take n memory)) refl e
 
 -- ---- the tests on a record refuse with alerts
 
-pub read-alerts : (added : ℕ) (b : List ℕ) {r : Refusal} → record_read added b ≡ Read.Refused r → to_peer r ≡ true
+pub read-alerts : (added : ℕ) (b : List ℕ) {r : Refusal} → record_read added b ≡ Err r → to_peer r ≡ true
 read-alerts added b {r} e = of-whole (whole b) (type_of (get_or b 0 0)) e
   where
-    alike : (p : Refusal) → to_peer p ≡ true → Read.Refused p ≡ Read.Refused r → to_peer r ≡ true
+    alike : (p : Refusal) → to_peer p ≡ true → ◌≡◌ {A = Result ContentType Refusal} (Err p) (Err r) → to_peer r ≡ true
     alike p told e = let is : p ≡ r = cc in rw (← is) told
 
-    of_length : (t : Bool) (kind : ContentType) → cond t (Read.Record kind) (Read.Refused RecordOverflow) ≡ Read.Refused r → to_peer r ≡ true
+    of_length : (t : Bool) (kind : ContentType) → cond {A = Result ContentType Refusal} t (Ok kind) (Err RecordOverflow) ≡ Err r → to_peer r ≡ true
     of_length true kind e = let z : ◌≡◌ {A = ℕ} 0 1 = cc in absurd (omega arith)
     of_length false kind e = alike RecordOverflow refl e
 
-    of-whole : (t : Bool) (type : Option ContentType) → cond t (type_read added b type) (Read.Refused DecodeError) ≡ Read.Refused r → to_peer r ≡ true
+    of-whole : (t : Bool) (type : Option ContentType) → cond t (type_read added b type) (Err DecodeError) ≡ Err r → to_peer r ≡ true
     of-whole false type e = alike DecodeError refl e
-    of-whole true none e = alike UnexpectedMessage refl e
-    of-whole true (some kind) e = of_length (leb (length (fragment_of b)) (16384 + added)) kind e
+    of-whole true None e = alike UnexpectedMessage refl e
+    of-whole true (Some kind) e = of_length (leb (length (fragment_of b)) (16384 + added)) kind e
 
 -- ---- the two bytes of an alert
 

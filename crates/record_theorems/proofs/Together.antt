@@ -6,8 +6,8 @@ use Prim.Native.Nat.{ℕ}
 use mathlib.Core.Bool.{Bool, true, false, cond, true≢false}
 use mathlib.Core.List.{List, [], ◌∷◌, ◌++◌, append-nil}
 use lib.ListN.{length}
+use Rattle.std.specs.Prelude.{Err}
 use Rattle.refusal.specs.declared.Refusal.{Refusal}
-use Rattle.refusal.specs.declared.Written.TheVariants.{Refused}
 use Rattle.refusal.specs.Table.{to_peer}
 use Rattle.server.specs.Connection.{Settings}
 use Rattle.server.specs.KeyExchange.{View}
@@ -80,14 +80,14 @@ module _ (s : Settings) (Set : List ℕ → Type 0) (v v' : View) where
     abbrev step_of : View → Kept → Step
     step_of w l = take_step w l.connection l.memory b
 
-    pub refused-goes : (r : Refusal) → (to_peer r ≡ true) ⊎ (refused_to_host (Refused r) ≡ true) → step_of v k ≡ refuse r → step_of v' k' ≡ refuse r
+    pub refused-goes : (r : Refusal) → (to_peer r ≡ true) ⊎ (refused_to_host (Err r) ≡ true) → step_of v k ≡ refuse r → step_of v' k' ≡ refuse r
         → Goes calls (takes b out) k k'
     refused-goes r told e e' =
         goes calls (takes b out) (ap (λ (t : Step). seen (took k out t)) e ∙ refused-seen near out r
         ∙ sym (ap (λ (t : Step). seen (took k' out t)) e')) stay
         (after told)
       where
-        after : (to_peer r ≡ true) ⊎ (refused_to_host (Refused r) ≡ true) → refused_to_host (call v k (takes b out)).said ≡ false
+        after : (to_peer r ≡ true) ⊎ (refused_to_host (Err r) ≡ true) → refused_to_host (call v k (takes b out)).said ≡ false
             → Together s v v' Set (calls ++ (takes b out ∷ [])) (call v k (takes b out)).kept (call v' k' (takes b out)).kept
         after (inl alerts) comes =
             same-beyond (subst Beyond (sym (alerted v k b out e alerts)) tt)

@@ -6,10 +6,12 @@ use Prim.Native.Nat.{ℕ, ◌+◌}
 use native.Mathlib.Omega.{arith}
 use mathlib.Core.Bool.{Bool, true, false, cond, not, ◌&&◌, and-false, true≢false}
 use mathlib.Core.List.{List, [], ◌∷◌, ◌++◌, append-nil}
-use mathlib.Core.Option.{Option, none, some, none-ne-some}
 use lib.ListN.{length, get_or, length-append}
 use lib.Dec.{eqb}
 use borrow.Author.Tests.{eq-eqb, eqb-true}
+use Rattle.std.proofs.lemmas.Option.{none-some}
+use Rattle.std.specs.Prelude.{Result, Ok, Err, Option, None, Some}
+use Rattle.records.specs.declared.Content.{Content}
 use Rattle.lists.specs.Lists.{same}
 use Rattle.refusal.specs.declared.Refusal.{Refusal}
 use Rattle.refusal.specs.declared.Refusal.TheVariants.{UnexpectedMessage, BadRecordMac, IllegalParameter, DecodeError, DecryptError}
@@ -20,14 +22,11 @@ use Rattle.server.specs.declared.Phase.{Phase}
 use Rattle.server.specs.Connection.{Settings, acceptable, ended}
 use Rattle.server.specs.KeyExchange.{View}
 use Rattle.records.specs.declared.ContentType.{ContentType}
-use Rattle.records.specs.declared.Opened.{Opened}
 use Rattle.records.specs.declared.State.{State}
-use Rattle.records.specs.declared.Read.{Read}
 use Rattle.records.specs.Record.{record_read}
-use Rattle.records.specs.Protection.{last_sequence, following, added, right_mac, mac_read, opened, content_of}
+use Rattle.records.specs.Protection.{last_sequence, following, added, right_mac, mac_read, opened, content_of, holding}
 use Rattle.records.specs.Joining.{unfinished, held_in}
 use Rattle.record_server.specs.declared.RecordConnection.{RecordConnection}
-use Rattle.record_server.specs.declared.Data.{Data}
 use Rattle.record_server.specs.Connection.{no_alert, closed_with}
 use Rattle.record_server.specs.Answering.{change_of_cipher}
 use Rattle.record_server.specs.Joining as Judging
@@ -73,7 +72,7 @@ pub record Under (s : Settings) (v : View) {first : List Call} (began : ChangeCa
   pub bytes : List ℕ
   pub protected : Sealed (mac_key s v began) 0 calls bytes
   pub at : At s v began (length calls) bytes k
-  pub unlisted : v.lookup (named s began) ≡ none → calls ≡ []
+  pub unlisted : v.lookup (named s began) ≡ None → calls ≡ []
 
 pub under-begins : (s : Settings) (v : View) {first : List Call} (began : ChangeCame s first) (k : Kept) → k.connection ≡ changed_to s v began
     → At s v began 0 [] k
@@ -81,20 +80,20 @@ under-begins s v began k is = record { short = refl; waits = unfold Judging.judg
 
 -- ---- the tests on a record refuse with alerts
 
-opened-alerts : (state : State) (b : List ℕ) {r : Refusal} → opened state b ≡ Opened.Refused r → to_peer r ≡ true
+opened-alerts : (state : State) (b : List ℕ) {r : Refusal} → opened state b ≡ Err r → to_peer r ≡ true
 opened-alerts state b {r} e = of-read (record_read (added state) b) refl e
   where
-    refusals : (q : Refusal) → to_peer q ≡ true → Opened.Refused q ≡ Opened.Refused r → to_peer r ≡ true
+    refusals : (q : Refusal) → to_peer q ≡ true → ◌≡◌ {A = Result Content Refusal} (Err q) (Err r) → to_peer r ≡ true
     refusals q told e = let is : q ≡ r = cc in rw (← is) told
 
-    of-mac : (t : Bool) (kind : ContentType) (n : ℕ) → cond t (Opened.Refused BadRecordMac) (Opened.Content kind n) ≡ Opened.Refused r
+    of-mac : (t : Bool) (kind : ContentType) (n : ℕ) → cond t (Err BadRecordMac) (holding kind n) ≡ Err r
         → to_peer r ≡ true
     of-mac true kind n e = refusals BadRecordMac refl e
     of-mac false kind n e = let z : ◌≡◌ {A = ℕ} 0 1 = cc in absurd (omega arith)
 
-    of-read : (read : Read) → record_read (added state) b ≡ read → mac_read state b read ≡ Opened.Refused r → to_peer r ≡ true
-    of-read (Read.Record kind) is e = of-mac (state.protected && not (right_mac state b)) kind _ e
-    of-read (Read.Refused q) is e = refusals q (read-alerts (added state) b is) e
+    of-read : (read : Result ContentType Refusal) → record_read (added state) b ≡ read → mac_read state b read ≡ Err r → to_peer r ≡ true
+    of-read (Ok kind) is e = of-mac (state.protected && not (right_mac state b)) kind _ e
+    of-read (Err q) is e = refusals q (read-alerts (added state) b is) e
 
 refused-alerts : (c : RecordConnection) (r : Refusal) → to_peer r ≡ true → to_peer (refused_as c r) ≡ true
 refused-alerts c r told = go (is_first c && eqb (number_of r) 20)
@@ -139,7 +138,7 @@ module _ (s : Settings) (v : View) {first : List Call} (began : ChangeCame s fir
         go true e = true≢false (rw e at comes)
         go false e = true≢false (rw e at comes)
 
-    module _ (key : List ℕ) (listed : v.lookup (named s began) ≡ some key) {kind : ContentType} {content : List ℕ} {x : Call}
+    module _ (key : List ℕ) (listed : v.lookup (named s began) ≡ Some key) {kind : ContentType} {content : List ℕ} {x : Call}
         (sealed : SealedRecord (mac_key s v began) n kind content x) (comes : refused_to_host (call v k x).said ≡ false) where
       abbrev b : List ℕ
       b = sealed.bytes
@@ -166,13 +165,13 @@ module _ (s : Settings) (v : View) {first : List Call} (began : ChangeCame s fir
 
     -- ---- what is in it
 
-    module _ (key : List ℕ) (listed : v.lookup (named s began) ≡ some key) {x : Call} (comes : refused_to_host (call v k x).said ≡ false) where
+    module _ (key : List ℕ) (listed : v.lookup (named s began) ≡ Some key) {x : Call} (comes : refused_to_host (call v k x).said ≡ false) where
       -- an ignored warning counts, and nothing else
       pub warned : {content : List ℕ} → SealedRecord (mac_key s v began) n ContentType.Alert content x → Warning content
           → At s v began (n + 1) bytes (call v k x).kept
       warned {content} sealed ignored =
           let heard-so = warning-ignored content ignored in
-          let e : content_decided v c bytes content ContentType.Alert ≡ silently (one_more c) bytes Data.Nothing =
+          let e : content_decided v c bytes content ContentType.Alert ≡ silently (one_more c) bytes None =
           rw (eq-eqb (length content) 2 heard-so.0, heard-so.1) in
           record {
             short = at.short;
@@ -208,8 +207,8 @@ module _ (s : Settings) (v : View) {first : List Call} (began : ChangeCame s fir
 
     -- ---- every call that came
 
-    module _ (ok : acceptable s ≡ true) (good : v.refusal ≡ none) (calls : List Call) (protected : Sealed (mac_key s v began) 0 calls bytes)
-        (numbered : 0 + length calls ≡ n) (unlisted : v.lookup (named s began) ≡ none → calls ≡ []) (b out : List ℕ) where
+    module _ (ok : acceptable s ≡ true) (good : v.refusal ≡ None) (calls : List Call) (protected : Sealed (mac_key s v began) 0 calls bytes)
+        (numbered : 0 + length calls ≡ n) (unlisted : v.lookup (named s began) ≡ None → calls ≡ []) (b out : List ℕ) where
       abbrev x : Call
       x = takes b out
 
@@ -220,9 +219,9 @@ module _ (s : Settings) (v : View) {first : List Call} (began : ChangeCame s fir
         one-more : n + 1 ≡ length (calls ++ (x ∷ []))
         one-more = omega (arith, length-append calls (x ∷ []))
 
-        module _ (key : List ℕ) (listed : v.lookup (named s began) ≡ some key) where
-          not-unlisted : v.lookup (named s began) ≡ none → calls ++ (x ∷ []) ≡ []
-          not-unlisted unknown = absurd (none-ne-some key (sym unknown ∙ listed))
+        module _ (key : List ℕ) (listed : v.lookup (named s began) ≡ Some key) where
+          not-unlisted : v.lookup (named s began) ≡ None → calls ++ (x ∷ []) ≡ []
+          not-unlisted unknown = absurd (none-some key (sym unknown ∙ listed))
 
           of-handshake : (content : List ℕ) → SealedRecord (mac_key s v began) n ContentType.Handshake content x → Then
           of-handshake [] sealed = closes (closed-by key listed sealed comes DecodeError refl refl)
@@ -243,7 +242,7 @@ module _ (s : Settings) (v : View) {first : List Call} (began : ChangeCame s fir
                 where
                   of-told : Told v r → to_peer r ≡ true
                   of-told (inl client) = client
-                  of-told (inr table) = absurd (none-ne-some r (sym good ∙ table))
+                  of-told (inr table) = absurd (none-some r (sym good ∙ table))
 
           of-warning : {content : List ℕ} → SealedRecord (mac_key s v began) n ContentType.Alert content x → Warning content → Then
           of-warning sealed ignored =
@@ -259,7 +258,7 @@ module _ (s : Settings) (v : View) {first : List Call} (began : ChangeCame s fir
               of_length false other h e = closes (closed-by key listed sealed comes DecodeError (rw other) refl)
               of_length true two Heard.Illegal e = closes (closed-by key listed sealed comes IllegalParameter (rw (two, e)) refl)
               of_length true two Heard.Ends e =
-                  let ended_by : content_decided v c bytes content ContentType.Alert ≡ silently (closed_with no_alert) bytes Data.Nothing =
+                  let ended_by : content_decided v c bytes content ContentType.Alert ≡ silently (closed_with no_alert) bytes None =
                   rw (two, e) in
                   closes (ap (λ (kept : Kept). kept.connection.handshake.phase) (kept-is key listed sealed comes ended_by))
               of_length true two Heard.Ignored e = of-warning sealed (ignored-warning content (eqb-true (length content) 2 two) e)
@@ -278,25 +277,25 @@ module _ (s : Settings) (v : View) {first : List Call} (began : ChangeCame s fir
           of-kind ContentType.Handshake content sealed = of-handshake content sealed
           of-kind ContentType.ApplicationData content sealed = closes (closed-by key listed sealed comes UnexpectedMessage refl refl)
 
-        of-listed : {kind : ContentType} {m : ℕ} → opened (under (mac_key s v began) n) b ≡ Opened.Content kind m
+        of-listed : {kind : ContentType} {m : ℕ} → opened (under (mac_key s v began) n) b ≡ holding kind m
             → (found : Option (List ℕ)) → v.lookup (named s began) ≡ found → Then
-        of-listed {kind} e (some key) listed =
+        of-listed {kind} e (Some key) listed =
             of-kind key listed kind (content_of (under (mac_key s v began) n) b) (sealed-record (mac_key s v began) n b out e)
-        of-listed e none unknown =
+        of-listed e None unknown =
             let zeroth : eqb n 0 ≡ true = eq-eqb n 0 (omega (arith, ap length (unlisted unknown))) in
             let first : unlisted_first c ≡ true = rw (unknown, zeroth) in
             closes (alerted v k b out {r = DecryptError} (opens-to b out comes ∙ rw (e, first)) refl)
 
-        of-opened : (o : Opened) → opened (under (mac_key s v began) n) b ≡ o → Then
-        of-opened (Opened.Refused r) e =
+        of-opened : (o : Result Content Refusal) → opened (under (mac_key s v began) n) b ≡ o → Then
+        of-opened (Err r) e =
             closes (alerted v k b out (opens-to b out comes ∙ ap (opened_step v c bytes b) e)
             (refused-alerts c r (opened-alerts (under (mac_key s v began) n) b e)))
-        of-opened (Opened.Content kind m) e = of-listed e (v.lookup (named s began)) refl
+        of-opened (Ok content) e = of-listed e (v.lookup (named s began)) refl
 
         taken : Then
         taken = of-opened (opened (under (mac_key s v began) n) b) refl
 
-module _ (s : Settings) (v : View) (ok : acceptable s ≡ true) (good : v.refusal ≡ none) {first : List Call} (began : ChangeCame s first) where
+module _ (s : Settings) (v : View) (ok : acceptable s ≡ true) (good : v.refusal ≡ None) {first : List Call} (began : ChangeCame s first) where
   pub under-on : (calls : List Call) (k : Kept) (x : Call) → Under s v began calls k → refused_to_host (call v k x).said ≡ false
       → AfterUnder s v began (calls ++ (x ∷ [])) (call v k x).kept
   under-on calls k x stands comes =

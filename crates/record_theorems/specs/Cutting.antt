@@ -1,6 +1,5 @@
 -- However handshake bytes are cut into records, the messages judged are the same, and so is what they come to. proofs/Cutting.antt proves it.
-use Rattle.std.specs.Prelude.{◌≡◌, ℕ, List, [], ◌∷◌, ◌++◌, length}
-use Rattle.std.proofs.Math.Option.{none}
+use Rattle.std.specs.Prelude.{◌≡◌, ℕ, List, [], ◌∷◌, ◌++◌, length, None}
 use Rattle.handshake.specs.Flight.{silence, joined}
 use Rattle.server.specs.declared.Connection.{Connection}
 use Rattle.server.specs.KeyExchange.{View}
@@ -27,4 +26,4 @@ fed v p (part ∷ parts) = fed_then (judge_all v (with_more p part)) (λ q. fed 
 abbrev pub CutFree : Type 0
 CutFree =
     (v : View) (c : Connection) (parts : List (List ℕ))
-    → fed v (record { connection = c; flight = silence; master = none; left = [] }) parts ≡ judged v c (joined parts)
+    → fed v (record { connection = c; flight = silence; master = None; left = [] }) parts ≡ judged v c (joined parts)

@@ -1,7 +1,6 @@
 -- Demand 3 for record connections, both halves (document 02, P5): each is one statement about every series of records taken and data sent from an
 -- accepted start. specs/Series.antt has the calls and the run, specs/Terms.antt the terms.
-use Rattle.std.specs.Prelude.{◌≡◌, ◌↔◌, ℕ, true, List, ◌∷◌, ◌++◌}
-use Rattle.std.proofs.Math.Option.{none, some}
+use Rattle.std.specs.Prelude.{◌≡◌, ◌↔◌, ℕ, true, List, ◌∷◌, ◌++◌, Ok, None, Some}
 use Rattle.refusal.specs.Lent.{gives, bytes_of}
 use Rattle.keytable.specs.Table.{well_formed}
 use Rattle.keytable.specs.Starts.{is_list}
@@ -10,7 +9,6 @@ use Rattle.server.specs.declared.Phase.{Phase}
 use Rattle.server.specs.Connection.{Settings, acceptable}
 use Rattle.server.specs.KeyExchange.{View, view_of}
 use Rattle.records.specs.declared.ContentType.{ContentType}
-use Rattle.records.specs.declared.Read.{Read}
 use Rattle.records.specs.Record.{record_read}
 use Rattle.records.specs.Protection.{mac_length, right_mac}
 use Rattle.record_server.specs.Connection.{offered, record_start}
@@ -41,12 +39,12 @@ pub record JudgedRight (s : Settings) (v : View) (memory identity : List ℕ) (c
   pub awaits : ChangeCame s (came v (begun s memory) calls)
   pub names : named s awaits ≡ identity
   pub key : List ℕ
-  pub listed : v.lookup identity ≡ some key
+  pub listed : v.lookup identity ≡ Some key
   pub bytes : List ℕ
   pub out : List ℕ
   pub is : x ≡ takes bytes out
   pub kind : ContentType
-  pub tested : record_read mac_length bytes ≡ Read.Record kind
+  pub tested : record_read mac_length bytes ≡ Ok kind
   pub right : right_mac (under (bytes_of (client_key s awaits key)) 0) bytes ≡ true
 
 -- No call of the series is such a one. A series that has one is compared as far as the call before it.
@@ -58,7 +56,7 @@ NoneJudgedRight s v memory identity calls =
 abbrev pub SamenessOfLookups : Type 1
 SamenessOfLookups =
     (s s' : Settings) → Alike s s' → Accepted s → Hiding s.named → Hiding s'.named
-    → (Set : List ℕ → Type 0) (v v' : View) → v.refusal ≡ none → v'.refusal ≡ none → AgreeOutside Set v v'
+    → (Set : List ℕ → Type 0) (v v' : View) → v.refusal ≡ None → v'.refusal ≡ None → AgreeOutside Set v v'
     → (memory : List ℕ) → (calls : List Call)
     → ((identity : List ℕ) → Set identity → NoneJudgedRight s v memory identity calls × NoneJudgedRight s v' memory identity calls)
     → answers v (begun s memory) calls ≡ answers v' (begun s' memory) calls
@@ -82,7 +80,7 @@ pub record CameRight (s : Settings) (v : View) (calls : List Call) : Type 0 wher
   pub first : List Call
   pub began : ChangeCame s first
   pub key : List ℕ
-  pub listed : v.lookup (named s began) ≡ some key
+  pub listed : v.lookup (named s began) ≡ Some key
   pub mac_key : List ℕ
   pub under-key : client_key s began key ≡ gives mac_key
   pub sealed : List Call

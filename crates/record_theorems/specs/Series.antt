@@ -1,7 +1,6 @@
 -- A series of calls on one record connection (document 02, P5): records taken and data sent, as many and in whatever order.
-use Rattle.std.specs.Prelude.{ℕ, Bool, false, cond, not, ◌&&◌, List, [], ◌∷◌, eqb}
-use Rattle.refusal.specs.declared.Written.{Written}
-use Rattle.refusal.specs.declared.Written.TheVariants.{Wrote, Refused}
+use Rattle.std.specs.Prelude.{ℕ, Bool, false, cond, not, ◌&&◌, List, [], ◌∷◌, eqb, Result, Ok, Err}
+use Rattle.refusal.specs.declared.Refusal.{Refusal}
 use Rattle.refusal.specs.Table.{number_of, to_peer}
 use Rattle.server.specs.KeyExchange.{View}
 use Rattle.record_server.specs.declared.RecordConnection.{RecordConnection}
@@ -20,7 +19,7 @@ pub record Kept : Type 0 where
   pub memory : List ℕ
 
 pub record Done : Type 0 where
-  pub said : Written
+  pub said : Result ℕ Refusal
   pub out : List ℕ
   pub kept : Kept
 
@@ -53,7 +52,7 @@ run v k (x ∷ xs) = run v (call v k x).kept xs
 -- the alert or refusal or the answer's length, which are in what is said; all of the output afterwards; and the record of the alert that the host
 -- then sends
 pub record Seen : Type 0 where
-  pub said : Written
+  pub said : Result ℕ Refusal
   pub out : List ℕ
   pub alert : List ℕ
 
@@ -66,10 +65,10 @@ answers v k (x ∷ xs) = seen (call v k x) ∷ answers v (call v k x).kept xs
 
 -- ---- what came
 
--- Refused to the host with a number other than R4. Such a call counts as not come.
-abbrev pub refused_to_host : Written → Bool
-refused_to_host (Wrote n) = false
-refused_to_host (Refused r) = not (to_peer r) && not (eqb (number_of r) 4)
+-- Err to the host with a number other than R4. Such a call counts as not come.
+abbrev pub refused_to_host : Result ℕ Refusal → Bool
+refused_to_host (Ok n) = false
+refused_to_host (Err r) = not (to_peer r) && not (eqb (number_of r) 4)
 
 -- the calls of a series that count as come
 abbrev pub came : View → Kept → List Call → List Call

@@ -1,16 +1,14 @@
 -- The terms of demand 3 for record connections, said of the records, the settings and the table alone: nothing here speaks of the state that a
 -- connection keeps. What is legal and right of a message is as for the server's own connections (crates/theorems/specs/Terms.antt).
-use Rattle.std.specs.Prelude.{◌≡◌, true, ℕ, ◌+◌, List, [], ◌∷◌, ◌++◌, length}
+use Rattle.std.specs.Prelude.{◌≡◌, true, ℕ, ◌+◌, List, [], ◌∷◌, ◌++◌, length, Ok}
 use Rattle.refusal.specs.Lent.{Outcome, gives, and_then}
 use Rattle.lists.specs.Lists.{part}
 use Rattle.keys.specs.Secrets.{keys, master_under}
 use Rattle.server.specs.Connection.{Settings}
 use Rattle.records.specs.declared.ContentType.{ContentType}
-use Rattle.records.specs.declared.Read.{Read}
-use Rattle.records.specs.declared.Opened.{Opened}
 use Rattle.records.specs.declared.State.{State}
 use Rattle.records.specs.Record.{fragment_of, record_read}
-use Rattle.records.specs.Protection.{opened, content_of}
+use Rattle.records.specs.Protection.{opened, content_of, holding}
 use Rattle.record_server.specs.Connection.{null_suite}
 use Rattle.record_server.specs.Answering.{change_of_cipher}
 use Rattle.theorems.specs.Terms.{LegalHello, LegalKeyExchange, value_under}
@@ -23,7 +21,7 @@ pub record PlainRecord (kind : ContentType) (content : List ℕ) (x : Call) : Ty
   pub bytes : List ℕ
   pub out : List ℕ
   pub is : x ≡ takes bytes out
-  pub read : record_read 0 bytes ≡ Read.Record kind
+  pub read : record_read 0 bytes ≡ Ok kind
   pub holds : fragment_of bytes ≡ content
 
 -- the client's direction under a MAC key, before its record of number n
@@ -35,7 +33,7 @@ pub record SealedRecord (key : List ℕ) (n : ℕ) (kind : ContentType) (content
   pub bytes : List ℕ
   pub out : List ℕ
   pub is : x ≡ takes bytes out
-  pub opens : opened (under key n) bytes ≡ Opened.Content kind (length content)
+  pub opens : opened (under key n) bytes ≡ holding kind (length content)
   pub holds : content_of (under key n) bytes ≡ content
 
 -- the two bytes of an ignored warning: level 1, and not close_notify

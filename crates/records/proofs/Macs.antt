@@ -8,7 +8,8 @@ use mathlib.Core.List.{List, [], ◌∷◌, ◌++◌}
 use lib.ListN.{length, get_or, take, drop, replicate, length-drop}
 use lib.Seq.{take_all, drop-drop}
 use borrow.Author.Tests.{le-leb}
-use Rattle.refusal.specs.declared.Written.{Written}
+use Rattle.std.specs.Prelude.{Result}
+use Rattle.refusal.specs.declared.Refusal.{Refusal}
 use Rattle.refusal.specs.Lent.{gives, Answers}
 use Rattle.refusal.proofs.Laws.{answer-fills}
 use Rattle.lists.specs.Lists.{same, part}
@@ -38,7 +39,7 @@ hmac-given : (key text : List ℕ) → length key ≤ 32 → length text ≤ 656
 unfolding hmac
 hmac-given key text few short = rw (le-leb (length text) 0x1fffffffffffffbf (omega arith), le-leb (length key) 0x1fffffffffffffff (omega arith))
 
-module _ (key : List ℕ) (sequence : ℕ) (front content : List ℕ) {number size value : List ℕ} {said : Written} where
+module _ (key : List ℕ) (sequence : ℕ) (front content : List ℕ) {number size value : List ℕ} {said : Result ℕ Refusal} where
   pub mac-given : length key ≡ 32 → length front ≡ 3 → length content ≤ 65535 → number ≡ be 8 sequence → size ≡ be 2 (length content)
       → Answers (hmac key (head number front size ++ content)) (replicate 32 0) said value → value ≡ mac_of key sequence front content
   unfolding mac_of

@@ -6,10 +6,10 @@ use native.Mathlib.Omega.{arith}
 use mathlib.Core.Bool.{Bool, true, false, cond}
 use mathlib.Core.Logic.{◌↔◌, ◌⊎◌, inl, inr, ⊎_elim}
 use mathlib.Core.List.{List, ◌++◌}
-use mathlib.Core.Option.{some}
 use lib.ListN.{length, take, drop}
 use lib.Seq.{take-length, take-append_seam, drop-append_seam}
 use borrow.Author.Tests.{le-leb, eq-eqb}
+use Rattle.std.specs.Prelude.{Ok, Some}
 use Rattle.lists.specs.Lists.{same}
 use Rattle.lists.proofs.Equal.{same-eq, same_refl}
 use Rattle.endian.specs.Number.{be, number}
@@ -17,15 +17,13 @@ use Rattle.endian.proofs.Numbers.{number-be-lt}
 use Rattle.records.specs.declared.ContentType.{ContentType}
 use Rattle.records.specs.declared.ContentType.TheVariants.{ChangeCipherSpec, Alert, Handshake, ApplicationData}
 use Rattle.records.specs.declared.State.{State}
-use Rattle.records.specs.declared.Read.{Read}
-use Rattle.records.specs.declared.Opened.{Opened}
 use Rattle.records.specs.Record.{type_number, type_of, front, record_bytes, whole, length_read, record_read}
-use Rattle.records.specs.Protection.{added, mac_of, sealed, fragment_under, content_length, content_of, right_mac, opened}
+use Rattle.records.specs.Protection.{added, mac_of, sealed, fragment_under, content_length, content_of, right_mac, opened, holding}
 use Rattle.records.proofs.Opening.{few-added, length-fragment, refused-content, opened-bad, opened-right, opened-plain}
 
 -- ---- a record's bytes are read as they were made
 
-type-read : (kind : ContentType) → type_of (type_number kind) ≡ some kind
+type-read : (kind : ContentType) → type_of (type_number kind) ≡ Some kind
 type-read ChangeCipherSpec = refl
 type-read Alert = refl
 type-read Handshake = refl
@@ -50,7 +48,7 @@ module _ (s s' : State) (kind : ContentType) (content : List ℕ) (few : length 
   as_added : added s' ≡ added s
   as_added = rw as-much
 
-  layout : record_read (added s') (sealed s kind content) ≡ Read.Record kind
+  layout : record_read (added s') (sealed s kind content) ≡ Ok kind
   layout =
       let fragment : List ℕ = fragment_under s kind content in
       let size : length fragment ≡ length content + added s = length-fragment s kind content in
@@ -69,10 +67,10 @@ module _ (s s' : State) (kind : ContentType) (content : List ℕ) (few : length 
 
   -- the record is opened as its content where the MAC's test passes or is not asked for
   opened-there : (s'.protected ≡ false) ⊎ (right_mac s' (sealed s kind content) ≡ true)
-      → opened s' (sealed s kind content) ≡ Opened.Content kind (length content)
+      → opened s' (sealed s kind content) ≡ holding kind (length content)
   opened-there h =
       ⊎_elim (λ p. opened-plain s' (sealed s kind content) layout p) (λ right. opened-right s' (sealed s kind content) layout right) h
-      ∙ ap (λ (n : ℕ). Opened.Content kind n) content-length
+      ∙ ap (λ (n : ℕ). holding kind n) content-length
 
   macs-compared : s.protected ≡ true → right_mac s' (sealed s kind content) ≡ same (mac_under s kind content) (mac_under s' kind content)
   macs-compared p =
@@ -85,7 +83,7 @@ module _ (s s' : State) (kind : ContentType) (content : List ℕ) (few : length 
 -- ---- the laws
 
 pub sealed-opened : (s : State) (kind : ContentType) (content : List ℕ) → length content ≤ 16384
-    → (opened s (sealed s kind content) ≡ Opened.Content kind (length content)) × (content_of s (sealed s kind content) ≡ content)
+    → (opened s (sealed s kind content) ≡ holding kind (length content)) × (content_of s (sealed s kind content) ≡ content)
 sealed-opened s kind content few = (opened-there s s kind content few refl (go s.protected refl), content-there s s kind content few refl)
   where
     go : (t : Bool) → s.protected ≡ t → (s.protected ≡ false) ⊎ (right_mac s (sealed s kind content) ≡ true)
@@ -93,18 +91,18 @@ sealed-opened s kind content few = (opened-there s s kind content few refl (go s
     go false p = inl p
 
 pub sealed-elsewhere : (s s' : State) (kind : ContentType) (content : List ℕ) → length content ≤ 16384 → s.protected ≡ true → s'.protected ≡ true
-    → (opened s' (sealed s kind content) ≡ Opened.Content kind (length content))
+    → (opened s' (sealed s kind content) ≡ holding kind (length content))
     ↔ (mac_of s.key s.sequence (front kind) content ≡ mac_of s'.key s'.sequence (front kind) content)
 sealed-elsewhere s s' kind content few p p' = (λ e. there e (right_mac s' (sealed s kind content)) refl, back)
   where
     as-much : s'.protected ≡ s.protected
     as-much = p' ∙ sym p
 
-    there : opened s' (sealed s kind content) ≡ Opened.Content kind (length content)
+    there : opened s' (sealed s kind content) ≡ holding kind (length content)
         → (t : Bool) → right_mac s' (sealed s kind content) ≡ t → mac_under s kind content ≡ mac_under s' kind content
     there e true right = same-eq _ _ (sym (macs-compared s s' kind content few as-much p) ∙ right)
     there e false bad =
         absurd (refused-content (sym (opened-bad s' (sealed s kind content) (layout s s' kind content few as-much) p' bad) ∙ e))
 
-    back : mac_under s kind content ≡ mac_under s' kind content → opened s' (sealed s kind content) ≡ Opened.Content kind (length content)
+    back : mac_under s kind content ≡ mac_under s' kind content → opened s' (sealed s kind content) ≡ holding kind (length content)
     back e = opened-there s s' kind content few as-much (inr (macs-compared s s' kind content few as-much p ∙ rw e (same_refl (mac_under s' kind content))))

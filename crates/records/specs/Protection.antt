@@ -1,6 +1,8 @@
 -- A connection state and the protection of a record under it (RFC 5246, sections 6.1 and 6.2.3.1), for TLS_PSK_WITH_NULL_SHA256: no cipher, and an
 -- HMAC-SHA-256 behind the content.
-use Rattle.std.specs.Prelude.{ℕ, ◌+◌, ◌-◌, Bool, true, false, cond, not, ◌&&◌, List, ◌++◌, length, take, drop, replicate, leb, eqb}
+use Rattle.std.specs.Prelude.{ℕ, ◌+◌, ◌-◌, Bool, true, false, cond, not, ◌&&◌, List, ◌++◌, length, take, drop, replicate, leb, eqb, Result, Ok, Err}
+use Rattle.records.specs.declared.Content.{Content}
+use Rattle.refusal.specs.declared.Refusal.{Refusal}
 use Rattle.endian.specs.Number.{be}
 use Rattle.lists.specs.Lists.{same}
 use Rattle.refusal.specs.declared.Refusal.TheVariants.{BadValue, BadRecordMac}
@@ -8,8 +10,6 @@ use Rattle.refusal.specs.Lent.{Outcome, gives, refuses}
 use Rattle.keys.specs.Hmac.{mac}
 use Rattle.records.specs.declared.ContentType.{ContentType}
 use Rattle.records.specs.declared.State.{State}
-use Rattle.records.specs.declared.Opened.{Opened}
-use Rattle.records.specs.declared.Read.{Read}
 use Rattle.records.specs.Record.{content_limit, front, record_bytes, fragment_of, record_read}
 
 -- ---- a connection state: of one direction
@@ -75,12 +75,16 @@ right_mac s bytes =
     leb mac_length (length (fragment_of bytes))
     && same (drop (content_length s bytes) (fragment_of bytes)) (mac_of s.key s.sequence (take 3 bytes) (content_of s bytes))
 
+-- so many bytes of content, of this type
+abbrev pub holding : ContentType → ℕ → Result Content Refusal
+holding kind n = Ok (record { kind = kind; len = n })
+
 -- 20 for a bad MAC, where one is asked for; else the content's type and length
-abbrev pub mac_read : State → List ℕ → Read → Opened
-mac_read s bytes (Read.Record kind) =
-    cond (s.protected && not (right_mac s bytes)) (Opened.Refused BadRecordMac) (Opened.Content kind (content_length s bytes))
-mac_read s bytes (Read.Refused r) = Opened.Refused r
+abbrev pub mac_read : State → List ℕ → Result ContentType Refusal → Result Content Refusal
+mac_read s bytes (Ok kind) =
+    cond (s.protected && not (right_mac s bytes)) (Err BadRecordMac) (holding kind (content_length s bytes))
+mac_read s bytes (Err r) = Err r
 
 -- the tests on a record in their order, the MAC's last
-abbrev pub opened : State → List ℕ → Opened
+abbrev pub opened : State → List ℕ → Result Content Refusal
 opened s bytes = mac_read s bytes (record_read (added s) bytes)

@@ -1,12 +1,11 @@
 -- The record layer's plaintext (RFC 5246, section 6.2.1): a content type, a version and a fragment with its length in front; and the tests on a record
 -- that came, in the order of document 02's P5.
-use Rattle.std.specs.Prelude.{ℕ, ◌+◌, ◌-◌, Bool, cond, ◌&&◌, List, ◌∷◌, ◌++◌, length, get_or, drop, leb, eqb}
-use Rattle.std.proofs.Math.Option.{Option, none, some}
+use Rattle.std.specs.Prelude.{ℕ, ◌+◌, ◌-◌, Bool, cond, ◌&&◌, List, ◌∷◌, ◌++◌, length, get_or, drop, leb, eqb, Result, Ok, Err, Option, None, Some}
+use Rattle.refusal.specs.declared.Refusal.{Refusal}
 use Rattle.endian.specs.Number.{be}
 use Rattle.endian.specs.Vector.{stated, vector}
 use Rattle.refusal.specs.declared.Refusal.TheVariants.{UnexpectedMessage, RecordOverflow, DecodeError}
 use Rattle.records.specs.declared.ContentType.{ContentType}
-use Rattle.records.specs.declared.Read.{Read}
 
 -- ---- content types
 
@@ -20,10 +19,10 @@ type_number ContentType.ApplicationData = 23
 -- the one that has this number, if one has
 abbrev pub type_of : ℕ → Option ContentType
 type_of n =
-    cond (eqb n 20) (some ContentType.ChangeCipherSpec)
-    (cond (eqb n 21) (some ContentType.Alert)
-    (cond (eqb n 22) (some ContentType.Handshake)
-    (cond (eqb n 23) (some ContentType.ApplicationData) none)))
+    cond (eqb n 20) (Some ContentType.ChangeCipherSpec)
+    (cond (eqb n 21) (Some ContentType.Alert)
+    (cond (eqb n 22) (Some ContentType.Handshake)
+    (cond (eqb n 23) (Some ContentType.ApplicationData) None)))
 
 -- ---- a record's bytes
 
@@ -53,14 +52,14 @@ abbrev pub whole : List ℕ → Bool
 whole bytes = leb header_length (length bytes) && eqb (stated 2 (drop 3 bytes)) (length bytes - header_length)
 
 -- 22 for a fragment, of n bytes, that is longer than content and what its protection may add
-abbrev pub length_read : (added n : ℕ) → ContentType → Read
-length_read added n kind = cond (leb n (content_limit + added)) (Read.Record kind) (Read.Refused RecordOverflow)
+abbrev pub length_read : (added n : ℕ) → ContentType → Result ContentType Refusal
+length_read added n kind = cond (leb n (content_limit + added)) (Ok kind) (Err RecordOverflow)
 
 -- 10 for a type that is none of the four
-abbrev pub type_read : (added : ℕ) → List ℕ → Option ContentType → Read
-type_read added bytes none = Read.Refused UnexpectedMessage
-type_read added bytes (some kind) = length_read added (length (fragment_of bytes)) kind
+abbrev pub type_read : (added : ℕ) → List ℕ → Option ContentType → Result ContentType Refusal
+type_read added bytes None = Err UnexpectedMessage
+type_read added bytes (Some kind) = length_read added (length (fragment_of bytes)) kind
 
 -- 50 for bytes that aren't one whole record, then these; the version is not judged
-abbrev pub record_read : (added : ℕ) → List ℕ → Read
-record_read added bytes = cond (whole bytes) (type_read added bytes (type_of (get_or bytes 0 0))) (Read.Refused DecodeError)
+abbrev pub record_read : (added : ℕ) → List ℕ → Result ContentType Refusal
+record_read added bytes = cond (whole bytes) (type_read added bytes (type_of (get_or bytes 0 0))) (Err DecodeError)

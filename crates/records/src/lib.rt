@@ -9,10 +9,8 @@ pub mod header;
 pub mod joining;
 pub mod protection;
 
-use refusal::Refusal;
-
 // What a record holds (RFC 5246, section 6.2.1).
-#[derive(Clone, Copy)]
+#[derive(Clone, Copy, Debug, PartialEq, Eq)]
 pub enum ContentType {
     ChangeCipherSpec,
     Alert,
@@ -20,16 +18,10 @@ pub enum ContentType {
     ApplicationData,
 }
 
-// What the tests on a record's layout say. Its fragment is what stands behind the five bytes of the header.
-#[derive(Drop)]
-pub enum Read {
-    Record(ContentType),
-    Refused(Refusal),
-}
-
 // The state of one direction of a connection (RFC 5246, section 6.1).
 #[derive(Clone, Copy)]
 pub struct State {
+    // A flag and a key, and no Option: a saved connection has the bytes of both, whatever the flag says.
     pub protected: bool,
     // How many records were sent or taken under it.
     pub sequence: u64,
@@ -37,9 +29,9 @@ pub struct State {
     pub key: [u8; 32],
 }
 
-// What all tests on a record say: its type, and how many bytes of the fragment are content.
-#[derive(Drop)]
-pub enum Opened {
-    Content { kind: ContentType, len: usize },
-    Refused(Refusal),
+// What a record holds that passed all tests: its type, and how many bytes of the fragment are content.
+#[derive(Clone, Copy)]
+pub struct Content {
+    pub kind: ContentType,
+    pub len: usize,
 }

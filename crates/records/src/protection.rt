@@ -4,9 +4,9 @@ ghost use Rattle.refusal.specs.Lent.{Answers};
 ghost use Rattle.records.specs.Protection as Protection;
 ghost use Rattle.records.specs.Protection.{initial_state, protected_by, mac_of, sealing};
 
-use crate::{ContentType, Opened, Read, State, header};
+use crate::{Content, ContentType, State, header};
 use layout::put;
-use refusal::{Refusal, Written};
+use refusal::Refusal;
 
 // The state of a direction at the start.
 pub fn initial() -> State
@@ -65,39 +65,39 @@ fn mac_of(key: [u8; 32], sequence: u64, front: [u8; 3], content: &[u8]) -> [u8; 
     requires { length content.now ≤ 65535 }
     ensures { result ≡ mac_of key sequence front content.now }
 {
-    let number = endian::bytes64(sequence);
-    let size = endian::bytes16(content.len());
+    let number = endian::bytes::<8>(sequence);
+    let size = endian::bytes::<2>(content.len() as u64);
     let head = [
         number[0], number[1], number[2], number[3], number[4], number[5], number[6], number[7],
         front[0], front[1], front[2], size[0], size[1],
     ];
     let mut value = [0u8; 32];
-    keys::hmac_of_two(&key, &head, content, &mut value);
+    let _ = keys::hmac_of_two(&key, &head, content, &mut value);
     value
 }
 
 // A record with this content at the front of the lent output: R5 where the content is over 16,384 bytes, then R1.
-pub fn seal(s: State, kind: ContentType, content: &[u8], out: &mut [u8]) -> Written
+pub fn seal(s: State, kind: ContentType, content: &[u8], out: &mut [u8]) -> Result<usize, Refusal>
     ensures { Answers (sealing s kind content.now) out.old result out.new }
 {
     let n = content.len();
     if 16384 < n {
-        return Written::Refused(Refusal::BadValue);
+        return Err(Refusal::BadValue);
     }
     if !s.protected {
         let head = header::made(kind, n);
         return put::two(&head, content, out);
     }
     if out.len() < 37 + n {
-        return Written::Refused(Refusal::ShortOutput);
+        return Err(Refusal::ShortOutput);
     }
     let key = s.key;
     let head = header::made(kind, n + 32);
     let value = mac_of(key, s.sequence, [head[0], head[1], head[2]], content);
     let at = 5 + n;
-    put::two(&head, content, out);
+    let _ = put::two(&head, content, out);
     lists::copy(&value, &mut out[at..]);
-    Written::Wrote(37 + n)
+    Ok(37 + n)
 }
 
 // Whether the MAC behind the content is right, where there is protection. All of it is compared, whatever its bytes are.
@@ -121,22 +121,18 @@ fn right_mac(s: State, received: &[u8]) -> bool
 }
 
 // The tests on a record that came under this state.
-pub fn open(s: State, received: &[u8]) -> Opened
+pub fn open(s: State, received: &[u8]) -> Result<Content, Refusal>
     ensures { result ≡ Protection.opened s received.now }
 {
     let extra = added(s);
-    match header::read(received, extra) {
-        Read::Record(kind) => {
-            if s.protected {
-                if !right_mac(s, received) {
-                    return Opened::Refused(Refusal::BadRecordMac);
-                }
-            }
-            Opened::Content {
-                kind,
-                len: received.len() - 5 - extra,
-            }
+    let kind = header::read(received, extra)?;
+    if s.protected {
+        if !right_mac(s, received) {
+            return Err(Refusal::BadRecordMac);
         }
-        Read::Refused(r) => Opened::Refused(r),
     }
+    Ok(Content {
+        kind,
+        len: received.len() - 5 - extra,
+    })
 }

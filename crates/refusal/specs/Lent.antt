@@ -1,11 +1,9 @@
 -- What a call that is lent memory answers and leaves there (document 01, "Numbers that come back"): a refusal leaves every byte as it was, an answer
 -- of n bytes stands at the front and the rest stays, and R1 is tested last.
 -- A definition of a message or a key has the type Outcome and holds its tests for R5 or an alert; `Answers` adds the test of the room.
-use Rattle.std.specs.Prelude.{◌≡◌, ℕ, cond, List, [], ◌++◌, length, drop, leb}
+use Rattle.std.specs.Prelude.{◌≡◌, ℕ, cond, List, [], ◌++◌, length, drop, leb, Result, Ok, Err}
 use Rattle.refusal.specs.declared.Refusal.{Refusal}
 use Rattle.refusal.specs.declared.Refusal.TheVariants.{ShortOutput}
-use Rattle.refusal.specs.declared.Written.{Written}
-use Rattle.refusal.specs.declared.Written.TheVariants.{Wrote, Refused}
 
 -- what there is to be written, whatever the room
 pub data Outcome : Type 0 where
@@ -28,9 +26,9 @@ within room (gives bytes) = cond (leb (length bytes) room) (gives bytes) (refuse
 within room (refuses r) = refuses r
 
 -- what the caller is told
-abbrev pub answer : Outcome → Written
-answer (gives bytes) = Wrote (length bytes)
-answer (refuses r) = Refused r
+abbrev pub answer : Outcome → Result ℕ Refusal
+answer (gives bytes) = Ok (length bytes)
+answer (refuses r) = Err r
 
 -- the memory `out` afterwards
 abbrev pub after : Outcome → List ℕ → List ℕ
@@ -38,6 +36,6 @@ after (gives bytes) out = bytes ++ drop (length bytes) out
 after (refuses r) out = out
 
 -- A call that was lent `out` for the outcome `wanted` said `said` and left `out'`.
-pub record Answers (wanted : Outcome) (out : List ℕ) (said : Written) (out' : List ℕ) : Type 0 where
+pub record Answers (wanted : Outcome) (out : List ℕ) (said : Result ℕ Refusal) (out' : List ℕ) : Type 0 where
   pub told : said ≡ answer (within (length out) wanted)
   pub left : out' ≡ after (within (length out) wanted) out

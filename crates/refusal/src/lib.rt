@@ -1,5 +1,5 @@
-// The numbers that come back (document 01, and document 02's requests) as one enum, and what every call that is lent memory
-// tells its caller: so many bytes stand at the front of that memory, or a refusal, and then nothing
+// The numbers that come back (document 01, and document 02's requests) as one enum. A call that is lent memory tells its caller
+// a `Result<usize, Refusal>`: so many bytes stand at the front of that memory, or a refusal, and then nothing
 // was written.
 //
 // specs/Table.antt is document 01's table. specs/Lent.antt says what an answer leaves in lent memory.
@@ -9,7 +9,7 @@ ghost use Rattle.std.specs.Prelude.{◌≡◌};
 ghost use Rattle.refusal.specs.Table.{number_of, to_peer};
 ghost use Rattle.refusal.specs.Lent.{Answers, gives};
 
-#[derive(Clone, Copy)]
+#[derive(Clone, Copy, Debug, PartialEq, Eq)]
 pub enum Refusal {
     // R1: lent output shorter than the answer
     ShortOutput,
@@ -42,14 +42,6 @@ pub enum Refusal {
     ProtocolVersion,
     UnsupportedExtension,
     UnknownPskIdentity,
-}
-
-#[derive(Clone, Copy)]
-pub enum Written {
-    // So many bytes stand at the front of the lent memory.
-    Wrote(usize),
-    // Nothing was written.
-    Refused(Refusal),
 }
 
 // The refusal's number in document 01's table: n for Rn, and the alert's own for an alert.
@@ -110,12 +102,12 @@ pub fn for_peer(r: Refusal) -> bool
 }
 
 // The bytes at the front of the lent output, or R1 where it is shorter than they are.
-pub fn put(answer: &[u8], out: &mut [u8]) -> Written
+pub fn put(answer: &[u8], out: &mut [u8]) -> Result<usize, Refusal>
     ensures { Answers (gives answer.now) out.old result out.new }
 {
     if out.len() < answer.len() {
-        return Written::Refused(Refusal::ShortOutput);
+        return Err(Refusal::ShortOutput);
     }
     let n = lists::copy(answer, out);
-    Written::Wrote(n)
+    Ok(n)
 }

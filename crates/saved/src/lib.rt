@@ -65,7 +65,7 @@ fn head(c: Connection) -> [u8; 6]
     let setup = c.setup;
     let client = c.client;
     let rule = setup.rule;
-    let suite = endian::bytes16(client.suite as usize);
+    let suite = endian::bytes::<2>(client.suite as u64);
     [
         phase_byte(phase),
         rule_byte(rule),
@@ -80,9 +80,9 @@ fn head(c: Connection) -> [u8; 6]
 fn pairs(suites: [u16; 3]) -> [u8; 6]
     ensures { result ≡ Saved.pairs suites }
 {
-    let first = endian::bytes16(suites[0] as usize);
-    let second = endian::bytes16(suites[1] as usize);
-    let third = endian::bytes16(suites[2] as usize);
+    let first = endian::bytes::<2>(suites[0] as u64);
+    let second = endian::bytes::<2>(suites[1] as u64);
+    let third = endian::bytes::<2>(suites[2] as u64);
     [first[0], first[1], second[0], second[1], third[0], third[1]]
 }
 

@@ -7,7 +7,8 @@ use mathlib.Core.Bool.{true}
 use mathlib.Core.List.{List, ◌++◌}
 use lib.ListN.{length, drop, replicate, length-append}
 use lib.Dec.{leb}
-use Rattle.refusal.specs.declared.Written.{Written}
+use Rattle.std.specs.Prelude.{Result}
+use Rattle.refusal.specs.declared.Refusal.{Refusal}
 use Rattle.refusal.specs.Lent.{gives, Answers}
 use Rattle.refusal.proofs.Laws.{answer-fills}
 use Rattle.endian.proofs.Numbers.{number-be-lt}
@@ -19,7 +20,7 @@ use Rattle.client.specs.declared.Connection.{Connection}
 use Rattle.saved_client.specs.Saved.{phase_byte, parts, saved, to_phase, restored}
 
 -- a part that was put before those behind it, in memory that they fill
-pub put-before : {first behind all out out' : List ℕ} {said : Written} (part : List ℕ) (m n : ℕ) → Answers (gives (part ++ behind)) out said out'
+pub put-before : {first behind all out out' : List ℕ} {said : Result ℕ Refusal} (part : List ℕ) (m n : ℕ) → Answers (gives (part ++ behind)) out said out'
     → (part ≡ first) × (length first ≡ m) → (behind ≡ all) × (length all ≡ n) → m + n ≡ length out
     → (out' ≡ first ++ all) × (length (first ++ all) ≡ m + n)
 put-before {first} {all = all} part m n put (same_first, size) (same, rest) room =

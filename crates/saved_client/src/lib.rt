@@ -46,7 +46,7 @@ fn head(c: Connection) -> [u8; 5]
     let phase = c.phase;
     let setup = c.setup;
     let server = c.server;
-    let suite = endian::bytes16(server.suite as usize);
+    let suite = endian::bytes::<2>(server.suite as u64);
     [
         phase_byte(phase),
         setup.identity_length,
@@ -78,12 +78,12 @@ pub fn save(c: Connection) -> [u8; 413]
     let mut from_key = [0u8; 280];
     let mut from_identity = [0u8; 408];
     let mut all = [0u8; 413];
-    put::two(&master, &transcript, &mut from_master);
-    put::two(&server_random, &from_master, &mut from_server);
-    put::two(&own_random, &from_server, &mut from_own);
-    put::two(&key, &from_own, &mut from_key);
-    put::two(&identity, &from_key, &mut from_identity);
-    put::two(&front, &from_identity, &mut all);
+    let _ = put::two(&master, &transcript, &mut from_master);
+    let _ = put::two(&server_random, &from_master, &mut from_server);
+    let _ = put::two(&own_random, &from_server, &mut from_own);
+    let _ = put::two(&key, &from_own, &mut from_key);
+    let _ = put::two(&identity, &from_key, &mut from_identity);
+    let _ = put::two(&front, &from_identity, &mut all);
     all
 }
 

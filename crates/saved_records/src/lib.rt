@@ -47,7 +47,7 @@ fn append_state(bytes: [u8; 576], at: usize, s: State) -> [u8; 576]
 {
     let key = s.key;
     let first = [protected_byte(s.protected)];
-    let sequence = endian::bytes64(s.sequence);
+    let sequence = endian::bytes::<8>(s.sequence);
     let with_first = append(bytes, at, &first);
     let with_sequence = append(with_first, at + 1, &sequence);
     append(with_sequence, at + 9, &key)
@@ -68,7 +68,7 @@ pub fn save(c: RecordConnection) -> [u8; 576]
     let alert_length = [alert.length];
     let alert_bytes = alert.bytes;
     let inner = saved::save(handshake);
-    let held = endian::bytes16(c.held as usize);
+    let held = endian::bytes::<2>(c.held as u64);
     let with_inner = append([0u8; 576], 0, &inner);
     let with_reading = append_state(with_inner, 388, reading);
     let with_writing = append_state(with_reading, 429, writing);

@@ -1,15 +1,17 @@
 -- The laws of step 1: the lists of a ClientHello one element after the other, the tests on its fields, and the flight that answers it.
 -- Assumes nothing.
 use mathlib.Core.Path.{◌≡◌, refl, ap, ◌∙◌}
-use Prim.Native.Nat.{ℕ, ◌+◌, ◌≤◌, ◌<◌}
-use native.Mathlib.Nat.{add_assoc}
+use Prim.Native.Nat.{ℕ, zero, suc, ◌+◌, ◌*◌, ◌≤◌, ◌<◌}
 use native.Mathlib.Omega.{arith}
-use mathlib.Core.Bool.{Bool, true, false, cond, ◌||◌}
+use mathlib.Core.Bool.{Bool, true, false, cond}
 use mathlib.Core.List.{List, [], ◌∷◌, ◌++◌, append-nil, append_assoc}
-use mathlib.Core.Option.{Option, none, some}
-use lib.ListN.{length, drop, get_or, length-append}
+use lib.ListN.{length, get_or, length-append}
 use lib.Dec.{eqb}
+use Rattle.std.specs.List.{list_any, find}
+use Rattle.std.specs.Option.{option_map}
+use Rattle.std.specs.Simd.{first_chunks}
 use borrow.Author.Tests.{eq-eqb, ne_eqb, lt-ltb, le-ltb}
+use Rattle.std.specs.Prelude.{Option, None, Some}
 use Rattle.endian.specs.Number.{be, number}
 use Rattle.refusal.specs.declared.Refusal.TheVariants.{IllegalParameter, ProtocolVersion}
 use Rattle.hellos.specs.ClientHello.{ClientHello}
@@ -19,67 +21,50 @@ use Rattle.messages.specs.KeyExchange.{server_key_exchange}
 use Rattle.messages.specs.Fixed.{server_hello_done}
 use Rattle.layout.proofs.Layouts.{valid-within}
 use Rattle.hellos.proofs.Hellos.{length-body}
-use Rattle.lists.proofs.Walks.{left-cons}
 use Rattle.handshake.specs.Flight.{Flight, joined, flight_bytes}
 use Rattle.handshake.specs.Outgoing.{total, cut, Sends}
 use Rattle.handshake.specs.Step.{refuse}
 use Rattle.server.specs.declared.Connection.{Connection}
-use Rattle.server.specs.declared.hello.Choice.{Choice}
 use Rattle.server.specs.Hello.{offers, chosen, offers_null, hint_message, flight, hello_chosen, hello_fields}
-use Rattle.server.specs.Inner.{as_choice, hint_message_length, rest_of}
+use Rattle.server.specs.Inner.{hint_message_length, rest_of}
 use Rattle.handshake.proofs.Flights.{cut-first, joined-append}
 
 -- ---- the lists of a ClientHello
 
-offers-two : (xs : List ℕ) (at suite : ℕ) → at + 2 ≤ length xs
-    → offers (drop at xs) suite ≡ (eqb (number (get_or xs at 0 ∷ get_or xs (at + 1) 0 ∷ [])) suite || offers (drop (at + 2) xs) suite)
-offers-two xs at suite h =
-    let both : drop at xs ≡ get_or xs at 0 ∷ get_or xs (at + 1) 0 ∷ drop (at + 2) xs =
-    left-cons xs at (omega arith) ∙ ap (λ (l : List ℕ). get_or xs at 0 ∷ l) (left-cons xs (at + 1) (omega arith) ∙ rw add_assoc) in
-    ap (λ (l : List ℕ). offers l suite) both
+-- whether a pair of the list is the suite
+pub offers-pairs : (xs : List ℕ) (suite n : ℕ) → 2 * n ≤ length xs → length xs < 2 * n + 2
+    → list_any (λ p. eqb (number (get_or p 0 0 ∷ get_or p 1 0 ∷ [])) suite) (first_chunks 2 n xs) ≡ offers xs suite
+offers-pairs [] suite zero l h = refl
+offers-pairs [] suite (suc n) l h = absurd (omega arith)
+offers-pairs (a ∷ []) suite zero l h = refl
+offers-pairs (a ∷ []) suite (suc n) l h = absurd (omega arith)
+offers-pairs (a ∷ b ∷ rest) suite zero l h = absurd (omega arith)
+offers-pairs (a ∷ b ∷ rest) suite (suc n) l h = rw (offers-pairs rest suite n (omega arith) (omega arith))
 
--- the suite is the one at `at`; where it is not, it is offered exactly if it is offered behind
-pub offers-here : (xs : List ℕ) (at suite n : ℕ) → at + 2 ≤ length xs → n ≡ number (get_or xs at 0 ∷ get_or xs (at + 1) 0 ∷ []) → n ≡ suite
-    → offers (drop at xs) suite ≡ true
-offers-here xs at suite n h e same = offers-two xs at suite h ∙ rw (← e, eq-eqb n suite same)
+-- the first of ours that the client lists
+pub chosen-found : (ours offered : List ℕ) (o : Option ℕ) → option_map (λ s. s) o ≡ find (λ s. offers offered s) ours → o ≡ chosen ours offered
+chosen-found ours offered o e = same o ∙ e ∙ go ours
+  where
+    same : (o : Option ℕ) → o ≡ option_map (λ s. s) o
+    same None = refl
+    same (Some suite) = refl
 
-pub offers-behind : (xs : List ℕ) (at suite n : ℕ) → at + 2 ≤ length xs → n ≡ number (get_or xs at 0 ∷ get_or xs (at + 1) 0 ∷ []) → ¬ (n ≡ suite)
-    → offers (drop at xs) suite ≡ offers (drop (at + 2) xs) suite
-offers-behind xs at suite n h e other = offers-two xs at suite h ∙ rw (← e, ne_eqb n suite other)
-
-pub offers-none : (xs : List ℕ) (suite : ℕ) → length xs < 2 → offers xs suite ≡ false
-offers-none [] suite h = refl
-offers-none (a ∷ []) suite h = refl
-offers-none (a ∷ b ∷ rest) suite h = absurd (omega arith)
-
-pub chosen-one : (ours : List ℕ) (i : ℕ) (offered : List ℕ) → i < length ours
-    → chosen (drop i ours) offered ≡ cond (offers offered (get_or ours i 0)) (some (get_or ours i 0)) (chosen (drop (i + 1) ours) offered)
-chosen-one ours i offered h = rw (left-cons ours i h)
-
-pub null-one : (methods : List ℕ) (i : ℕ) → i < length methods
-    → offers_null (drop i methods) ≡ (eqb (get_or methods i 0) 0 || offers_null (drop (i + 1) methods))
-null-one methods i h = rw (left-cons methods i h)
-
--- the choice as the code has it
-pub none-chosen : (o : Option ℕ) → as_choice o ≡ Choice.Nothing → o ≡ none
-none-chosen none e = refl
-none-chosen (some suite) e = cc
-
-pub one-chosen : (o : Option ℕ) (suite : ℕ) → as_choice o ≡ Choice.Suite suite → o ≡ some suite
-one-chosen none suite e = cc
-one-chosen (some s) suite e = cc
+    go : (ss : List ℕ) → find (λ s. offers offered s) ss ≡ chosen ss offered
+    go [] = refl
+    go (s ∷ ss) =
+        elim (offers offered s) as (λ b. cond b (Some s) (find (λ t. offers offered t) ss) ≡ cond b (Some s) (chosen ss offered)) [ true ↦ refl | false ↦ go ss ]
 
 -- ---- the tests on its fields, in order
 
 module _ (c : Connection) (m : List ℕ) (f : ClientHello) where
-  pub version-old : f.version < 0x0303 → hello_fields c m (some f) ≡ refuse ProtocolVersion
+  pub version-old : f.version < 0x0303 → hello_fields c m (Some f) ≡ refuse ProtocolVersion
   version-old old = rw (lt-ltb f.version 0x0303 old)
 
-  pub null-missing : 0x0303 ≤ f.version → offers_null f.methods ≡ false → hello_fields c m (some f) ≡ refuse IllegalParameter
+  pub null-missing : 0x0303 ≤ f.version → offers_null f.methods ≡ false → hello_fields c m (Some f) ≡ refuse IllegalParameter
   null-missing new missing = rw (le-ltb f.version 0x0303 new, missing)
 
   pub null-there : 0x0303 ≤ f.version → offers_null f.methods ≡ true
-      → hello_fields c m (some f) ≡ hello_chosen c m f (chosen c.setup.suites f.suites)
+      → hello_fields c m (Some f) ≡ hello_chosen c m f (chosen c.setup.suites f.suites)
   null-there new there = rw (le-ltb f.version 0x0303 new, there)
 
 -- ---- the flight
@@ -94,7 +79,7 @@ hint-present (b ∷ hint) h = refl
 
 -- its first message
 abbrev pub hello : List ℕ → ℕ → ServerHello
-hello random suite = record { version = 0x0303; random = random; session_id = []; suite = suite; compression = 0; extensions = none }
+hello random suite = record { version = 0x0303; random = random; session_id = []; suite = suite; compression = 0; extensions = None }
 
 pub length-hello : (random : List ℕ) (suite : ℕ) → length random ≡ 32 → length (bytes server_hello (hello random suite)) ≡ 42
 length-hello random suite h = omega (arith, length-body 0x0303 random [] (be 2 suite ++ (0 ∷ [])) h)

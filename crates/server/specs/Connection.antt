@@ -1,9 +1,8 @@
 -- A connection, and start (document 01, "The server's steps").
-use Rattle.std.specs.Prelude.{ℕ, ◌-◌, Bool, true, false, cond, ◌&&◌, List, ◌++◌, length, take, replicate, leb, eqb}
+use Rattle.std.specs.Prelude.{ℕ, ◌-◌, Bool, true, false, cond, ◌&&◌, List, ◌++◌, length, take, replicate, leb, eqb, Ok, Err, Option, None, Some}
 use Rattle.sha256.specs.State.{fresh}
 use Rattle.utf8.specs.Utf8.{valid_utf8}
 use Rattle.server.specs.declared.Rule.{Rule}
-use Rattle.server.specs.declared.Named.{Named}
 use Rattle.server.specs.declared.Phase.{Phase}
 use Rattle.server.specs.declared.Setup.{Setup}
 use Rattle.server.specs.declared.Negotiated.{Negotiated}
@@ -11,7 +10,6 @@ use Rattle.server.specs.declared.Secrets.{Secrets}
 use Rattle.server.specs.declared.Connection.{Connection}
 use Rattle.server.specs.declared.Answer.{Answer}
 use Rattle.refusal.specs.declared.Refusal.TheVariants.{BadSetting}
-use Rattle.refusal.specs.declared.Written.TheVariants.{Wrote, Refused}
 
 -- ---- start: what it is given
 
@@ -19,14 +17,13 @@ pub record Settings : Type 0 where
   pub random : List ℕ
   pub hint : List ℕ
   pub stand_in : List ℕ
-  pub named : Named
+  pub named : Option Rule
   pub suites : List ℕ
 
 -- where no rule is named, hide applies (document 02, P3)
-abbrev pub rule_of : Named → Rule
-rule_of Named.Nothing = Rule.Hide
-rule_of Named.Tell = Rule.Tell
-rule_of Named.Hide = Rule.Hide
+abbrev pub rule_of : Option Rule → Rule
+rule_of None = Rule.Hide
+rule_of (Some rule) = rule
 
 -- the longest hint
 abbrev pub hint_limit : ℕ
@@ -99,7 +96,7 @@ hint_of s = take s.hint_length s.hint
 
 -- R3: no connection is made, and what comes back is one that is over
 abbrev pub bad_setting : Answer
-bad_setting = record { said = Refused BadSetting; next = ended Phase.Closed }
+bad_setting = record { said = Err BadSetting; next = ended Phase.Closed }
 
 abbrev pub start_answer : Settings → Answer
-start_answer s = cond (acceptable s) (record { said = Wrote 0; next = started s }) bad_setting
+start_answer s = cond (acceptable s) (record { said = Ok 0; next = started s }) bad_setting

@@ -1,6 +1,5 @@
 -- Step 4: a Finished (document 01, "The server's steps"; RFC 5246, section 7.4.9).
-use Rattle.std.specs.Prelude.{ℕ, cond, ◌&&◌, List, [], ◌∷◌}
-use Rattle.std.proofs.Math.Option.{Option, none, some}
+use Rattle.std.specs.Prelude.{ℕ, cond, ◌&&◌, List, [], ◌∷◌, Option, None, Some}
 use Rattle.refusal.specs.declared.Refusal.TheVariants.{DecodeError, DecryptError}
 use Rattle.refusal.specs.Lent.{Outcome, gives, refuses}
 use Rattle.sha256.specs.State.{absorb}
@@ -33,5 +32,5 @@ judged c m value =
 
 -- 50 for another length
 abbrev pub finished_value : Connection → List ℕ → Option (List ℕ) → Step
-finished_value c m none = refuse DecodeError
-finished_value c m (some value) = judged c m value
+finished_value c m None = refuse DecodeError
+finished_value c m (Some value) = judged c m value

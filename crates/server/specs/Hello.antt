@@ -1,6 +1,5 @@
 -- Step 1: a ClientHello (document 01, "The server's steps"; RFC 5246, sections 7.4.1.2 and 7.4.1.3).
-use Rattle.std.specs.Prelude.{ℕ, Bool, false, cond, not, ◌||◌, List, [], ◌∷◌, ◌++◌, ltb, eqb}
-use Rattle.std.proofs.Math.Option.{Option, none, some}
+use Rattle.std.specs.Prelude.{ℕ, Bool, false, cond, not, ◌||◌, List, [], ◌∷◌, ◌++◌, ltb, eqb, Option, None, Some}
 use Rattle.endian.specs.Number.{number}
 use Rattle.refusal.specs.declared.Refusal.TheVariants.{HandshakeFailure, IllegalParameter, DecodeError, ProtocolVersion}
 use Rattle.sha256.specs.State.{absorb}
@@ -25,8 +24,8 @@ offers (a ∷ b ∷ rest) suite = eqb (number (a ∷ b ∷ [])) suite || offers 
 
 -- the first of ours that the client lists
 abbrev pub chosen : List ℕ → List ℕ → Option ℕ
-chosen [] offered = none
-chosen (s ∷ ss) offered = cond (offers offered s) (some s) (chosen ss offered)
+chosen [] offered = None
+chosen (s ∷ ss) offered = cond (offers offered s) (Some s) (chosen ss offered)
 
 -- the compression method 0, null, is among them
 abbrev pub offers_null : List ℕ → Bool
@@ -43,7 +42,7 @@ abbrev pub flight : (random hint : List ℕ) → ℕ → Flight
 flight random hint suite =
     record {
       plain =
-          bytes server_hello (record { version = tls12; random = random; session_id = []; suite = suite; compression = 0; extensions = none })
+          bytes server_hello (record { version = tls12; random = random; session_id = []; suite = suite; compression = 0; extensions = None })
           ∷ (hint_message hint ++ (bytes server_hello_done [] ∷ []));
       protected = [];
     }
@@ -63,13 +62,13 @@ after_hello c m f suite =
     }
 
 abbrev pub hello_chosen : Connection → List ℕ → ClientHello → Option ℕ → Step
-hello_chosen c m f none = refuse HandshakeFailure
-hello_chosen c m f (some suite) = accept (flight_for c suite) (after_hello c m f suite)
+hello_chosen c m f None = refuse HandshakeFailure
+hello_chosen c m f (Some suite) = accept (flight_for c suite) (after_hello c m f suite)
 
 -- In order: 50 for the layout, 70 for a version below ours, 47 without compression method 0 (house), 40 with none of our suites.
 abbrev pub hello_fields : Connection → List ℕ → Option ClientHello → Step
-hello_fields c m none = refuse DecodeError
-hello_fields c m (some f) =
+hello_fields c m None = refuse DecodeError
+hello_fields c m (Some f) =
     cond (ltb f.version tls12) (refuse ProtocolVersion)
     (cond (not (offers_null f.methods)) (refuse IllegalParameter)
     (hello_chosen c m f (chosen c.setup.suites f.suites)))

@@ -1,6 +1,5 @@
 -- What the contracts of private functions cite: results as the code's own types have them, and parts of a step. Nothing that a public contract says stands here.
 use Rattle.std.specs.Prelude.{ℕ, ◌+◌, ◌≤◌, ◌≡◌, Bool, false, cond, ◌&&◌, List, [], ◌∷◌, ◌++◌, length, take, drop, eqb}
-use Rattle.std.proofs.Math.Option.{Option, none, some}
 use Rattle.sha256.specs.State.{absorb}
 use Rattle.keys.specs.Secrets.{finished_of}
 use Rattle.keys.specs.declared.Side.TheVariants.{Client, Server}
@@ -11,7 +10,6 @@ use Rattle.handshake.specs.Flight.{joined, longest, counted}
 use Rattle.server.specs.declared.Phase.{Phase}
 use Rattle.server.specs.declared.Connection.{Connection}
 use Rattle.server.specs.declared.Answer.{Answer}
-use Rattle.server.specs.declared.hello.Choice.{Choice}
 use Rattle.server.specs.Step.{Step, settled, answered}
 use Rattle.server.specs.Hello.{hint_message}
 use Rattle.server.specs.Finished.{completed}
@@ -23,10 +21,6 @@ pub record Does (c : Connection) (out : List ℕ) (step : Step) (given : Answer)
   pub brief : counted given.said ≤ longest
 
 -- ---- parts of the steps
-
-abbrev pub as_choice : Option ℕ → Choice
-as_choice none = Choice.Nothing
-as_choice (some suite) = Choice.Suite suite
 
 -- a ServerKeyExchange of so many bytes, or none without a hint
 abbrev pub hint_message_length : ℕ → ℕ

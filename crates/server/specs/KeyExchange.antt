@@ -1,6 +1,5 @@
 -- Step 2: a ClientKeyExchange (document 01, "The server's steps"; RFC 4279, section 2).
-use Rattle.std.specs.Prelude.{ℕ, Bool, true, false, List}
-use Rattle.std.proofs.Math.Option.{Option, none, some}
+use Rattle.std.specs.Prelude.{ℕ, Bool, true, false, List, Option, None, Some}
 use Rattle.refusal.specs.declared.Refusal.{Refusal}
 use Rattle.refusal.specs.declared.Refusal.TheVariants.{DecodeError, UnknownPskIdentity}
 use Rattle.refusal.specs.Lent.{bytes_of}
@@ -40,15 +39,15 @@ after_keys c m key listed =
 
 -- the key that it is derived from: the identity's, or the stand-in key for one that isn't listed
 abbrev pub key_used : Connection → Option (List ℕ) → List ℕ
-key_used c none = c.setup.stand_in
-key_used c (some key) = key
+key_used c None = c.setup.stand_in
+key_used c (Some key) = key
 
 abbrev pub blocks_under : Connection → List ℕ → ℕ
 blocks_under c key = master_under_blocks key c.client.random c.setup.random
 
 abbrev pub identity_blocks : (List ℕ → Option (List ℕ)) → Connection → Option (List ℕ) → ℕ
-identity_blocks lookup c none = 0
-identity_blocks lookup c (some identity) = blocks_under c (key_used c (lookup identity))
+identity_blocks lookup c None = 0
+identity_blocks lookup c (Some identity) = blocks_under c (key_used c (lookup identity))
 
 -- ---- the step
 
@@ -58,10 +57,10 @@ unlisted Rule.Tell c m = refuse UnknownPskIdentity
 unlisted Rule.Hide c m = accept silence (after_keys c m c.setup.stand_in false)
 
 abbrev pub key_found : Connection → List ℕ → Option (List ℕ) → Step
-key_found c m none = unlisted c.setup.rule c m
-key_found c m (some key) = accept silence (after_keys c m key true)
+key_found c m None = unlisted c.setup.rule c m
+key_found c m (Some key) = accept silence (after_keys c m key true)
 
 -- 50 for the layout
 abbrev pub key_identity : (List ℕ → Option (List ℕ)) → Connection → List ℕ → Option (List ℕ) → Step
-key_identity lookup c m none = refuse DecodeError
-key_identity lookup c m (some identity) = key_found c m (lookup identity)
+key_identity lookup c m None = refuse DecodeError
+key_identity lookup c m (Some identity) = key_found c m (lookup identity)

@@ -1,7 +1,6 @@
 pub mod Alert
 pub mod Change
 pub mod Connection
-pub mod Decision
 pub mod Finished
 pub mod Hello
 pub mod Inner

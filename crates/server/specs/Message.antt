@@ -1,12 +1,12 @@
 -- A handshake message: which one is awaited, the order of its tests, and what the call gives back (document 01, "Numbers that come back").
-use Rattle.std.specs.Prelude.{ℕ, true, false, cond, List, replicate}
-use Rattle.std.proofs.Math.Option.{Option, none, some}
+use Rattle.std.specs.Prelude.{ℕ, cond, List, Option, None, Some}
 use Rattle.refusal.specs.declared.Refusal.TheVariants.{ConnectionOver, UnexpectedMessage}
 use Rattle.layout.specs.Types.{client_hello_type, client_key_exchange_type, finished_type}
 use Rattle.hellos.specs.ClientHello.{client_body, client_fields}
 use Rattle.layout.specs.Place.{last_at, filled_by, contents}
 use Rattle.handshake.specs.Finished.{verify_data_length}
-use Rattle.handshake.specs.Handed.{Derived, derived}
+use Rattle.handshake.specs.Handed.{derived}
+use Rattle.handshake.specs.declared.Derived.{Derived}
 use Rattle.handshake.specs.Header.{header_test}
 use Rattle.handshake.specs.Step.{refuse, accept, after_tests, unless_refused}
 use Rattle.server.specs.declared.Phase.{Phase}
@@ -21,12 +21,12 @@ use Rattle.server.specs.Finished.{finished_value}
 
 -- the type of the message that is awaited in each phase, if one is
 abbrev pub awaited : Phase → Option ℕ
-awaited Phase.Hello = some client_hello_type
-awaited Phase.KeyExchange = some client_key_exchange_type
-awaited Phase.Change = none
-awaited Phase.Finished = some finished_type
-awaited Phase.Complete = none
-awaited Phase.Closed = none
+awaited Phase.Hello = Some client_hello_type
+awaited Phase.KeyExchange = Some client_key_exchange_type
+awaited Phase.Change = None
+awaited Phase.Finished = Some finished_type
+awaited Phase.Complete = None
+awaited Phase.Closed = None
 
 -- The step of each phase, of a message that passed the tests on its header; for a ClientKeyExchange the refusal of the table and its list stands before the
 -- tests on the body. No message passes in the other phases.
@@ -48,13 +48,13 @@ message_call v c m out = settled c out (message_step v c m c.phase)
 
 -- the master secret that the host is handed for its records: where a ClientKeyExchange was accepted
 abbrev pub handed_over : Phase → Step → Option (List ℕ)
-handed_over Phase.Hello step = none
-handed_over Phase.KeyExchange (refuse r) = none
-handed_over Phase.KeyExchange (accept flight next) = some next.secrets.master
-handed_over Phase.Change step = none
-handed_over Phase.Finished step = none
-handed_over Phase.Complete step = none
-handed_over Phase.Closed step = none
+handed_over Phase.Hello step = None
+handed_over Phase.KeyExchange (refuse r) = None
+handed_over Phase.KeyExchange (accept flight next) = Some next.secrets.master
+handed_over Phase.Change step = None
+handed_over Phase.Finished step = None
+handed_over Phase.Complete step = None
+handed_over Phase.Closed step = None
 
 -- how many blocks were hashed for it (document 02, P8)
 abbrev pub blocks_in : View → Connection → List ℕ → Phase → ℕ
@@ -65,10 +65,9 @@ blocks_in v c m Phase.Finished = 0
 blocks_in v c m Phase.Complete = 0
 blocks_in v c m Phase.Closed = 0
 
--- what a message is answered with: zeros where no master is handed over
+-- what a message is answered with
 abbrev pub with_master : Answer → Option Derived → Reply
-with_master a none = record { said = a.said; handed = false; master = replicate 48 0; blocks = 0; next = a.next }
-with_master a (some d) = record { said = a.said; handed = true; master = d.master; blocks = d.blocks; next = a.next }
+with_master a o = record { said = a.said; handed = o; next = a.next }
 
 abbrev pub message_reply : View → Connection → List ℕ → List ℕ → Reply
 message_reply v c m out =

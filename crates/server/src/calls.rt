@@ -1,136 +1,97 @@
 // The calls of a connection: a message, a change of cipher, a received alert.
-ghost use Rattle.std.specs.Prelude.{◌≡◌, ◌≤◌};
-ghost use Rattle.std.proofs.Math.Option.{none};
-ghost use Rattle.layout.specs.declared.Verdict.TheVariants.{Accepted};
+ghost use Rattle.std.specs.Prelude.{◌≡◌, ◌≤◌, Ok, None};
 ghost use Rattle.handshake.specs.Flight.{longest, counted};
 ghost use Rattle.handshake.specs.Handed.{derived};
-ghost use Rattle.handshake.specs.Header.{header_test, early_test, kind_awaited};
+ghost use Rattle.handshake.specs.Header.{header_test, early_test};
 ghost use Rattle.server.specs.declared.Phase.{Phase};
 ghost use Rattle.server.specs.Connection.{is_over};
 ghost use Rattle.server.specs.Step.{answered};
 ghost use Rattle.server.specs.KeyExchange.{view_of};
 ghost use Rattle.server.specs.Message as Message;
-ghost use Rattle.server.specs.Message.{body_step, message_step, message_call, message_reply, handed_over, blocks_in, with_master};
+ghost use Rattle.server.specs.Message.{body_step, message_step, message_call, message_reply, handed_over};
 ghost use Rattle.server.specs.Change.{after_change, change_call};
 ghost use Rattle.server.specs.Alert.{alert_call};
-ghost use Rattle.server.specs.Decision.{Decides, decided};
+ghost use Rattle.handshake.specs.Decision.{Decides, decided, blocks_in};
 
-use crate::step::Decision;
 use crate::{Answer, Connection, Phase, Reply, ended, finished, hello, key_exchange, step};
-use handshake::{Awaited, Heard};
-use layout::{Verdict, types};
-use refusal::{Refusal, Written};
+use handshake::{Decision, Derived, Heard};
+use layout::types;
+use refusal::Refusal;
 
 // Whether a connection is complete or closed.
 fn is_over(phase: Phase) -> bool
     ensures { result ≡ is_over phase }
 {
-    match phase {
-        Phase::Hello => false,
-        Phase::KeyExchange => false,
-        Phase::Change => false,
-        Phase::Finished => false,
-        Phase::Complete => true,
-        Phase::Closed => true,
-    }
+    matches!(phase, Phase::Complete | Phase::Closed)
 }
 
 // ---- a message
 
 // The table of what is awaited.
-fn awaited_in(phase: Phase) -> Awaited
-    ensures { kind_awaited result ≡ Message.awaited phase }
+fn awaited_in(phase: Phase) -> Option<u8>
+    ensures { result ≡ Message.awaited phase }
 {
     match phase {
-        Phase::Hello => Awaited::Message(types::CLIENT_HELLO),
-        Phase::KeyExchange => Awaited::Message(types::CLIENT_KEY_EXCHANGE),
-        Phase::Change => Awaited::Nothing,
-        Phase::Finished => Awaited::Message(types::FINISHED),
-        Phase::Complete => Awaited::Nothing,
-        Phase::Closed => Awaited::Nothing,
+        Phase::Hello => Some(types::CLIENT_HELLO),
+        Phase::KeyExchange => Some(types::CLIENT_KEY_EXCHANGE),
+        Phase::Finished => Some(types::FINISHED),
+        Phase::Change | Phase::Complete | Phase::Closed => None,
     }
 }
 
 // The step of a message whose header is tested already.
-fn body(c: Connection, table: &[u8], starts: &[u32], count: usize, m: &[u8]) -> Decision
-    requires { header_test (Message.awaited c.phase) m.now ≡ Accepted }
+fn body(
+    c: Connection,
+    table: &[u8],
+    starts: &[u32],
+    count: usize,
+    m: &[u8],
+) -> Result<Decision<Connection>, Refusal>
+    requires { header_test (Message.awaited c.phase) m.now ≡ Ok tt }
     ensures { Decides result (body_step (view_of table.now starts.now count) c m.now c.phase)
-        (blocks_in (view_of table.now starts.now count) c m.now c.phase) }
+        (Message.blocks_in (view_of table.now starts.now count) c m.now c.phase) }
 {
-    let phase = c.phase;
-    match phase {
+    match c.phase {
         Phase::Hello => hello::body(c, m),
         Phase::KeyExchange => key_exchange::body(c, table, starts, count, m),
-        Phase::Change => step::refused(c, Refusal::UnexpectedMessage),
         Phase::Finished => finished::body(c, m),
-        Phase::Complete => step::refused(c, Refusal::UnexpectedMessage),
-        Phase::Closed => step::refused(c, Refusal::UnexpectedMessage),
+        Phase::Change | Phase::Complete | Phase::Closed => Err(Refusal::UnexpectedMessage),
     }
 }
 
 // What a message comes to, whatever the room, for a caller that has its own way of writing the answer.
-pub fn decide(c: Connection, table: &[u8], starts: &[u32], count: usize, m: &[u8]) -> Decision
+pub fn decide(
+    c: Connection,
+    table: &[u8],
+    starts: &[u32],
+    count: usize,
+    m: &[u8],
+) -> Result<Decision<Connection>, Refusal>
     ensures { Decides result (message_step (view_of table.now starts.now count) c m.now c.phase)
-        (blocks_in (view_of table.now starts.now count) c m.now c.phase) }
+        (Message.blocks_in (view_of table.now starts.now count) c m.now c.phase) }
 {
     let phase = c.phase;
     if is_over(phase) {
-        return step::refused(c, Refusal::ConnectionOver);
+        return Err(Refusal::ConnectionOver);
     }
-    match handshake::test_header(awaited_in(phase), m) {
-        Verdict::Accepted => body(c, table, starts, count, m),
-        Verdict::Refused(r) => step::refused(c, r),
-    }
+    handshake::test_header(awaited_in(phase), m)?;
+    body(c, table, starts, count, m)
 }
 
-// The reply to a message that hands over no master secret.
-fn without_master(a: Answer) -> Reply
-    ensures { result ≡ with_master a none }
+// The master secret that a decided message hands over: that of a ClientKeyExchange which was accepted.
+fn handed(phase: Phase, d: Result<Decision<Connection>, Refusal>) -> Option<Derived>
+    ensures { result ≡ derived (handed_over phase (decided d)) (blocks_in d) }
 {
-    let said = a.said;
-    let next = a.next;
-    Reply {
-        said,
-        handed: false,
-        master: [0u8; 48],
-        blocks: 0,
-        next,
-    }
-}
-
-// The reply to a key exchange: the master secret and the number of its blocks are handed over where it was accepted.
-fn with_master(d: Decision, a: Answer) -> Reply
-    ensures { result ≡ with_master a (derived (handed_over Phase.KeyExchange (decided d)) d.blocks) }
-{
-    let verdict = d.verdict;
-    match verdict {
-        Verdict::Accepted => {
+    match (phase, d) {
+        (Phase::KeyExchange, Ok(d)) => {
             let secrets = d.next.secrets;
             let master = secrets.master;
-            let said = a.said;
-            let next = a.next;
-            Reply {
-                said,
-                handed: true,
+            Some(Derived {
                 master,
                 blocks: d.blocks,
-                next,
-            }
+            })
         }
-        Verdict::Refused(_) => without_master(a),
-    }
-}
-
-fn reply(phase: Phase, d: Decision, a: Answer) -> Reply
-    ensures { result ≡ with_master a (derived (handed_over phase (decided d)) d.blocks) }
-{
-    match phase {
-        Phase::Hello => without_master(a),
-        Phase::KeyExchange => with_master(d, a),
-        Phase::Change => without_master(a),
-        Phase::Finished => without_master(a),
-        Phase::Complete => without_master(a),
-        Phase::Closed => without_master(a),
+        _ => None,
     }
 }
 
@@ -147,14 +108,18 @@ pub fn message(
         × (out.new ≡ (message_call (view_of table.now starts.now count) c m.now out.old).out) }
     ensures said_bound { counted result.said ≤ longest }
 {
-    let phase = c.phase;
     let d = decide(c, table, starts, count, m);
-    let a = step::settle(c, d, out);
-    reply(phase, d, a)
+    let handed = handed(c.phase, d);
+    let answer = step::settle(c, d, out);
+    Reply {
+        said: answer.said,
+        handed,
+        next: answer.next,
+    }
 }
 
 // What is judged of a message as soon as the four bytes of its header are in, although the rest may not be.
-pub fn judge_header(phase: Phase, header: [u8; 4]) -> Verdict
+pub fn judge_header(phase: Phase, header: [u8; 4]) -> Result<(), Refusal>
     ensures { result ≡ early_test (Message.awaited phase) header }
 {
     handshake::judge_header(awaited_in(phase), header)
@@ -183,20 +148,15 @@ fn after_change(c: Connection) -> Connection
 pub fn change_of_cipher(c: Connection) -> Answer
     ensures { result ≡ answered (change_call c) }
 {
-    let phase = c.phase;
-    match phase {
-        Phase::Hello => step::refuse(c, Refusal::UnexpectedMessage),
-        Phase::KeyExchange => step::refuse(c, Refusal::UnexpectedMessage),
-        Phase::Change => {
-            let next = after_change(c);
-            Answer {
-                said: Written::Wrote(0),
-                next,
-            }
+    match c.phase {
+        Phase::Hello | Phase::KeyExchange | Phase::Finished => {
+            step::refuse(c, Refusal::UnexpectedMessage)
         }
-        Phase::Finished => step::refuse(c, Refusal::UnexpectedMessage),
-        Phase::Complete => step::refuse(c, Refusal::ConnectionOver),
-        Phase::Closed => step::refuse(c, Refusal::ConnectionOver),
+        Phase::Change => Answer {
+            said: Ok(0),
+            next: after_change(c),
+        },
+        Phase::Complete | Phase::Closed => step::refuse(c, Refusal::ConnectionOver),
     }
 }
 
@@ -206,21 +166,17 @@ pub fn change_of_cipher(c: Connection) -> Answer
 pub fn alert(c: Connection, level: u8, description: u8) -> Answer
     ensures { result ≡ answered (alert_call c level description) }
 {
-    let phase = c.phase;
-    if is_over(phase) {
+    if is_over(c.phase) {
         return step::refuse(c, Refusal::ConnectionOver);
     }
     match handshake::hear(level, description) {
         Heard::Illegal => step::refuse(c, Refusal::IllegalParameter),
-        Heard::Ends => {
-            let next = ended(Phase::Closed);
-            Answer {
-                said: Written::Wrote(0),
-                next,
-            }
-        }
+        Heard::Ends => Answer {
+            said: Ok(0),
+            next: ended(Phase::Closed),
+        },
         Heard::Ignored => Answer {
-            said: Written::Wrote(0),
+            said: Ok(0),
             next: c,
         },
     }

@@ -4,14 +4,12 @@ ghost use Rattle.layout.specs.Place.{filled_by, contents};
 ghost use Rattle.handshake.specs.Outgoing.{Sends};
 ghost use Rattle.server.specs.Finished.{finished_flight, finished_value};
 ghost use Rattle.server.specs.Inner as Inner;
-ghost use Rattle.server.specs.Decision.{Decides};
+ghost use Rattle.handshake.specs.Decision.{Decides};
 
-use crate::step::Decision;
-use crate::{Connection, Phase, ended, step};
-use handshake::Outgoing;
+use crate::{Connection, Phase, ended};
+use handshake::{Decision, Outgoing};
 use keys::Side;
-use layout::{Part, Verdict};
-use refusal::{Refusal, Written};
+use refusal::Refusal;
 
 // Whether the client's value is right, of a listed identity. All of it is compared, whatever its bytes
 // are, before the identity is looked at.
@@ -32,7 +30,7 @@ fn answer(value: &[u8; 12]) -> Outgoing
     ensures { Sends result (finished_flight value.now) }
 {
     let mut bytes = [0u8; 180];
-    messages::fixed::write_finished(value, &mut bytes);
+    let _ = messages::fixed::write_finished(value, &mut bytes);
     Outgoing {
         bytes,
         lengths: [16, 0, 0],
@@ -41,7 +39,7 @@ fn answer(value: &[u8; 12]) -> Outgoing
 }
 
 // The server's Finished, to a client's that was right.
-fn complete(c: Connection, m: &[u8]) -> Decision
+fn complete(c: Connection, m: &[u8]) -> Result<Decision<Connection>, Refusal>
     ensures { Decides result (Inner.completion c m.now) 0 }
 {
     let secrets = c.secrets;
@@ -49,31 +47,22 @@ fn complete(c: Connection, m: &[u8]) -> Decision
     let transcript = transcript::with_message(c.transcript, m);
     let mut value = [0u8; 12];
     match keys::finished_of(Side::Server, &master, transcript, &mut value) {
-        Written::Wrote(_) => {
-            let outgoing = answer(&value);
-            let next = ended(Phase::Complete);
-            Decision {
-                verdict: Verdict::Accepted,
-                outgoing,
-                next,
-                blocks: 0,
-            }
-        }
-        Written::Refused(_) => step::refused(c, Refusal::DecryptError),
+        Ok(_) => Ok(Decision {
+            outgoing: answer(&value),
+            next: ended(Phase::Complete),
+            blocks: 0,
+        }),
+        Err(_) => Err(Refusal::DecryptError),
     }
 }
 
 // A Finished whose header is tested already.
-pub(crate) fn body(c: Connection, m: &[u8]) -> Decision
+pub(crate) fn body(c: Connection, m: &[u8]) -> Result<Decision<Connection>, Refusal>
     ensures { Decides result (finished_value c m.now (contents m.now (filled_by 12 m.now))) 0 }
 {
-    match messages::fixed::read_finished_body(m) {
-        Part::At { start, len } => {
-            if !right(c, &m[start..start + len]) {
-                return step::refused(c, Refusal::DecryptError);
-            }
-            complete(c, m)
-        }
-        Part::Refused => step::refused(c, Refusal::DecodeError),
+    let value = messages::fixed::read_finished_body(m).ok_or(Refusal::DecodeError)?;
+    if !right(c, value.of(m)) {
+        return Err(Refusal::DecryptError);
     }
+    complete(c, m)
 }

@@ -8,68 +8,38 @@ ghost use Rattle.server.specs.Connection.{hint_of};
 ghost use Rattle.server.specs.Hello as Hello;
 ghost use Rattle.server.specs.Hello.{hint_message, flight, flight_for, hello_fields};
 ghost use Rattle.server.specs.Inner as Inner;
-ghost use Rattle.server.specs.Decision.{Decides};
-ghost use Rattle.server.specs.Inner.{as_choice};
+ghost use Rattle.handshake.specs.Decision.{Decides};
 
-use crate::step::Decision;
-use crate::{Connection, Negotiated, Phase, Setup, bytes32, step};
-use handshake::Outgoing;
-use hellos::client_hello::Client;
-use layout::Verdict;
+use crate::{Connection, Negotiated, Phase, Setup, bytes32};
+use handshake::{Decision, Outgoing};
 use refusal::Refusal;
 
 // TLS 1.2.
 const VERSION: usize = 0x0303;
-
-// The suite of a connection, if there is one.
-#[derive(Drop)]
-pub enum Choice {
-    Nothing,
-    Suite(u16),
-}
 
 // Whether the client's list, two bytes a suite, has this one.
 fn offers(offered: &[u8], suite: u16) -> bool
     ensures { result ≡ Hello.offers offered.now suite }
 {
     let wanted = suite as usize;
-    let mut at: usize = 0;
-    while 2 <= offered.len() - at {
-        if endian::number16(offered[at], offered[at + 1]) == wanted {
-            return true;
-        }
-        at = at + 2;
-    }
-    false
+    let (suites, _) = offered.as_chunks::<2>();
+    suites
+        .iter()
+        .any(|[high, low]| endian::number16(*high, *low) == wanted)
 }
 
 // The first of ours that the client lists.
-fn choose(ours: &[u16], offered: &[u8]) -> Choice
-    ensures { result ≡ as_choice (Hello.chosen ours.now offered.now) }
+fn choose(ours: &[u16], offered: &[u8]) -> Option<u16>
+    ensures { result ≡ Hello.chosen ours.now offered.now }
 {
-    let mut i: usize = 0;
-    while i < ours.len() {
-        let suite = ours[i];
-        if offers(offered, suite) {
-            return Choice::Suite(suite);
-        }
-        i = i + 1;
-    }
-    Choice::Nothing
+    ours.iter().copied().find(|suite| offers(offered, *suite))
 }
 
 // Whether the null compression method is among these.
 fn offers_null(methods: &[u8]) -> bool
     ensures { result ≡ Hello.offers_null methods.now }
 {
-    let mut i: usize = 0;
-    while i < methods.len() {
-        if methods[i] == 0 {
-            return true;
-        }
-        i = i + 1;
-    }
-    false
+    methods.contains(&0)
 }
 
 // How many bytes of the field are the hint.
@@ -100,12 +70,12 @@ fn put_rest(hint: &[u8], out: &mut [u8])
     ensures { out.new ≡ Inner.front (Inner.rest_of hint.now) out.old }
 {
     if hint.len() == 0 {
-        messages::fixed::write_done(out);
+        let _ = messages::fixed::write_done(out);
         return;
     }
-    messages::key_exchange::write_hint(hint, out);
+    let _ = messages::key_exchange::write_hint(hint, out);
     let at = 6 + hint.len();
-    messages::fixed::write_done(&mut out[at..]);
+    let _ = messages::fixed::write_done(&mut out[at..]);
 }
 
 // ServerHello, and the rest behind it, in an output that has room for them.
@@ -114,7 +84,7 @@ fn put_flight(random: &[u8], hint: &[u8], suite: u16, out: &mut [u8])
     ensures { out.new ≡ Inner.front (flight_bytes (flight random.now hint.now suite)) out.old }
 {
     let none = &random[0..0];
-    hellos::server_hello::write(VERSION, random, none, suite as usize, 0, false, none, out);
+    let _ = hellos::server_hello::write(VERSION, random, none, suite as usize, 0, false, none, out);
     put_rest(hint, &mut out[42..]);
 }
 
@@ -160,7 +130,7 @@ fn after_hello(c: Connection, m: &[u8], suite: u16, flight: &[u8]) -> Connection
 }
 
 // A hello that chose this suite.
-fn accept(c: Connection, m: &[u8], suite: u16) -> Decision
+fn accept(c: Connection, m: &[u8], suite: u16) -> Result<Decision<Connection>, Refusal>
     requires { 38 ≤ length m.now }
     ensures { Decides result (accept (flight_for c suite) (Inner.after_hello_with c m.now suite (flight_bytes (flight_for c suite)))) 0 }
 {
@@ -169,41 +139,26 @@ fn accept(c: Connection, m: &[u8], suite: u16) -> Decision
     let bytes = outgoing.bytes;
     let n = handshake::size(outgoing);
     let next = after_hello(c, m, suite, &bytes[..n]);
-    Decision {
-        verdict: Verdict::Accepted,
+    Ok(Decision {
         outgoing,
         next,
         blocks: 0,
-    }
+    })
 }
 
 // A hello whose header is tested already.
-pub(crate) fn body(c: Connection, m: &[u8]) -> Decision
+pub(crate) fn body(c: Connection, m: &[u8]) -> Result<Decision<Connection>, Refusal>
     ensures { Decides result (hello_fields c m.now (client_fields m.now (client_body m.now))) 0 }
 {
-    match hellos::client_hello::read_body(m) {
-        Client::Read {
-            version,
-            session_len: _,
-            suites_start,
-            suites_len,
-            methods_start,
-            methods_len,
-            block: _,
-        } => {
-            if version < VERSION {
-                return step::refused(c, Refusal::ProtocolVersion);
-            }
-            if !offers_null(&m[methods_start..methods_start + methods_len]) {
-                return step::refused(c, Refusal::IllegalParameter);
-            }
-            let setup = c.setup;
-            let ours = setup.suites;
-            match choose(&ours, &m[suites_start..suites_start + suites_len]) {
-                Choice::Nothing => step::refused(c, Refusal::HandshakeFailure),
-                Choice::Suite(suite) => accept(c, m, suite),
-            }
-        }
-        Client::Refused => step::refused(c, Refusal::DecodeError),
+    let hello = hellos::client_hello::read_body(m).ok_or(Refusal::DecodeError)?;
+    if hello.version < VERSION {
+        return Err(Refusal::ProtocolVersion);
     }
+    if !offers_null(hello.methods.of(m)) {
+        return Err(Refusal::IllegalParameter);
+    }
+    let setup = c.setup;
+    let ours = setup.suites;
+    let suite = choose(&ours, hello.suites.of(m)).ok_or(Refusal::HandshakeFailure)?;
+    accept(c, m, suite)
 }

@@ -1,6 +1,5 @@
 // Step 2: a ClientKeyExchange, and the master secret from the key of the identity that it names.
-ghost use Rattle.std.specs.Prelude.{◌≡◌, ◌≤◌, length, true};
-ghost use Rattle.layout.specs.declared.Verdict.TheVariants.{Accepted};
+ghost use Rattle.std.specs.Prelude.{◌≡◌, ◌≤◌, length, true, Ok};
 ghost use Rattle.layout.specs.Header.{header};
 ghost use Rattle.layout.specs.Place.{last_at, contents};
 ghost use Rattle.refusal.specs.Lent.{bytes_of};
@@ -13,21 +12,12 @@ ghost use Rattle.server.specs.declared.Phase.{Phase};
 ghost use Rattle.server.specs.KeyExchange as Exchange;
 ghost use Rattle.server.specs.KeyExchange.{key_found, key_identity, view_of, key_used, blocks_under, identity_blocks};
 ghost use Rattle.server.specs.Message.{body_step, blocks_in};
-ghost use Rattle.server.specs.Decision.{Decides};
+ghost use Rattle.handshake.specs.Decision.{Decides};
 ghost use Rattle.server.specs.Inner.{after_keys_with};
 
-use crate::step::Decision;
-use crate::{Connection, Negotiated, Phase, Rule, Secrets, step};
-use keytable::Judged;
-use layout::Part;
-use refusal::{Refusal, Written};
-
-// A master secret, and how many blocks were hashed for it.
-#[derive(Drop)]
-pub struct Derived {
-    pub master: [u8; 48],
-    pub blocks: u64,
-}
+use crate::{Connection, Negotiated, Phase, Rule, Secrets};
+use handshake::{Decision, Derived};
+use refusal::Refusal;
 
 // The master secret under a key. It is made before the connection is put together, so that the two do not stand on
 // the stack at a time.
@@ -71,21 +61,26 @@ fn after_keys(c: Connection, m: &[u8], master: [u8; 48], listed: bool) -> Connec
 }
 
 // What the key exchange comes to with a master secret that was derived before: nothing for the client.
-fn accept(c: Connection, m: &[u8], derived: Derived, listed: bool) -> Decision
+fn accept(
+    c: Connection,
+    m: &[u8],
+    derived: Derived,
+    listed: bool,
+) -> Result<Decision<Connection>, Refusal>
     ensures { Decides result (Step.accept silence (after_keys_with c m.now derived.master listed)) derived.blocks }
 {
-    let master = derived.master;
-    step::silent(after_keys(c, m, master, listed), derived.blocks)
+    let next = after_keys(c, m, derived.master, listed);
+    Ok(handshake::silent(next, derived.blocks))
 }
 
 // What an identity that isn't listed comes to.
-fn unlisted(c: Connection, m: &[u8]) -> Decision
+fn unlisted(c: Connection, m: &[u8]) -> Result<Decision<Connection>, Refusal>
     ensures { Decides result (Exchange.unlisted c.setup.rule c m.now) (blocks_under c c.setup.stand_in) }
 {
     let setup = c.setup;
     let rule = setup.rule;
     match rule {
-        Rule::Tell => step::refused(c, Refusal::UnknownPskIdentity),
+        Rule::Tell => Err(Refusal::UnknownPskIdentity),
         Rule::Hide => {
             let stand_in = setup.stand_in;
             accept(c, m, master_under(c, &stand_in), false)
@@ -101,46 +96,50 @@ fn look_up(
     count: usize,
     m: &[u8],
     identity: &[u8],
-) -> Decision
+) -> Result<Decision<Connection>, Refusal>
     requires { is_list table.now starts.now count ≡ true }
     ensures { Decides result (key_found c m.now (key_of table.now identity.now))
         (blocks_under c (key_used c (key_of table.now identity.now))) }
 {
     let mut key = [0u8; 64];
     match keytable::lookup(table, starts, count, identity, &mut key) {
-        Written::Wrote(n) => accept(c, m, master_under(c, &key[..n]), true),
-        Written::Refused(_) => unlisted(c, m),
+        Ok(n) => accept(c, m, master_under(c, &key[..n]), true),
+        Err(_) => unlisted(c, m),
     }
 }
 
 // The identity that the message names, of a table and a list that do not refuse.
-fn identified(c: Connection, table: &[u8], starts: &[u32], count: usize, m: &[u8]) -> Decision
-    requires m_value { header 16 m.now ≡ Accepted }
+fn identified(
+    c: Connection,
+    table: &[u8],
+    starts: &[u32],
+    count: usize,
+    m: &[u8],
+) -> Result<Decision<Connection>, Refusal>
+    requires m_value { header 16 m.now ≡ Ok tt }
     requires count_value { is_list table.now starts.now count ≡ true }
     ensures { Decides result (key_identity (key_of table.now) c m.now (contents m.now (last_at 2 m.now 4)))
         (identity_blocks (key_of table.now) c (contents m.now (last_at 2 m.now 4))) }
 {
-    match messages::key_exchange::read_identity_body(m) {
-        Part::At { start: _, len: _ } => look_up(
-            c,
-            table,
-            starts,
-            count,
-            m,
-            messages::key_exchange::identity(m),
-        ),
-        Part::Refused => step::refused(c, Refusal::DecodeError),
+    if messages::key_exchange::read_identity_body(m).is_none() {
+        return Err(Refusal::DecodeError);
     }
+    let identity = messages::key_exchange::identity(m);
+    look_up(c, table, starts, count, m, identity)
 }
 
 // A key exchange whose header is tested already.
-pub(crate) fn body(c: Connection, table: &[u8], starts: &[u32], count: usize, m: &[u8]) -> Decision
-    requires { header 16 m.now ≡ Accepted }
+pub(crate) fn body(
+    c: Connection,
+    table: &[u8],
+    starts: &[u32],
+    count: usize,
+    m: &[u8],
+) -> Result<Decision<Connection>, Refusal>
+    requires { header 16 m.now ≡ Ok tt }
     ensures { Decides result (body_step (view_of table.now starts.now count) c m.now Phase.KeyExchange)
         (blocks_in (view_of table.now starts.now count) c m.now Phase.KeyExchange) }
 {
-    match keytable::judge(table, starts, count) {
-        Judged::Good => identified(c, table, starts, count, m),
-        Judged::Refused(r) => step::refused(c, r),
-    }
+    keytable::judge(table, starts, count)?;
+    identified(c, table, starts, count, m)
 }

@@ -17,22 +17,14 @@ ghost use Rattle.std.specs.Prelude.{◌≡◌, length};
 ghost use Rattle.server.specs.Connection as Conn;
 
 pub use calls::{alert, change_of_cipher, decide, judge_header, message};
-use refusal::Written;
+use handshake::Derived;
+use refusal::Refusal;
 use sha256::Sha256;
 pub use starting::{start, start_with};
-pub use step::Decision;
 
 // What a connection does where a client names an identity that isn't listed.
 #[derive(Clone, Copy)]
 pub enum Rule {
-    Tell,
-    Hide,
-}
-
-// The rule as start is given it: none need be named.
-#[derive(Drop)]
-pub enum Named {
-    Nothing,
     Tell,
     Hide,
 }
@@ -91,7 +83,7 @@ pub struct Connection {
 // What a call that writes nothing gives back: no bytes or a refusal, and the connection.
 #[derive(Drop)]
 pub struct Answer {
-    pub said: Written,
+    pub said: Result<usize, Refusal>,
     pub next: Connection,
 }
 
@@ -99,10 +91,8 @@ pub struct Answer {
 // one is handed over with how many blocks were hashed for it, and the connection.
 #[derive(Drop)]
 pub struct Reply {
-    pub said: Written,
-    pub handed: bool,
-    pub master: [u8; 48],
-    pub blocks: u64,
+    pub said: Result<usize, Refusal>,
+    pub handed: Option<Derived>,
     pub next: Connection,
 }
 

@@ -4,23 +4,12 @@ ghost use Rattle.handshake.specs.Protocol as Protocol;
 ghost use Rattle.server.specs.Connection as Conn;
 ghost use Rattle.server.specs.Connection.{setup_of, begun, bad_setting, start_answer};
 
-use crate::{Answer, Connection, Named, Phase, Rule, Secrets, Setup, bytes32, ended, nothing_said};
-use refusal::{Refusal, Written};
+use crate::{Answer, Connection, Phase, Rule, Secrets, Setup, bytes32, ended, nothing_said};
+use refusal::Refusal;
 use sha256::Sha256;
 
 // Our suites, in the order in which we choose.
 const SUITES: [u16; 3] = [0x00ae, 0x008c, 0x00b0];
-
-// The rule that applies.
-fn rule_of(named: Named) -> Rule
-    ensures { result ≡ Conn.rule_of named }
-{
-    match named {
-        Named::Nothing => Rule::Hide,
-        Named::Tell => Rule::Tell,
-        Named::Hide => Rule::Hide,
-    }
-}
 
 // The hint with zeros behind it.
 fn hint_field(hint: &[u8]) -> [u8; 128]
@@ -33,13 +22,19 @@ fn hint_field(hint: &[u8]) -> [u8; 128]
 }
 
 // What an accepted start was given.
-fn setup(random: &[u8], hint: &[u8], stand_in: &[u8], named: Named, suites: [u16; 3]) -> Setup
+fn setup(
+    random: &[u8],
+    hint: &[u8],
+    stand_in: &[u8],
+    named: Option<Rule>,
+    suites: [u16; 3],
+) -> Setup
     requires random_len { length random.now ≡ 32 }
     requires hint_len_bound { length hint.now ≤ 128 }
     requires stand_in_len { length stand_in.now ≡ 32 }
     ensures { result ≡ setup_of (record { random = random.now; hint = hint.now; stand_in = stand_in.now; named = named; suites = suites }) }
 {
-    let rule = rule_of(named);
+    let rule = named.unwrap_or(Rule::Hide);
     let field = hint_field(hint);
     let key = bytes32(stand_in);
     let own = bytes32(random);
@@ -73,7 +68,7 @@ fn bad_setting() -> Answer
 {
     let next = ended(Phase::Closed);
     Answer {
-        said: Written::Refused(Refusal::BadSetting),
+        said: Err(Refusal::BadSetting),
         next,
     }
 }
@@ -83,7 +78,7 @@ pub fn start_with(
     random: &[u8],
     hint: &[u8],
     stand_in: &[u8],
-    named: Named,
+    named: Option<Rule>,
     suites: [u16; 3],
 ) -> Answer
     ensures { result ≡ start_answer (record { random = random.now; hint = hint.now; stand_in = stand_in.now; named = named; suites = suites }) }
@@ -101,14 +96,11 @@ pub fn start_with(
         return bad_setting();
     }
     let next = started(setup(random, hint, stand_in, named, suites));
-    Answer {
-        said: Written::Wrote(0),
-        next,
-    }
+    Answer { said: Ok(0), next }
 }
 
 // The same with document 01's three suites.
-pub fn start(random: &[u8], hint: &[u8], stand_in: &[u8], named: Named) -> Answer
+pub fn start(random: &[u8], hint: &[u8], stand_in: &[u8], named: Option<Rule>) -> Answer
     ensures { result ≡ start_answer (record { random = random.now; hint = hint.now; stand_in = stand_in.now; named = named; suites = Protocol.suites }) }
 {
     start_with(random, hint, stand_in, named, SUITES)

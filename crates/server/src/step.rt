@@ -1,54 +1,16 @@
-// What a step decides, by value, and the one place where a decision becomes an answer: here the room is
-// tested, the output written and the connection changed, and nowhere else.
+// The one place where what a step decided becomes an answer: here the room is tested, the output written and the
+// connection changed, and nowhere else.
 ghost use Rattle.std.specs.Prelude.{◌≡◌, []};
-ghost use Rattle.handshake.specs.Flight.{silence};
 ghost use Rattle.handshake.specs.Outgoing.{flight_of};
 ghost use Rattle.handshake.specs.Step as Step;
 ghost use Rattle.handshake.specs.Step.{accept};
 ghost use Rattle.server.specs.Step.{answered, settled};
-ghost use Rattle.server.specs.Decision.{Decides, decided};
+ghost use Rattle.handshake.specs.Decision.{decided};
 ghost use Rattle.server.specs.Inner.{Does};
 
 use crate::{Answer, Connection, Phase, ended};
-use handshake::Outgoing;
-use layout::Verdict;
-use refusal::{Refusal, Written};
-
-// What a step comes to: a refusal, or messages for the client and the connection as it is then. `blocks` is
-// how many were hashed for the master secret, where one was derived.
-#[derive(Clone, Copy)]
-pub struct Decision {
-    pub verdict: Verdict,
-    pub outgoing: Outgoing,
-    pub next: Connection,
-    pub blocks: u64,
-}
-
-// A refusal; `settle` says what becomes of the connection.
-pub(crate) fn refused(c: Connection, r: Refusal) -> Decision
-    ensures { Decides result (Step.refuse r) 0 }
-{
-    let outgoing = handshake::no_messages();
-    Decision {
-        verdict: Verdict::Refused(r),
-        outgoing,
-        next: c,
-        blocks: 0,
-    }
-}
-
-// Nothing for the client.
-pub(crate) fn silent(next: Connection, blocks: u64) -> Decision
-    ensures { Decides result (accept silence next) blocks }
-{
-    let outgoing = handshake::no_messages();
-    Decision {
-        verdict: Verdict::Accepted,
-        outgoing,
-        next,
-        blocks,
-    }
-}
+use handshake::{Decision, Outgoing};
+use refusal::Refusal;
 
 // A refusal: an alert closes the connection, an R number leaves it as it was.
 pub(crate) fn refuse(c: Connection, r: Refusal) -> Answer
@@ -56,13 +18,10 @@ pub(crate) fn refuse(c: Connection, r: Refusal) -> Answer
 {
     if refusal::for_peer(r) {
         let next = ended(Phase::Closed);
-        return Answer {
-            said: Written::Refused(r),
-            next,
-        };
+        return Answer { said: Err(r), next };
     }
     Answer {
-        said: Written::Refused(r),
+        said: Err(r),
         next: c,
     }
 }
@@ -74,22 +33,21 @@ fn send(c: Connection, outgoing: Outgoing, next: Connection, out: &mut [u8]) -> 
 {
     let said = handshake::send(outgoing, out);
     match said {
-        Written::Wrote(_) => Answer { said, next },
-        Written::Refused(_) => Answer { said, next: c },
+        Ok(_) => Answer { said, next },
+        Err(_) => Answer { said, next: c },
     }
 }
 
 // The answer that a decision comes to.
-pub(crate) fn settle(c: Connection, d: Decision, out: &mut [u8]) -> Answer
+pub(crate) fn settle(
+    c: Connection,
+    d: Result<Decision<Connection>, Refusal>,
+    out: &mut [u8],
+) -> Answer
     ensures { Does c out.old (decided d) result out.new }
 {
-    let verdict = d.verdict;
-    match verdict {
-        Verdict::Accepted => {
-            let outgoing = d.outgoing;
-            let next = d.next;
-            send(c, outgoing, next, out)
-        }
-        Verdict::Refused(r) => refuse(c, r),
+    match d {
+        Ok(d) => send(c, d.outgoing, d.next, out),
+        Err(r) => refuse(c, r),
     }
 }

@@ -1,8 +1,7 @@
 -- How many 64-byte blocks go through the compression function (document 02, P8), and how a call reports it. proofs/Counting.antt ties the two counts:
 -- finishing what was absorbed of a message takes as many as the message has.
-use Rattle.std.specs.Prelude.{ℕ, ◌+◌, ◌/◌, ◌%◌, List, ◌++◌, length, take}
-use Rattle.refusal.specs.declared.Written.{Written}
-use Rattle.refusal.specs.declared.Written.TheVariants.{Wrote, Refused}
+use Rattle.std.specs.Prelude.{ℕ, ◌+◌, ◌/◌, ◌%◌, List, ◌++◌, length, take, Result, Ok, Err}
+use Rattle.refusal.specs.declared.Refusal.{Refusal}
 use Rattle.sha256_block.specs.Blocks.{parse}
 use Rattle.sha256.specs.declared.Sha256.{Sha256}
 use Rattle.sha256.specs.Message.{pad, padding}
@@ -16,6 +15,6 @@ unfoldable pub compressed : Sha256 → ℕ
 compressed s = s.count / 64 + length (parse (take (s.count % 64) s.block ++ padding s.count))
 
 -- the number beside an answer: 0 beside a refusal
-abbrev pub reported : Written → ℕ → ℕ
-reported (Wrote n) blocks = blocks
-reported (Refused r) blocks = 0
+abbrev pub reported : Result ℕ Refusal → ℕ → ℕ
+reported (Ok n) blocks = blocks
+reported (Err r) blocks = 0

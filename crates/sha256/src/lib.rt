@@ -16,7 +16,7 @@ ghost use Rattle.sha256.specs.Hash.{limit, sha256, concatenated};
 ghost use Rattle.sha256.specs.State.{fresh, over, absorb, finished};
 ghost use Rattle.sha256.specs.Report.{compressed, reported};
 
-use refusal::{Refusal, Written};
+use refusal::Refusal;
 use sha256_block::{Words, all_blocks};
 
 // A hash under way. specs/State.antt says what each field means.
@@ -30,7 +30,7 @@ pub struct Sha256 {
 // What was said, and how many blocks went through the compression function for it: 0 where it was refused.
 #[derive(Drop)]
 pub struct Reported {
-    pub said: Written,
+    pub said: Result<usize, Refusal>,
     pub blocks: u64,
 }
 
@@ -229,7 +229,7 @@ impl Sha256 {
     {
         if LIMIT < self.count {
             return Reported {
-                said: Written::Refused(Refusal::BadValue),
+                said: Err(Refusal::BadValue),
                 blocks: 0,
             };
         }
@@ -240,7 +240,7 @@ impl Sha256 {
     }
 
     // The same without the number.
-    pub fn finish(self, out: &mut [u8]) -> Written
+    pub fn finish(self, out: &mut [u8]) -> Result<usize, Refusal>
         ensures { Answers (finished self) out.old result out.new }
     {
         let done = self.finish_counted(out);
@@ -249,18 +249,18 @@ impl Sha256 {
 }
 
 // What was said with the number of blocks, 0 beside a refusal.
-pub fn report(said: Written, blocks: u64) -> Reported
+pub fn report(said: Result<usize, Refusal>, blocks: u64) -> Reported
     ensures { (result.said ≡ said) × (result.blocks ≡ reported said blocks) }
 {
     match said {
-        Written::Wrote(_) => Reported { said, blocks },
-        Written::Refused(_) => Reported { said, blocks: 0 },
+        Ok(_) => Reported { said, blocks },
+        Err(_) => Reported { said, blocks: 0 },
     }
 }
 
 // The SHA-256 digest of a message at the front of the lent output: R5 where the message is longer
 // than the limit, then R1.
-pub fn hash(message: &[u8], out: &mut [u8]) -> Written
+pub fn hash(message: &[u8], out: &mut [u8]) -> Result<usize, Refusal>
     ensures { Answers (sha256 message.now) out.old result out.new }
 {
     Sha256::new().update(message).finish(out)
@@ -282,7 +282,7 @@ fn with_length(block: [u8; 64], count: u64) -> [u8; 64]
     requires { count ≤ limit }
     ensures { result ≡ take 56 block ++ be 8 (8 * count) }
 {
-    let bits = endian::bytes64(8 * count);
+    let bits = endian::bytes::<8>(8 * count);
     let mut last = block;
     lists::copy(&bits, &mut last[56..64]);
     last
@@ -293,7 +293,7 @@ fn with_word(digest: [u8; 32], at: usize, word: u32) -> [u8; 32]
     requires { at + 4 ≤ 32 }
     ensures { result ≡ take at digest ++ (be 4 word ++ drop (at + 4) digest) }
 {
-    let bytes = endian::bytes32(word);
+    let bytes = endian::bytes::<4>(u64::from(word));
     let mut next = digest;
     lists::copy(&bytes, &mut next[at..at + 4]);
     next

@@ -30,7 +30,7 @@ pub fn save(state: Sha256) -> [u8; 104]
 {
     let words = concatenation(state.words);
     let block = state.block;
-    let count = endian::bytes64(state.count);
+    let count = endian::bytes::<8>(state.count);
     let front = append([0u8; 104], 0, &words);
     let held = append(front, 32, &block);
     append(held, 96, &count)

@@ -60,10 +60,8 @@ pub fn all_blocks(start: Words, data: &[u8]) -> Words
     ensures { result ≡ hash_blocks start (parse «data».now) }
 {
     let mut h = start;
-    let mut at = 0;
-    while 64 <= data.len() - at {
-        h = next_value(h, &data[at..at + 64]);
-        at += 64;
+    for block in data.chunks_exact(64) {
+        h = next_value(h, block);
     }
     h
 }

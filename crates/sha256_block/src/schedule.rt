@@ -12,11 +12,9 @@ pub(crate) fn load(block: &[u8], w: &mut [u32])
     requires w_len { length w.old ≡ 16 }
     ensures { w.new ≡ words 16 block.now }
 {
-    let mut t: usize = 0;
-    while t < 16 {
+    for (t, word) in w.iter_mut().enumerate() {
         let at = 4 * t;
-        w[t] = endian::number32(block[at], block[at + 1], block[at + 2], block[at + 3]);
-        t += 1;
+        *word = endian::number32(block[at], block[at + 1], block[at + 2], block[at + 3]);
     }
 }
 

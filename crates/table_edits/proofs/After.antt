@@ -3,9 +3,10 @@
 use mathlib.Core.Path.{◌≡◌, refl, sym, ap, ap₂, ◌∙◌}
 use mathlib.Core.Bool.{Bool, true, false, cond, not, ◌||◌, true≢false}
 use mathlib.Core.List.{List, [], ◌∷◌, ◌++◌, map, append-nil, map-append}
-use mathlib.Core.Option.{none, some, none-ne-some}
 use Prim.Native.Nat.{ℕ, ◌<◌}
 use borrow.Author.Tests.{not-true}
+use Rattle.std.proofs.lemmas.Option.{none-some}
+use Rattle.std.specs.Prelude.{None, Some}
 use Rattle.lists.specs.Lists.{each, any, distinct, same, Each}
 use Rattle.lists.proofs.Tests.{and_left, and_right, both}
 use Rattle.lists.proofs.Equal.{same-eq, same_refl, same_not, same-either}
@@ -112,15 +113,15 @@ replaced-identities i k (l ∷ ls) named =
     go false e = refl
 
 -- an identity that may be added is not listed, and one that may be replaced is
-pub may_add : (b : Bool) → misplaced (add [] []) b ≡ none → b ≡ false
-may_add true h = absurd (none-ne-some AlreadyListed (sym h))
+pub may_add : (b : Bool) → misplaced (add [] []) b ≡ None → b ≡ false
+may_add true h = absurd (none-some AlreadyListed (sym h))
 may_add false h = refl
 
-pub may-replace : (b : Bool) → misplaced (replace [] []) b ≡ none → b ≡ true
+pub may-replace : (b : Bool) → misplaced (replace [] []) b ≡ None → b ≡ true
 may-replace true h = refl
-may-replace false h = absurd (none-ne-some NotListed (sym h))
+may-replace false h = absurd (none-some NotListed (sym h))
 
-pub distinct-after : (e : Edit) (ls : List (List ℕ)) → allowed e ≡ true → misplaced e (listed (subject e) ls) ≡ none
+pub distinct-after : (e : Edit) (ls : List (List ℕ)) → allowed e ≡ true → misplaced e (listed (subject e) ls) ≡ None
     → distinct same (map identity_of ls) ≡ true → distinct same (map identity_of (lines_after e ls)) ≡ true
 distinct-after (add i k) ls ok free apart =
     let named = and_left (valid_identity i) (valid_secret k) ok in
@@ -187,35 +188,35 @@ module _ (i k : List ℕ) where
 -- ---- what a search finds
 
 -- valid lines of others have nothing for the identity
-other_none : (i l : List ℕ) → valid_line l ≡ true → is_line_of i l ≡ false → key_text i l ≡ none
+other_none : (i l : List ℕ) → valid_line l ≡ true → is_line_of i l ≡ false → key_text i l ≡ None
 other_none i l good other =
     let p = line-sound l good in
     let differ : ¬ (i ≡ identity_of l) = λ e. true≢false (sym (same_refl i) ∙ ap (same i) e ∙ other) in
     ap (key_text i) (sym (valid-parted l good))
     ∙ other_text i (upto colon l) (past colon l) differ (identity-no-colon (parted l) p) (hex-no-colon (parted l) p)
 
-pub unlisted-none : (i : List ℕ) (ls : List (List ℕ)) → each valid_line ls ≡ true → listed i ls ≡ false → first_text i ls ≡ none
+pub unlisted-none : (i : List ℕ) (ls : List (List ℕ)) → each valid_line ls ≡ true → listed i ls ≡ false → first_text i ls ≡ None
 unlisted-none i [] good h = refl
 unlisted-none i (l ∷ ls) good h = go (is_line_of i l) refl (λ f. unlisted-none i ls (and_right (valid_line l) (each valid_line ls) good) f)
   where
-    go : (b : Bool) → is_line_of i l ≡ b → (listed i ls ≡ false → first_text i ls ≡ none) → first_text i (l ∷ ls) ≡ none
+    go : (b : Bool) → is_line_of i l ≡ b → (listed i ls ≡ false → first_text i ls ≡ None) → first_text i (l ∷ ls) ≡ None
     go true e ih = absurd (true≢false (rw e at h))
     go false e ih = rw (other_none i l (and_left (valid_line l) (each valid_line ls) good) e) (ih (rw e at h))
 
 -- and a listed one has a key
-pub listed-some : (i : List ℕ) (ls : List (List ℕ)) → each valid_line ls ≡ true → listed i ls ≡ true → ¬ (key_of_text (first_text i ls) ≡ none)
+pub listed-some : (i : List ℕ) (ls : List (List ℕ)) → each valid_line ls ≡ true → listed i ls ≡ true → ¬ (key_of_text (first_text i ls) ≡ None)
 listed-some i [] good h = λ e. true≢false (sym h)
 listed-some i (l ∷ ls) good h = go (is_line_of i l) refl (λ f. listed-some i ls (and_right (valid_line l) (each valid_line ls) good) f)
   where
     valid : valid_line l ≡ true
     valid = and_left (valid_line l) (each valid_line ls) good
 
-    go : (b : Bool) → is_line_of i l ≡ b → (listed i ls ≡ true → ¬ (key_of_text (first_text i ls) ≡ none)) → ¬ (key_of_text (first_text i (l ∷ ls)) ≡ none)
+    go : (b : Bool) → is_line_of i l ≡ b → (listed i ls ≡ true → ¬ (key_of_text (first_text i ls) ≡ None)) → ¬ (key_of_text (first_text i (l ∷ ls)) ≡ None)
     go true e ih gone =
-        let own : key_text i l ≡ some (past colon l) =
+        let own : key_text i l ≡ Some (past colon l) =
         ap₂ key_text (same-eq i (identity_of l) e) (sym (valid-parted l valid)) ∙ own-text (upto colon l) (past colon l) in
         let key = key-is (past colon l) (and_right (valid_identity (identity_of l)) (valid_key (past colon l)) valid) in
-        none-ne-some (decoded (past colon l)) (sym (rw own at gone) ∙ key)
+        none-some (decoded (past colon l)) (sym (rw own at gone) ∙ key)
     go false e ih gone = ih (rw e at h) (rw (other_none i l valid e) at gone)
 
 -- the lines of one identity decide nothing for another
@@ -239,27 +240,27 @@ unlisted-others i (l ∷ ls) = go (is_line_of i l) refl (unlisted-others i ls)
     go false e ih = rw e ih
 
 replaced-first : (i k : List ℕ) (ls : List (List ℕ)) → each valid_line ls ≡ true → listed i ls ≡ true
-    → first_text i (lines_after (replace i k) ls) ≡ some (lower_hex k)
+    → first_text i (lines_after (replace i k) ls) ≡ Some (lower_hex k)
 replaced-first i k [] good h = absurd (true≢false (sym h))
 replaced-first i k (l ∷ ls) good h = go (is_line_of i l) refl (λ f. replaced-first i k ls (and_right (valid_line l) (each valid_line ls) good) f)
   where
-    go : (b : Bool) → is_line_of i l ≡ b → (listed i ls ≡ true → first_text i (lines_after (replace i k) ls) ≡ some (lower_hex k))
-        → or_else (key_text i (cond b (line_with i k) l)) (first_text i (lines_after (replace i k) ls)) ≡ some (lower_hex k)
+    go : (b : Bool) → is_line_of i l ≡ b → (listed i ls ≡ true → first_text i (lines_after (replace i k) ls) ≡ Some (lower_hex k))
+        → or_else (key_text i (cond b (line_with i k) l)) (first_text i (lines_after (replace i k) ls)) ≡ Some (lower_hex k)
     go true e ih = rw (own-text i (lower_hex k))
     go false e ih = rw (other_none i l (and_left (valid_line l) (each valid_line ls) good) e) (ih (rw e at h))
 
 -- the identity has the key that was given, or none
-pub first-after : (e : Edit) (ls : List (List ℕ)) → OfBytes e → allowed e ≡ true → misplaced e (listed (subject e) ls) ≡ none
+pub first-after : (e : Edit) (ls : List (List ℕ)) → OfBytes e → allowed e ≡ true → misplaced e (listed (subject e) ls) ≡ None
     → each valid_line ls ≡ true → key_of_text (first_text (subject e) (lines_after e ls)) ≡ key_after e
 first-after (add i k) ls bytes ok free good =
     let keyed = and_right (valid_identity i) (valid_secret k) ok in
     let none_yet = unlisted-none i ls good (may_add (listed i ls) free) in
-    let found : first_text i (ls ++ (line_with i k ∷ [])) ≡ some (lower_hex k) =
+    let found : first_text i (ls ++ (line_with i k ∷ [])) ≡ Some (lower_hex k) =
     first-append i ls (line_with i k ∷ []) ∙ rw (none_yet, own-text i (lower_hex k)) in
-    ap key_of_text found ∙ key-is (lower_hex k) (valid-hex k keyed bytes) ∙ ap some (decoded-hex k bytes)
+    ap key_of_text found ∙ key-is (lower_hex k) (valid-hex k keyed bytes) ∙ ap Some (decoded-hex k bytes)
 first-after (replace i k) ls bytes ok free good =
     let keyed = and_right (valid_identity i) (valid_secret k) ok in
     ap key_of_text (replaced-first i k ls good (may-replace (listed i ls) free))
-    ∙ key-is (lower_hex k) (valid-hex k keyed bytes) ∙ ap some (decoded-hex k bytes)
+    ∙ key-is (lower_hex k) (valid-hex k keyed bytes) ∙ ap Some (decoded-hex k bytes)
 first-after (retire i) ls bytes ok free good =
     ap key_of_text (unlisted-none i (others i ls) (others-each i valid_line ls good) (unlisted-others i ls))

@@ -1,15 +1,16 @@
 -- A key in lower-case hex: its digits one by one, and that they stand for the key. Assumes nothing.
-use mathlib.Core.Path.{◌≡◌, refl, ap₂, ◌∙◌}
+use mathlib.Core.Path.{◌≡◌, refl, ap, ap₂, ◌∙◌}
 use Prim.Native.Nat.{ℕ, zero, suc, ◌+◌, ◌-◌, ◌*◌, ◌/◌, ◌%◌, ◌<◌}
 use native.Mathlib.Omega.{arith}
 use mathlib.Core.Bool.{Bool, true, false, cond}
 use mathlib.Core.Logic.{inl, inr}
 use mathlib.Core.List.{List, [], ◌∷◌}
-use lib.ListN.{length, get_or}
+use lib.ListN.{length, get_or, set}
 use lib.Dec.{ltb}
 use borrow.Author.Tests.{ltb-true, ltb-false, lt-ltb, le-leb, lt-leb, eq-eqb}
 use Rattle.lists.specs.Lists.{each, Each}
 use Rattle.lists.proofs.Tests.{both}
+use Rattle.lists.proofs.Copies.{filled, fill-turn}
 use Rattle.keytable.specs.Table.{digit, hex_digit, valid_key, decoded, valid_secret}
 use Rattle.keytable.proofs.Tests.{between-sound}
 use Rattle.table_edits.specs.Edits.{lower_digit, lower_hex, LowerDigit}
@@ -18,21 +19,31 @@ pub length-hex : (key : List ℕ) → length (lower_hex key) ≡ 2 * length key
 length-hex [] = refl
 length-hex (b ∷ key) = omega (arith, length-hex key)
 
-pub high_digit : (key : List ℕ) (i : ℕ) → i < 2 * length key → i % 2 ≡ 0 → get_or (lower_hex key) i 0 ≡ lower_digit (get_or key (i / 2) 0 / 16)
-high_digit [] i h even = absurd (omega arith)
-high_digit (b ∷ key) zero h even = refl
-high_digit (b ∷ key) (suc zero) h even = absurd (omega arith)
-high_digit (b ∷ key) (suc (suc i)) h even =
-    let next : suc (suc i) / 2 ≡ suc (i / 2) = omega arith in
-    rw next (high_digit key i (omega arith) (omega arith))
+pub high_digit : (key : List ℕ) (i : ℕ) → i < length key → get_or (lower_hex key) (2 * i) 0 ≡ lower_digit (get_or key i 0 / 16)
+high_digit [] i h = absurd (omega arith)
+high_digit (b ∷ key) zero h = refl
+high_digit (b ∷ key) (suc i) h =
+    let next : 2 * suc i ≡ suc (suc (2 * i)) = omega arith in
+    rw next (high_digit key i (omega arith))
 
-pub low_digit : (key : List ℕ) (i : ℕ) → i < 2 * length key → ¬ (i % 2 ≡ 0) → get_or (lower_hex key) i 0 ≡ lower_digit (get_or key (i / 2) 0 % 16)
-low_digit [] i h odd = absurd (omega arith)
-low_digit (b ∷ key) zero h odd = absurd (odd (omega arith))
-low_digit (b ∷ key) (suc zero) h odd = refl
-low_digit (b ∷ key) (suc (suc i)) h odd =
-    let next : suc (suc i) / 2 ≡ suc (i / 2) = omega arith in
-    rw next (low_digit key i (omega arith) (λ e. odd (omega arith)))
+pub low_digit : (key : List ℕ) (i : ℕ) → i < length key → get_or (lower_hex key) (2 * i + 1) 0 ≡ lower_digit (get_or key i 0 % 16)
+low_digit [] i h = absurd (omega arith)
+low_digit (b ∷ key) zero h = refl
+low_digit (b ∷ key) (suc i) h =
+    let next : 2 * suc i + 1 ≡ suc (suc (2 * i + 1)) = omega arith in
+    rw next (low_digit key i (omega arith))
+
+-- the digits of one more byte
+pub digits-turn : (key d : List ℕ) (i : ℕ) → i < length key → length d ≡ 2 * length key
+    → set (set (filled (lower_hex key) d (2 * i)) (2 * i) (lower_digit (get_or key i 0 / 16))) (2 * i + 1) (lower_digit (get_or key i 0 % 16))
+    ≡ filled (lower_hex key) d (2 * (i + 1))
+digits-turn key d i h size =
+    let digits = length-hex key in
+    let hex : List ℕ = lower_hex key in
+    let next : 2 * i + 1 + 1 ≡ 2 * (i + 1) = omega arith in
+    rw (← high_digit key i h, ← low_digit key i h)
+    (ap (λ (l : List ℕ). set l (2 * i + 1) (get_or hex (2 * i + 1) 0)) (fill-turn hex d (2 * i) (omega arith) (omega arith))
+    ∙ fill-turn hex d (2 * i + 1) (omega arith) (omega arith) ∙ ap (filled hex d) next)
 
 -- ---- what the digits stand for
 

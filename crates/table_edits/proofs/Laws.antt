@@ -5,10 +5,10 @@ use mathlib.Core.Logic.{◌↔◌}
 use Prim.Native.Nat.{ℕ, ◌≤◌, ◌<◌}
 use mathlib.Core.Bool.{Bool, true, false, ◌&&◌, true≢false}
 use mathlib.Core.List.{List, [], ◌∷◌, ◌++◌, map}
-use mathlib.Core.Option.{Option, none, some}
 use lib.ListN.{length}
 use lib.Dec.{leb}
 use borrow.Author.Tests.{leb-true}
+use Rattle.std.specs.Prelude.{Option, None, Some}
 use Rattle.lists.specs.Lists.{each, same, Each}
 use Rattle.lists.proofs.Tests.{and_left, and_right, both}
 use Rattle.lists.proofs.Equal.{same_refl}
@@ -17,7 +17,6 @@ use Rattle.refusal.specs.declared.Refusal.{Refusal}
 use Rattle.refusal.specs.Lent.{gives}
 use Rattle.refusal.proofs.Laws.{refuses-gives}
 use Rattle.keytable.specs.declared.entries.Hit.{Hit}
-use Rattle.keytable.specs.declared.entries.Hit.TheVariants.{Line, Nothing}
 use Rattle.keytable.specs.Table.{lines, joined, first_text, key_of_text, key_of, identity_of, valid_identity, valid_line, well_formed, valid_secret}
 use Rattle.keytable.specs.Starts.{starts_of, placed}
 use Rattle.keytable.specs.WellFormed.{WellFormed, LineRemoved}
@@ -36,7 +35,7 @@ use Rattle.table_edits.proofs.Places.{replaced-there, absent-unlisted, line-remo
 pub record Accepted (e : Edit) (t t' : List ℕ) : Type 0 where
   pub formed : well_formed t ≡ true
   pub named : allowed e ≡ true
-  pub free : misplaced e (listed (subject e) (lines t)) ≡ none
+  pub free : misplaced e (listed (subject e) (lines t)) ≡ None
   pub text : t' ≡ joined (lines_after e (lines t))
   pub few-lines : length (lines_after e (lines t)) ≤ 256
   pub few_bytes : length (joined (lines_after e (lines t))) ≤ 65536
@@ -49,7 +48,7 @@ unfolding edited
 accepted e t t' h = first (well_formed t) refl
   where
     last : (b : Bool) → (leb (length (lines_after e (lines t))) 256 && leb (length (joined (lines_after e (lines t)))) 65536) ≡ b
-        → well_formed t ≡ true → allowed e ≡ true → misplaced e (listed (subject e) (lines t)) ≡ none → Accepted e t t'
+        → well_formed t ≡ true → allowed e ≡ true → misplaced e (listed (subject e) (lines t)) ≡ None → Accepted e t t'
     last false x a b c = absurd (refuses-gives (rw (a, b, c, x) at h))
     last true x a b c = record {
       formed = a;
@@ -63,8 +62,8 @@ accepted e t t' h = first (well_formed t) refl
     }
 
     third : (o : Option Refusal) → misplaced e (listed (subject e) (lines t)) ≡ o → well_formed t ≡ true → allowed e ≡ true → Accepted e t t'
-    third (some r) c a b = absurd (refuses-gives (rw (a, b, c) at h))
-    third none c a b = last _ refl a b c
+    third (Some r) c a b = absurd (refuses-gives (rw (a, b, c) at h))
+    third None c a b = last _ refl a b c
 
     second : (b : Bool) → allowed e ≡ b → well_formed t ≡ true → Accepted e t t'
     second false b a = absurd (refuses-gives (rw (a, b) at h))
@@ -129,13 +128,13 @@ module _ (e : Edit) (t t' : List ℕ) (bytes : OfBytes e) (h : edited e t ≡ gi
 
 -- ---- listed, and found by a lookup
 
-pub listed_found_lem : (t i : List ℕ) → well_formed t ≡ true → (listed i (lines t) ≡ false) ↔ (key_of t i ≡ none)
+pub listed_found_lem : (t i : List ℕ) → well_formed t ≡ true → (listed i (lines t) ≡ false) ↔ (key_of t i ≡ None)
 unfolding key_of
 listed_found_lem t i formed =
     let good = (well-formed-tests t formed).3 in
     (λ h. ap key_of_text (unlisted-none i (lines t) good h), λ gone. go (listed i (lines t)) refl good gone)
   where
-    go : (b : Bool) → listed i (lines t) ≡ b → each valid_line (lines t) ≡ true → key_of_text (first_text i (lines t)) ≡ none → b ≡ false
+    go : (b : Bool) → listed i (lines t) ≡ b → each valid_line (lines t) ≡ true → key_of_text (first_text i (lines t)) ≡ None → b ≡ false
     go true h good gone = absurd (listed-some i (lines t) good h gone)
     go false h good gone = refl
 
@@ -147,9 +146,9 @@ retire-removes i t t' h = go (placed 0 i t (starts_of t)) refl
     a : Accepted (retire i) t t'
     a = accepted (retire i) t t' h
 
-    go : (hit : Hit) → placed 0 i t (starts_of t) ≡ hit → LineRemoved i t t'
-    go (Line n from to) e = rw a.text (line-removed t i a.formed (and_left (valid_identity i) true a.named) n from to e)
-    go Nothing e = absurd (true≢false (sym (may-replace (listed i (lines t)) a.free) ∙ absent-unlisted t i a.formed e))
+    go : (hit : Option Hit) → placed 0 i t (starts_of t) ≡ hit → LineRemoved i t t'
+    go (Some at) e = rw a.text (line-removed t i a.formed (and_left (valid_identity i) true a.named) at.line at.from at.to e)
+    go None e = absurd (true≢false (sym (may-replace (listed i (lines t)) a.free) ∙ absent-unlisted t i a.formed e))
 
 -- ---- retiring what was added
 

@@ -4,22 +4,18 @@ use Prim.Native.Nat.{ℕ, ◌+◌, ◌*◌, ◌≤◌, ◌<◌}
 use native.Mathlib.Omega.{arith}
 use mathlib.Core.Bool.{Bool, true, false, ◌&&◌}
 use mathlib.Core.List.{List, [], ◌∷◌, ◌++◌}
-use mathlib.Core.Option.{Option, none, some}
 use lib.ListN.{length, take, drop, length-append}
 use lib.Seq.{length-take-le}
 use lib.Dec.{leb}
 use borrow.Author.Tests.{leb-true, leb-false, le-leb, lt-leb}
+use Rattle.std.specs.Prelude.{Ok, Err, Option, None, Some}
 use Rattle.lists.specs.Lists.{each}
 use Rattle.lists.proofs.Tests.{and_left, and_right}
 use Rattle.refusal.specs.declared.Refusal.{Refusal}
 use Rattle.refusal.specs.declared.Refusal.TheVariants.{ShortOutput, BadTable, BadValue, TableFull}
-use Rattle.refusal.specs.declared.Written.{Written}
-use Rattle.refusal.specs.declared.Written.TheVariants.{Wrote}
 use Rattle.refusal.specs.Lent.{gives, refuses, Answers}
 use Rattle.refusal.proofs.Laws.{gives-answers, short-answers, refuses-answers}
-use Rattle.keytable.specs.declared.Judged.{Judged}
 use Rattle.keytable.specs.declared.entries.Hit.{Hit}
-use Rattle.keytable.specs.declared.entries.Hit.TheVariants.{Line, Nothing}
 use Rattle.keytable.specs.Table.{line_end, lines, joined, ended, judged, valid_identity, valid_line, well_formed, valid_secret}
 use Rattle.keytable.specs.Starts.{starts_from, starts_of, is_list, list_refusal, placed}
 use Rattle.keytable.proofs.Tests.{between-sound, identity-sound}
@@ -27,11 +23,9 @@ use Rattle.keytable.proofs.Texts.{joined-lines}
 use Rattle.keytable.proofs.Agreement.{well-formed-tests}
 use Rattle.keytable.proofs.Listed.{count-lines, own-within, own-starts, passed-both}
 use Rattle.keytable.proofs.Spots.{joined-append}
-use Rattle.table_edits.specs.declared.Place.{Place}
-use Rattle.table_edits.specs.declared.Place.TheVariants.{At, Absent, Refused}
 use Rattle.table_edits.specs.Edits.{Edit, subject, secret_allowed, allowed, misplaced, listed, lines_after}
 use Rattle.table_edits.specs.Edits.{line_with, lower_hex, sized, unless, edited, roomed, edited_in}
-use Rattle.table_edits.specs.Inner.{bounded, hit_place, sought_in, place_in, size_judged, OwnList, Unbroken}
+use Rattle.table_edits.specs.Inner.{bounded, sought_in, place_in, size_judged, OwnList, Unbroken}
 use Rattle.table_edits.proofs.Digits.{length-hex}
 use Rattle.table_edits.proofs.Starts.{starts-snoc}
 
@@ -46,44 +40,32 @@ pub record Passed (memory : List ℕ) (n : ℕ) (starts : List ℕ) (count : ℕ
   pub keyed : secret ≡ true
 
 -- what table and list were judged to be
-pub judged-good : (o : Option Refusal) → judged o ≡ Judged.Good → o ≡ none
-judged-good none e = refl
-judged-good (some r) e = let z : ◌≡◌ {A = ℕ} 0 1 = cc in absurd (omega arith)
+pub judged-good : (o : Option Refusal) → judged o ≡ Ok tt → o ≡ None
+judged-good None e = refl
+judged-good (Some r) e = let z : ◌≡◌ {A = ℕ} 0 1 = cc in absurd (omega arith)
 
-pub judged-refused : (o : Option Refusal) (r : Refusal) → judged o ≡ Judged.Refused r → o ≡ some r
-judged-refused none r e = let z : ◌≡◌ {A = ℕ} 0 1 = cc in absurd (omega arith)
-judged-refused (some q) r e = cc
-
-pub sought : (t starts i : List ℕ) (secret : Bool) → valid_identity i ≡ true → secret ≡ true
-    → sought_in t starts i secret ≡ hit_place (placed 0 i t starts)
-sought t starts i secret named keyed = rw (named, keyed)
-
-hit-at : (h : Hit) (k from to : ℕ) → hit_place h ≡ At k from to → h ≡ Line k from to
-hit-at (Line a b c) k from to e = cc
-hit-at Nothing k from to e = let z : ◌≡◌ {A = ℕ} 0 1 = cc in absurd (omega arith)
-
-hit-absent : (h : Hit) → hit_place h ≡ Absent → h ≡ Nothing
-hit-absent (Line a b c) e = let z : ◌≡◌ {A = ℕ} 0 1 = cc in absurd (omega arith)
-hit-absent Nothing e = refl
+pub judged-refused : (o : Option Refusal) (r : Refusal) → judged o ≡ Err r → o ≡ Some r
+judged-refused None r e = let z : ◌≡◌ {A = ℕ} 0 1 = cc in absurd (omega arith)
+judged-refused (Some q) r e = cc
 
 module _ (memory : List ℕ) (n : ℕ) (starts : List ℕ) (count : ℕ) (i : List ℕ) (secret : Bool) where
   abbrev table : List ℕ
   table = take n memory
 
   module _ (inside : n ≤ length memory) where
-    pub place-good : list_refusal table starts count ≡ none → place_in memory n starts count i secret ≡ sought_in table (take count starts) i secret
+    pub place-good : list_refusal table starts count ≡ None → place_in memory n starts count i secret ≡ sought_in table (take count starts) i secret
     place-good good = rw (le-leb n (length memory) inside, good)
 
-    pub place-refused : (r : Refusal) → list_refusal table starts count ≡ some r → place_in memory n starts count i secret ≡ Refused r
+    pub place-refused : (r : Refusal) → list_refusal table starts count ≡ Some r → place_in memory n starts count i secret ≡ Err r
     place-refused r bad = rw (le-leb n (length memory) inside, bad)
 
   -- a place that no test refused is the search's, by the table's own list
-  module _ (p : Place) (e : place_in memory n starts count i secret ≡ p) (found : (r : Refusal) → ¬ (p ≡ Refused r)) where
-    passed-tests : Passed memory n starts count i secret × (hit_place (placed 0 i table (starts_of table)) ≡ p)
+  module _ (found : Option Hit) (e : place_in memory n starts count i secret ≡ Ok found) where
+    pub passed-tests : Passed memory n starts count i secret × (placed 0 i table (starts_of table) ≡ found)
     passed-tests = first (leb n (length memory)) refl
       where
-        third : (b : Bool) → (valid_identity i && secret) ≡ b → leb n (length memory) ≡ true → list_refusal table starts count ≡ none
-            → Passed memory n starts count i secret × (hit_place (placed 0 i table (starts_of table)) ≡ p)
+        third : (b : Bool) → (valid_identity i && secret) ≡ b → leb n (length memory) ≡ true → list_refusal table starts count ≡ None
+            → Passed memory n starts count i secret × (placed 0 i table (starts_of table) ≡ found)
         third true h inside good =
             let (formed, own) = passed-both table starts count good in (
               record {
@@ -93,31 +75,21 @@ module _ (memory : List ℕ) (n : ℕ) (starts : List ℕ) (count : ℕ) (i : Li
                 named = and_left (valid_identity i) secret h;
                 keyed = and_right (valid_identity i) secret h;
               },
-              rw (own-starts table starts count own) at (rw (inside, good, h) at e),
+              let is : Ok (placed 0 i table (take count starts)) ≡ Ok found = rw (inside, good, h) at e in
+                  let same : placed 0 i table (take count starts) ≡ found = cc in
+                  rw (own-starts table starts count own) at same,
             )
-        third false h inside good = absurd (found BadValue (sym (rw (inside, good, h) at e)))
+        third false h inside good = let is : Err BadValue ≡ Ok found = rw (inside, good, h) at e in let z : ◌≡◌ {A = ℕ} 0 1 = cc in absurd (omega arith)
 
         second : (o : Option Refusal) → list_refusal table starts count ≡ o → leb n (length memory) ≡ true
-            → Passed memory n starts count i secret × (hit_place (placed 0 i table (starts_of table)) ≡ p)
-        second none good inside = third (valid_identity i && secret) refl inside good
-        second (some r) bad inside = absurd (found r (sym (rw (inside, bad) at e)))
+            → Passed memory n starts count i secret × (placed 0 i table (starts_of table) ≡ found)
+        second None good inside = third (valid_identity i && secret) refl inside good
+        second (Some r) bad inside = let is : Err r ≡ Ok found = rw (inside, bad) at e in let z : ◌≡◌ {A = ℕ} 0 1 = cc in absurd (omega arith)
 
         first : (b : Bool) → leb n (length memory) ≡ b
-            → Passed memory n starts count i secret × (hit_place (placed 0 i table (starts_of table)) ≡ p)
+            → Passed memory n starts count i secret × (placed 0 i table (starts_of table) ≡ found)
         first true inside = second (list_refusal table starts count) refl inside
-        first false short = absurd (found BadTable (sym (rw short at e)))
-
-  pub passed-at : (k from to : ℕ) → place_in memory n starts count i secret ≡ At k from to
-      → Passed memory n starts count i secret × (placed 0 i table (starts_of table) ≡ Line k from to)
-  passed-at k from to e =
-      let (tests, place) = passed-tests (At k from to) e (λ r f. let z : ◌≡◌ {A = ℕ} 0 1 = cc in omega arith) in
-      (tests, hit-at (placed 0 i table (starts_of table)) k from to place)
-
-  pub passed-absent : place_in memory n starts count i secret ≡ Absent
-      → Passed memory n starts count i secret × (placed 0 i table (starts_of table) ≡ Nothing)
-  passed-absent e =
-      let (tests, place) = passed-tests Absent e (λ r f. let z : ◌≡◌ {A = ℕ} 0 1 = cc in omega arith) in
-      (tests, hit-absent (placed 0 i table (starts_of table)) place)
+        first false short = let is : Err BadTable ≡ Ok found = rw short at e in let z : ◌≡◌ {A = ℕ} 0 1 = cc in absurd (omega arith)
 
   -- ---- what the tests say of sizes, and of the list
 
@@ -153,28 +125,26 @@ secret-few key h = (between-sound 1 64 (length key) h).1
 -- ---- an edit, by these tests
 
 module _ (memory : List ℕ) (n : ℕ) (starts : List ℕ) (count : ℕ) (e : Edit) where
-  pub edit-refused : (r : Refusal) → place_in memory n starts count (subject e) (secret_allowed e) ≡ Refused r → edited_in memory n starts count e ≡ refuses r
+  pub edit-refused : (r : Refusal) → place_in memory n starts count (subject e) (secret_allowed e) ≡ Err r → edited_in memory n starts count e ≡ refuses r
   unfolding edited edited_in
   edit-refused r h = first (leb n (length memory)) refl
     where
-      hit-refused : (hit : Hit) → ¬ (hit_place hit ≡ Refused r)
-      hit-refused (Line a b c) f = let z : ◌≡◌ {A = ℕ} 0 1 = cc in omega arith
-      hit-refused Nothing f = let z : ◌≡◌ {A = ℕ} 0 1 = cc in omega arith
-
-      third : (good : Bool) → allowed e ≡ good → leb n (length memory) ≡ true → list_refusal (take n memory) starts count ≡ none
+      third : (good : Bool) → allowed e ≡ good → leb n (length memory) ≡ true → list_refusal (take n memory) starts count ≡ None
           → edited_in memory n starts count e ≡ refuses r
       third false c a b =
-          let is : Refused BadValue ≡ Refused r = rw (a, b, c) at h in
+          let is : Err BadValue ≡ Err r = rw (a, b, c) at h in
           rw (a, b, (passed-both (take n memory) starts count b).0, c) (cc)
-      third true c a b = absurd (hit-refused (placed 0 (subject e) (take n memory) (take count starts)) (rw (a, b, c) at h))
+      third true c a b =
+          let is : Ok (placed 0 (subject e) (take n memory) (take count starts)) ≡ Err r = rw (a, b, c) at h in
+          let z : ◌≡◌ {A = ℕ} 0 1 = cc in absurd (omega arith)
 
       second : (o : Option Refusal) → list_refusal (take n memory) starts count ≡ o → leb n (length memory) ≡ true
           → edited_in memory n starts count e ≡ refuses r
-      second none b a = third (allowed e) refl a b
-      second (some q) b a = let is : Refused q ≡ Refused r = rw (a, b) at h in rw (a, b) (cc)
+      second None b a = third (allowed e) refl a b
+      second (Some q) b a = let is : Err q ≡ Err r = rw (a, b) at h in rw (a, b) (cc)
 
       first : (inside : Bool) → leb n (length memory) ≡ inside → edited_in memory n starts count e ≡ refuses r
-      first false a = let is : Refused BadTable ≡ Refused r = rw a at h in rw a (cc)
+      first false a = let is : Err BadTable ≡ Err r = rw a at h in rw a (cc)
       first true a = second (list_refusal (take n memory) starts count) refl a
 
   pub edit-on : Passed memory n starts count (subject e) (secret_allowed e)
@@ -197,33 +167,33 @@ sized-bounded t ls e few = rw (e, le-leb (length ls) 256 few)
 
 -- a table by what its size was judged
 module _ (t out : List ℕ) (size : ℕ) (e : length t ≡ size) where
-  pub size-refused : (r : Refusal) → size_judged size (length out) ≡ Judged.Refused r → Answers (bounded t) out (Written.Refused r) out
+  pub size-refused : (r : Refusal) → size_judged size (length out) ≡ Err r → Answers (bounded t) out (Err r) out
   size-refused r h = first (leb size 65536) refl (leb size (length out)) refl
     where
-      first : (a : Bool) → leb size 65536 ≡ a → (b : Bool) → leb size (length out) ≡ b → Answers (bounded t) out (Written.Refused r) out
+      first : (a : Bool) → leb size 65536 ≡ a → (b : Bool) → leb size (length out) ≡ b → Answers (bounded t) out (Err r) out
       first false x b y =
-          let is : Judged.Refused TableFull ≡ Judged.Refused r = rw x at h in
+          let is : Err TableFull ≡ Err r = rw x at h in
           let same : TableFull ≡ r = cc in
           rw (e, x, ← same) (refuses-answers TableFull out)
       first true x false y =
-          let is : Judged.Refused ShortOutput ≡ Judged.Refused r = rw (x, y) at h in
+          let is : Err ShortOutput ≡ Err r = rw (x, y) at h in
           let same : ShortOutput ≡ r = cc in
           let short = leb-false size (length out) y in
           rw (e, x, ← same) (short-answers t out (omega arith))
-      first true x true y = let is : Judged.Good ≡ Judged.Refused r = rw (x, y) at h in let z : ◌≡◌ {A = ℕ} 0 1 = cc in absurd (omega arith)
+      first true x true y = let is : (Ok tt) ≡ Err r = rw (x, y) at h in let z : ◌≡◌ {A = ℕ} 0 1 = cc in absurd (omega arith)
 
-  pub size-good : size_judged size (length out) ≡ Judged.Good → (bounded t ≡ gives t) × (size ≤ length out)
+  pub size-good : size_judged size (length out) ≡ Ok tt → (bounded t ≡ gives t) × (size ≤ length out)
   size-good h = first (leb size 65536) refl (leb size (length out)) refl
     where
       first : (a : Bool) → leb size 65536 ≡ a → (b : Bool) → leb size (length out) ≡ b → (bounded t ≡ gives t) × (size ≤ length out)
-      first false x b y = let is : Judged.Refused TableFull ≡ Judged.Good = rw x at h in let z : ◌≡◌ {A = ℕ} 0 1 = cc in absurd (omega arith)
+      first false x b y = let is : Err TableFull ≡ Ok tt = rw x at h in let z : ◌≡◌ {A = ℕ} 0 1 = cc in absurd (omega arith)
       first true x false y =
-          let is : Judged.Refused ShortOutput ≡ Judged.Good = rw (x, y) at h in let z : ◌≡◌ {A = ℕ} 0 1 = cc in absurd (omega arith)
+          let is : Err ShortOutput ≡ Ok tt = rw (x, y) at h in let z : ◌≡◌ {A = ℕ} 0 1 = cc in absurd (omega arith)
       first true x true y = (rw (e, x), leb-true size (length out) y)
 
 -- the answer of n bytes, by what it leaves
 pub answered : (bytes out out' : List ℕ) (n : ℕ) → length bytes ≡ n → n ≤ length out → out' ≡ bytes ++ drop n out
-    → Answers (gives bytes) out (Wrote n) out'
+    → Answers (gives bytes) out (Ok n) out'
 answered bytes out out' n size room left = rw (left, ← size) (gives-answers bytes out (omega arith))
 
 -- ---- a line added

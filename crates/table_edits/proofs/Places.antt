@@ -4,18 +4,18 @@ use Prim.Native.Nat.{ℕ, suc, ◌+◌, ◌-◌, ◌*◌, ◌≤◌}
 use native.Mathlib.Omega.{arith}
 use mathlib.Core.Bool.{Bool, true, false, cond}
 use mathlib.Core.List.{List, [], ◌∷◌, ◌++◌, map, append_assoc, append-nil, map-append}
-use mathlib.Core.Option.{Option, none, some, none-ne-some}
 use lib.ListN.{length, take, drop, length-append}
 use lib.Seq.{take_at, drop_at, drop-drop}
+use Rattle.std.proofs.lemmas.Option.{none-some}
+use Rattle.std.specs.Prelude.{Option, None, Some}
 use Rattle.lists.specs.Lists.{each, same, Each, Distinct}
 use Rattle.lists.proofs.Tests.{and_left, and_right}
 use Rattle.lists.proofs.Equal.{same-eq, same_refl, same_not}
 use Rattle.lists.proofs.Every.{each_append, every_map}
 use Rattle.lists.proofs.Distinct.{any_append, distinct-middle}
-use Rattle.keytable.specs.declared.entries.Hit.TheVariants.{Line, Nothing}
 use Rattle.keytable.specs.Table.{line_end, colon, upto, past, lines, joined, key_text}
 use Rattle.keytable.specs.Table.{first_text, identity_of, valid_identity, valid_line, well_formed}
-use Rattle.keytable.specs.Starts.{starts_from, starts_of, placed}
+use Rattle.keytable.specs.Starts.{hit, starts_from, starts_of, placed}
 use Rattle.keytable.specs.WellFormed.{Plain, LineRemoved}
 use Rattle.keytable.proofs.Tests.{identity-sound}
 use Rattle.keytable.proofs.Texts.{Without, upto-append, ended-joined, joined-lines, parted, valid-parted, line-no-end}
@@ -90,29 +90,29 @@ module _ (i : List ℕ) (xs : List (List ℕ)) (l : List ℕ) (ys : List (List �
   retired-there = others-append i xs (l ∷ ys) ∙ rw (others-stay i xs around.0, own, others-stay i ys around.1)
 
 -- valid lines in which nothing follows the identity and a colon are those of others
-unlisted : (i : List ℕ) (ls : List (List ℕ)) → each valid_line ls ≡ true → first_text i ls ≡ none → listed i ls ≡ false
+unlisted : (i : List ℕ) (ls : List (List ℕ)) → each valid_line ls ≡ true → first_text i ls ≡ None → listed i ls ≡ false
 unlisted i [] v e = refl
 unlisted i (l ∷ ls) v e = go (key_text i l) refl (λ f. unlisted i ls (and_right (valid_line l) (each valid_line ls) v) f)
   where
-    go : (o : Option (List ℕ)) → key_text i l ≡ o → (first_text i ls ≡ none → listed i ls ≡ false) → listed i (l ∷ ls) ≡ false
-    go (some s) h ih = absurd (none-ne-some s (sym (rw h at e)))
-    go none h ih =
+    go : (o : Option (List ℕ)) → key_text i l ≡ o → (first_text i ls ≡ None → listed i ls ≡ false) → listed i (l ∷ ls) ≡ false
+    go (Some s) h ih = absurd (none-some s (sym (rw h at e)))
+    go None h ih =
         let own : i ≡ identity_of l → ⊥ = λ m.
         let whole = valid-parted l (and_left (valid_line l) (each valid_line ls) v) in
-        let found : key_text i l ≡ some (past colon l) =
+        let found : key_text i l ≡ Some (past colon l) =
         ap₂ key_text m (sym whole) ∙ own-text (upto colon l) (past colon l) in
-        none-ne-some (past colon l) (sym h ∙ found) in
+        none-some (past colon l) (sym h ∙ found) in
         rw (same_not i (identity_of l) own) (ih (rw h at e))
 
 module _ (t i : List ℕ) (w : well_formed t ≡ true) where
-  pub absent-unlisted : placed 0 i t (starts_of t) ≡ Nothing → listed i (lines t) ≡ false
+  pub absent-unlisted : placed 0 i t (starts_of t) ≡ None → listed i (lines t) ≡ false
   absent-unlisted e =
       unlisted i (lines t) (well-formed-tests t w).3 (ap (first_text i) (sym (lines-there t)) ∙ nowhere t i 0 (starts_of t) e)
 
   whole : joined (lines t) ≡ t
   whole = joined-lines t (well-formed-tests t w).1
 
-  module _ (good : valid_identity i ≡ true) (n from to : ℕ) (e : placed 0 i t (starts_of t) ≡ Line n from to) where
+  module _ (good : valid_identity i ≡ true) (n from to : ℕ) (e : placed 0 i t (starts_of t) ≡ hit n from to) where
     abbrev line : Spot i 0 0 (lines t) n from to
     line = spot t i 0 0 (lines t) n from to (lines-there t) e
 

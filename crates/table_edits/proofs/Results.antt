@@ -6,14 +6,13 @@ use mathlib.Core.Bool.{Bool, true, cond}
 use mathlib.Core.List.{List, [], ◌++◌, map}
 use lib.ListN.{length, take, drop, get_or, length-append, length-drop, length-map}
 use lib.Seq.{length-take-le, get_or-take}
+use Rattle.std.specs.Prelude.{Ok, None}
 use Rattle.lists.proofs.Tests.{both}
 use Rattle.refusal.specs.declared.Refusal.TheVariants.{AlreadyListed, NotListed}
 use Rattle.refusal.specs.Lent.{gives, refuses}
-use Rattle.keytable.specs.declared.entries.Hit.TheVariants.{Line, Nothing}
 use Rattle.keytable.specs.Table.{lines, joined, ended, valid_secret}
-use Rattle.keytable.specs.Starts.{starts_from, starts_of, placed}
+use Rattle.keytable.specs.Starts.{hit, starts_from, starts_of, placed}
 use Rattle.keytable.proofs.Listed.{count-lines}
-use Rattle.table_edits.specs.declared.Place.TheVariants.{At, Absent}
 use Rattle.table_edits.specs.Edits.{Edit, add, replace, retire, is_line_of, others, lines_after, line_with, lower_hex, subject, roomed, sized}
 use Rattle.table_edits.specs.Edits.{secret_allowed, edited_in}
 use Rattle.table_edits.specs.Inner.{bounded, spliced, place_in, shifted, restarted, OwnList, Starting, Unbroken}
@@ -23,7 +22,7 @@ use Rattle.table_edits.proofs.Both.{roomed-fits, roomed-bounded}
 use Rattle.table_edits.proofs.Ends.{unbroken-after}
 use Rattle.table_edits.proofs.Places.{few-others, absent-unlisted, present-listed, replaced-text, retired-text, line-bounds, line-counted}
 use Rattle.table_edits.proofs.Places.{behind-starts, replaced-starts, retired-starts}
-use Rattle.table_edits.proofs.Outcomes.{Passed, passed-at, passed-absent, passed-size, passed-ended, passed_lines, passed-identity, secret-few}
+use Rattle.table_edits.proofs.Outcomes.{Passed, passed-tests, passed-size, passed-ended, passed_lines, passed-identity, secret-few}
 use Rattle.table_edits.proofs.Outcomes.{passed-valid, passed-list, passed-count, edit-on, sized-fits, sized-bounded}
 
 -- ---- the lines that an edit makes
@@ -40,15 +39,15 @@ module _ (memory : List ℕ) (n : ℕ) (starts : List ℕ) (count : ℕ) (e : Ed
 -- ---- listed
 
 module _ (memory : List ℕ) (n : ℕ) (starts : List ℕ) (count : ℕ) (i : List ℕ) (secret : Bool) (k from to : ℕ)
-    (h : place_in memory n starts count i secret ≡ At k from to) where
+    (h : place_in memory n starts count i secret ≡ Ok (hit k from to)) where
   abbrev table : List ℕ
   table = take n memory
 
   tests : Passed memory n starts count i secret
-  tests = (passed-at memory n starts count i secret k from to h).0
+  tests = (passed-tests memory n starts count i secret (hit k from to) h).0
 
-  there : placed 0 i table (starts_of table) ≡ Line k from to
-  there = (passed-at memory n starts count i secret k from to h).1
+  there : placed 0 i table (starts_of table) ≡ hit k from to
+  there = (passed-tests memory n starts count i secret (hit k from to) h).1
 
   -- the line stands within the table, and the table within the memory
   pub found-sizes : (n ≤ length memory) × (n ≤ 65536) × (length i + 1 ≤ from) × (from ≤ to) × (to < n)
@@ -84,11 +83,11 @@ module _ (memory : List ℕ) (n : ℕ) (starts : List ℕ) (count : ℕ) (i : Li
       restarted-front starts (starts_of table) count own.1 (k + 1) place old new list low found-counts.0 found-counts.1 e
 
 module _ (memory : List ℕ) (n : ℕ) (starts : List ℕ) (count : ℕ) (i key : List ℕ) (k from to : ℕ)
-    (h : place_in memory n starts count i (valid_secret key) ≡ At k from to) where
+    (h : place_in memory n starts count i (valid_secret key) ≡ Ok (hit k from to)) where
   abbrev passed : Passed memory n starts count i (valid_secret key)
   passed = tests memory n starts count i (valid_secret key) k from to h
 
-  abbrev spot : placed 0 i (take n memory) (starts_of (take n memory)) ≡ Line k from to
+  abbrev spot : placed 0 i (take n memory) (starts_of (take n memory)) ≡ hit k from to
   spot = there memory n starts count i (valid_secret key) k from to h
 
   pub found-key : length key ≤ 64
@@ -127,11 +126,11 @@ module _ (memory : List ℕ) (n : ℕ) (starts : List ℕ) (count : ℕ) (i key 
       ∙ roomed-bounded (length starts) replaced (omega (arith, replaced-count)))
 
 module _ (memory : List ℕ) (n : ℕ) (starts : List ℕ) (count : ℕ) (i : List ℕ) (k from to start : ℕ)
-    (h : place_in memory n starts count i true ≡ At k from to) (e : start ≡ from - 1 - length i) where
+    (h : place_in memory n starts count i true ≡ Ok (hit k from to)) (e : start ≡ from - 1 - length i) where
   abbrev ready : Passed memory n starts count i true
   ready = tests memory n starts count i true k from to h
 
-  abbrev here : placed 0 i (take n memory) (starts_of (take n memory)) ≡ Line k from to
+  abbrev here : placed 0 i (take n memory) (starts_of (take n memory)) ≡ hit k from to
   here = there memory n starts count i true k from to h
 
   abbrev shorter : List ℕ
@@ -183,12 +182,12 @@ module _ (memory : List ℕ) (n : ℕ) (starts : List ℕ) (count : ℕ) (i : Li
 -- ---- not listed
 
 module _ (memory : List ℕ) (n : ℕ) (starts : List ℕ) (count : ℕ) (i : List ℕ) where
-  module _ (key : List ℕ) (h : place_in memory n starts count i (valid_secret key) ≡ Absent) where
+  module _ (key : List ℕ) (h : place_in memory n starts count i (valid_secret key) ≡ Ok None) where
     abbrev free : Passed memory n starts count i (valid_secret key)
-    free = (passed-absent memory n starts count i (valid_secret key) h).0
+    free = (passed-tests memory n starts count i (valid_secret key) None h).0
 
-    abbrev nowhere : placed 0 i (take n memory) (starts_of (take n memory)) ≡ Nothing
-    nowhere = (passed-absent memory n starts count i (valid_secret key) h).1
+    abbrev nowhere : placed 0 i (take n memory) (starts_of (take n memory)) ≡ None
+    nowhere = (passed-tests memory n starts count i (valid_secret key) None h).1
 
     pub absent-sizes : (n ≤ length memory) × (n ≤ 65536) × (length i ≤ 128) × (length key ≤ 64)
     absent-sizes = (
@@ -212,7 +211,7 @@ module _ (memory : List ℕ) (n : ℕ) (starts : List ℕ) (count : ℕ) (i : Li
     pub replace_absent : edited_in memory n starts count (replace i key) ≡ refuses NotListed
     replace_absent = edit-on memory n starts count (replace i key) free ∙ rw (absent-unlisted (take n memory) i free.formed nowhere)
 
-  pub retire-absent : place_in memory n starts count i true ≡ Absent → edited_in memory n starts count (retire i) ≡ refuses NotListed
+  pub retire-absent : place_in memory n starts count i true ≡ Ok None → edited_in memory n starts count (retire i) ≡ refuses NotListed
   retire-absent h =
-      let (free, nowhere) = passed-absent memory n starts count i true h in
+      let (free, nowhere) = passed-tests memory n starts count i true None h in
       edit-on memory n starts count (retire i) free ∙ rw (absent-unlisted (take n memory) i free.formed nowhere)

@@ -9,7 +9,8 @@ use lib.Seq.{take_at, drop_at, set_at, take-append-le, take-take, take-add, take
 use borrow.Rule.Slice.PartMut.{put_mid, same_len_mid, mid_len, Post-is}
 use Rattle.lists.specs.Lists.{part}
 use Rattle.keytable.specs.Table.{line_end, colon}
-use Rattle.table_edits.specs.Inner.{moved, spliced}
+use Rattle.std.specs.List.{copy_within}
+use Rattle.table_edits.specs.Inner.{spliced}
 
 -- bytes in a part of their length leave the length
 pub length-put : (out bytes : List ℕ) (from to : ℕ) → from + length bytes ≡ to → to ≤ length out
@@ -71,19 +72,19 @@ module _ (s : List ℕ) (from to n : ℕ) (ordered : from ≤ to) (within : to �
 
   -- the part behind was moved to where the new bytes end, and these were put in their place
   pub digits-written : (hex : List ℕ) (end : ℕ) → end ≡ from + length hex → end + (n - to) ≤ length s
-      → put_mid from (end - from) (moved to n end s) hex ≡ spliced from to hex (take n s) ++ drop (end + (n - to)) s
+      → put_mid from (end - from) (copy_within s to n end) hex ≡ spliced from to hex (take n s) ++ drop (end + (n - to)) s
   digits-written hex end e room =
       let behind : List ℕ = part to (n - to) s ++ drop (end + (n - to)) s in
       let size = length-take-le end s (omega arith) in
-      let there : moved to n end s ≡ take end s ++ behind = append_assoc (take end s) (part to (n - to) s) (drop (end + (n - to)) s) in
-      let front : take from (moved to n end s) ≡ take from s =
+      let there : copy_within s to n end ≡ take end s ++ behind = append_assoc (take end s) (part to (n - to) s) (drop (end + (n - to)) s) in
+      let front : take from (copy_within s to n end) ≡ take from s =
       ap (take from) there ∙ take-append-le from (take end s) behind (omega arith) ∙ take-take from end s (omega arith) in
-      let back : drop end (moved to n end s) ≡ behind = ap (drop end) there ∙ drop_at (take end s) behind end size in
+      let back : drop end (copy_within s to n end) ≡ behind = ap (drop end) there ∙ drop_at (take end s) behind end size in
       let grouped : take from s ++ (hex ++ behind) ≡ take from s ++ hex ++ part to (n - to) s ++ drop (end + (n - to)) s = simp append_assoc in
-      ap₂ (λ (a : List ℕ) (b : List ℕ). a ++ (hex ++ b)) front (Post-is from end (moved to n end s) (omega arith) ∙ back)
+      ap₂ (λ (a : List ℕ) (b : List ℕ). a ++ (hex ++ b)) front (Post-is from end (copy_within s to n end) (omega arith) ∙ back)
       ∙ grouped ∙ ap (λ (r : List ℕ). r ++ drop (end + (n - to)) s) (sym (spliced-front hex))
 
-  pub cut_out : moved to n from s ≡ spliced from to [] (take n s) ++ drop (from + (n - to)) s
+  pub cut_out : copy_within s to n from ≡ spliced from to [] (take n s) ++ drop (from + (n - to)) s
   cut_out =
       ap (λ (r : List ℕ). r ++ part to (n - to) s ++ drop (from + (n - to)) s) (sym (append-nil (take from s)))
       ∙ ap (λ (r : List ℕ). r ++ drop (from + (n - to)) s) (sym (spliced-front []))

@@ -1,12 +1,10 @@
 -- Edits of a key table and of the list of its line starts (document 02, P1 and P6): a line is added, one identity's key replaced, one identity's line
 -- retired. Which lines there are then, and the tests that come first, in document 02's order: R2, R10, R5, R6 or R7, R8; R1, the room in the table's
 -- memory or in the list's, is last.
-use Rattle.std.specs.Prelude.{◌≡◌, ◌⊎◌, ℕ, ◌+◌, ◌-◌, ◌/◌, ◌%◌, ◌≤◌, ◌<◌, Bool, true, cond, ◌&&◌, List, [], ◌∷◌, ◌++◌, map, length, take, drop, leb, ltb}
-use Rattle.std.proofs.Math.Option.{Option, none, some}
+use Rattle.std.specs.Prelude.{◌≡◌, ◌⊎◌, ℕ, ◌+◌, ◌-◌, ◌/◌, ◌%◌, ◌≤◌, ◌<◌, Bool, true, cond, ◌&&◌, List, [], ◌∷◌, ◌++◌, map, length, take, drop, leb, ltb, Result, Option, None, Some}
 use Rattle.lists.specs.Lists.{any, same, Each}
 use Rattle.refusal.specs.declared.Refusal.{Refusal}
 use Rattle.refusal.specs.declared.Refusal.TheVariants.{ShortOutput, BadTable, BadValue, AlreadyListed, NotListed, TableFull}
-use Rattle.refusal.specs.declared.Written.{Written}
 use Rattle.refusal.specs.Lent.{Outcome, gives, refuses, within, Answers}
 use Rattle.keytable.specs.Table.{colon, lines, joined, identity_of, valid_identity, valid_secret, table_refusal}
 use Rattle.keytable.specs.Starts.{starts_of, list_refusal}
@@ -69,24 +67,24 @@ allowed e = valid_identity (subject e) && secret_allowed e
 
 -- R6 where the identity is to be added and is listed, R7 where it is to be replaced or retired and is not.
 abbrev pub misplaced : Edit → Bool → Option Refusal
-misplaced (add identity key) present = cond present (some AlreadyListed) none
-misplaced (replace identity key) present = cond present none (some NotListed)
-misplaced (retire identity) present = cond present none (some NotListed)
+misplaced (add identity key) present = cond present (Some AlreadyListed) None
+misplaced (replace identity key) present = cond present None (Some NotListed)
+misplaced (retire identity) present = cond present None (Some NotListed)
 
 -- R8: more than 256 lines, or a text of more than 65,536 bytes.
 abbrev pub sized : List (List ℕ) → Outcome
 sized ls = cond (leb (length ls) 256 && leb (length (joined ls)) 65536) (gives (joined ls)) (refuses TableFull)
 
 abbrev pub unless : Option Refusal → Outcome → Outcome
-unless none o = o
-unless (some r) o = refuses r
+unless None o = o
+unless (Some r) o = refuses r
 
 -- ---- an edit of a table
 
 unfoldable pub edited : Edit → List ℕ → Outcome
 edited e t =
     unless (table_refusal t)
-    (unless (cond (allowed e) none (some BadValue))
+    (unless (cond (allowed e) None (Some BadValue))
     (unless (misplaced e (listed (subject e) (lines t)))
     (sized (lines_after e (lines t)))))
 
@@ -114,7 +112,7 @@ count_after (gives t) count = length (lines t)
 count_after (refuses r) count = count
 
 -- A call that was lent a table's memory and a list said `said` and left memory', starts' and count'.
-pub record EditsBoth (wanted : Outcome) (memory starts : List ℕ) (count : ℕ) (said : Written) (memory' starts' : List ℕ) (count' : ℕ) : Type 0 where
+pub record EditsBoth (wanted : Outcome) (memory starts : List ℕ) (count : ℕ) (said : Result ℕ Refusal) (memory' starts' : List ℕ) (count' : ℕ) : Type 0 where
   pub table : Answers wanted memory said memory'
   pub list : starts' ≡ starts_after (within (length memory) wanted) starts
   pub counted : count' ≡ count_after (within (length memory) wanted) count
@@ -123,9 +121,9 @@ pub record EditsBoth (wanted : Outcome) (memory starts : List ℕ) (count : ℕ)
 
 -- the key that the identity has afterwards
 abbrev pub key_after : Edit → Option (List ℕ)
-key_after (add identity key) = some key
-key_after (replace identity key) = some key
-key_after (retire identity) = none
+key_after (add identity key) = Some key
+key_after (replace identity key) = Some key
+key_after (retire identity) = None
 
 -- The key, if there is one, is of bytes; a list of numbers need not be.
 abbrev pub OfBytes : Edit → Type 0

@@ -1,21 +1,11 @@
 -- What the contracts of this crate's private functions cite, and no public contract does.
-use Rattle.std.specs.Prelude.{◌≡◌, ℕ, ◌+◌, ◌-◌, ◌≤◌, ◌<◌, Bool, cond, ◌&&◌, List, ◌++◌, map, length, take, drop, get_or, leb}
-use Rattle.std.proofs.Math.Option.{Option, none, some}
-use Rattle.lists.specs.Lists.{part}
+use Rattle.std.specs.Prelude.{◌≡◌, ℕ, ◌+◌, ◌-◌, ◌≤◌, ◌<◌, Bool, cond, ◌&&◌, List, ◌++◌, map, length, take, drop, get_or, leb, Result, Ok, Err, Option, None, Some}
 use Rattle.refusal.specs.declared.Refusal.{Refusal}
 use Rattle.refusal.specs.declared.Refusal.TheVariants.{ShortOutput, BadTable, BadValue, TableFull}
 use Rattle.refusal.specs.Lent.{Outcome, gives, refuses}
-use Rattle.keytable.specs.declared.Judged.{Judged}
 use Rattle.keytable.specs.declared.entries.Hit.{Hit}
-use Rattle.keytable.specs.declared.entries.Hit.TheVariants.{Line, Nothing}
 use Rattle.keytable.specs.Table.{lines, joined, valid_identity}
 use Rattle.keytable.specs.Starts.{starts_of, list_refusal, placed}
-use Rattle.table_edits.specs.declared.Place.{Place}
-use Rattle.table_edits.specs.declared.Place.TheVariants.{At, Absent, Refused}
-
--- the memory with its part from `from` to `end` copied to `to`
-abbrev pub moved : ℕ → ℕ → ℕ → List ℕ → List ℕ
-moved from end to s = take to s ++ part from (end - from) s ++ drop (to + (end - from)) s
 
 -- the bytes in the place of those from `from` to `to`
 abbrev pub spliced : ℕ → ℕ → List ℕ → List ℕ → List ℕ
@@ -27,24 +17,20 @@ bounded t = cond (leb (length t) 65536) (gives t) (refuses TableFull)
 
 -- ---- the tests and the search that all edits begin with
 
-abbrev pub hit_place : Hit → Place
-hit_place (Line k from to) = At k from to
-hit_place Nothing = Absent
-
 -- R5, or where the identity's key stands by those starts
-abbrev pub sought_in : List ℕ → List ℕ → List ℕ → Bool → Place
-sought_in t starts identity secret = cond (valid_identity identity && secret) (hit_place (placed 0 identity t starts)) (Refused BadValue)
+abbrev pub sought_in : List ℕ → List ℕ → List ℕ → Bool → Result (Option Hit) Refusal
+sought_in t starts identity secret = cond (valid_identity identity && secret) (Ok (placed 0 identity t starts)) (Err BadValue)
 
-abbrev pub place_unless : Option Refusal → Place → Place
-place_unless none p = p
-place_unless (some r) p = Refused r
+abbrev pub place_unless : Option Refusal → Result (Option Hit) Refusal → Result (Option Hit) Refusal
+place_unless None p = p
+place_unless (Some r) p = Err r
 
 -- R2, R10, R5, or where the identity's key stands
-abbrev pub place_in : List ℕ → ℕ → List ℕ → ℕ → List ℕ → Bool → Place
+abbrev pub place_in : List ℕ → ℕ → List ℕ → ℕ → List ℕ → Bool → Result (Option Hit) Refusal
 place_in memory n starts count identity secret =
     cond (leb n (length memory))
     (place_unless (list_refusal (take n memory) starts count) (sought_in (take n memory) (take count starts) identity secret))
-    (Refused BadTable)
+    (Err BadTable)
 
 -- ---- lists of starts
 
@@ -72,5 +58,5 @@ Starting low high from count s = (i : ℕ) → from ≤ i → i < count → (low
 -- ---- sizes
 
 -- R8, then R1, for a table of so many bytes
-abbrev pub size_judged : ℕ → ℕ → Judged
-size_judged size room = cond (leb size 65536) (cond (leb size room) Judged.Good (Judged.Refused ShortOutput)) (Judged.Refused TableFull)
+abbrev pub size_judged : ℕ → ℕ → Result Unit Refusal
+size_judged size room = cond (leb size 65536) (cond (leb size room) (Ok tt) (Err ShortOutput)) (Err TableFull)

@@ -1,5 +1,5 @@
 // A key as hex digits in lower case, and the line of an identity and a key.
-ghost use Rattle.std.specs.Prelude.{◌≡◌, ◌++◌, ◌∷◌, [], ◌+◌, ◌*◌, ◌<◌, length, get_or};
+ghost use Rattle.std.specs.Prelude.{◌≡◌, ◌++◌, ◌∷◌, [], ◌+◌, ◌*◌, ◌<◌, length};
 ghost use Rattle.keytable.specs.Table.{line_end};
 ghost use Rattle.table_edits.specs.Edits.{lower_digit, lower_hex, line_with};
 
@@ -14,27 +14,14 @@ fn lower_digit(n: u8) -> u8
     97 + (n - 10)
 }
 
-// The i-th digit of the key.
-fn key_digit(key: &[u8], i: usize) -> u8
-    requires { i < 2 * length key.now }
-    ensures { result ≡ get_or (lower_hex key.now) i 0 }
-{
-    let b = key[i / 2];
-    if i % 2 == 0 {
-        return lower_digit(b / 16);
-    }
-    lower_digit(b % 16)
-}
-
 // The key's digits, in a part of their length.
 pub(crate) fn put_key(key: &[u8], out: &mut [u8])
     requires { length out.old ≡ 2 * length key.now }
     ensures { out.new ≡ lower_hex key.now }
 {
-    let mut i = 0;
-    while i < out.len() {
-        out[i] = key_digit(key, i);
-        i += 1;
+    for (i, b) in key.iter().enumerate() {
+        out[2 * i] = lower_digit(*b / 16);
+        out[2 * i + 1] = lower_digit(*b % 16);
     }
 }
 

@@ -9,7 +9,6 @@
 
 mod hex;
 mod list;
-mod moves;
 
 ghost use Rattle.std.specs.Prelude.{◌≡◌, true, ◌≤◌, take};
 ghost use Rattle.std.proofs.Math.ListN as ListN;
@@ -18,33 +17,18 @@ ghost use Rattle.keytable.specs.Table.{lines, ended};
 ghost use Rattle.table_edits.specs.Edits.{add, replace, retire, lines_after, edited_in, EditsBoth, lower_hex, roomed, sized};
 ghost use Rattle.table_edits.specs.Inner.{bounded, spliced, sought_in, place_in, size_judged, OwnList, Unbroken};
 
-use keytable::{Hit, Judged};
-use refusal::{Refusal, Written};
+use keytable::Hit;
+use refusal::Refusal;
 
-// Which of the lines is the identity's, and where its key stands, from its start to the line's end, if the
-// edit is not refused yet.
-#[derive(Drop)]
-enum Place {
-    At(usize, usize, usize),
-    Absent,
-    Refused(Refusal),
-}
-
-// The test of the edit's own bytes, and the search; `secret` says whether the key is allowed.
-fn seek(table: &[u8], starts: &[u32], identity: &[u8], secret: bool) -> Place
+// Which of the lines is the identity's, and where its key stands, from its start to the line's end: after the test of
+// the edit's own bytes, where `secret` says whether the key is allowed.
+fn seek(table: &[u8], starts: &[u32], identity: &[u8], secret: bool) -> Result<Option<Hit>, Refusal>
     ensures { result ≡ sought_in table.now starts.now identity.now secret }
 {
-    if !keytable::valid_identity(identity) {
-        return Place::Refused(Refusal::BadValue);
+    if !keytable::valid_identity(identity) || !secret {
+        return Err(Refusal::BadValue);
     }
-    if !secret {
-        return Place::Refused(Refusal::BadValue);
-    }
-    let hit = keytable::first_line(table, starts, identity);
-    match hit {
-        Hit::Line(k, from, to) => Place::At(k, from, to),
-        Hit::Nothing => Place::Absent,
-    }
+    Ok(keytable::first_line(table, starts, identity))
 }
 
 // What all edits begin with: the tests of table and list come before those of the edit.
@@ -55,31 +39,27 @@ fn locate(
     count: usize,
     identity: &[u8],
     secret: bool,
-) -> Place
+) -> Result<Option<Hit>, Refusal>
     ensures { result ≡ place_in memory.now length starts.now count identity.now secret }
 {
-    if memory.len() < length {
-        return Place::Refused(Refusal::BadTable);
-    }
-    let table = &memory[..length];
-    let both = keytable::judge(table, starts, count);
-    match both {
-        Judged::Good => seek(table, &starts[..count], identity, secret),
-        Judged::Refused(r) => Place::Refused(r),
-    }
+    let Some(table) = memory.get(..length) else {
+        return Err(Refusal::BadTable);
+    };
+    keytable::judge(table, starts, count)?;
+    seek(table, &starts[..count], identity, secret)
 }
 
 // Whether a table of so many bytes is short enough (R8), and the memory has room for it (R1).
-fn judge_size(size: usize, room: usize) -> Judged
+fn judge_size(size: usize, room: usize) -> Result<(), Refusal>
     ensures { result ≡ size_judged size room }
 {
     if 65536 < size {
-        return Judged::Refused(Refusal::TableFull);
+        return Err(Refusal::TableFull);
     }
     if room < size {
-        return Judged::Refused(Refusal::ShortOutput);
+        return Err(Refusal::ShortOutput);
     }
-    Judged::Good
+    Ok(())
 }
 
 // The line behind the last one, and its start behind the others, where there is room for both. A list's count
@@ -91,7 +71,7 @@ fn append(
     count: &mut usize,
     identity: &[u8],
     key: &[u8],
-) -> Written
+) -> Result<usize, Refusal>
     requires length_len_bound { length ≤ ListN.length memory.old }
     requires length_len_bound_2 { length ≤ 65536 }
     requires memory_value { ended (take length memory.old) ≡ true }
@@ -104,26 +84,27 @@ fn append(
 {
     let lines = *count;
     if 256 <= lines {
-        return Written::Refused(Refusal::TableFull);
+        return Err(Refusal::TableFull);
     }
     let end = length + identity.len() + 2 * key.len() + 2;
-    let size = judge_size(end, memory.len());
-    match size {
-        Judged::Good => {
-            if starts.len() <= lines {
-                return Written::Refused(Refusal::ShortOutput);
-            }
-            hex::put_line(identity, key, &mut memory[length..end]);
-            starts[lines] = length as u32;
-            *count = lines + 1;
-            Written::Wrote(end)
-        }
-        Judged::Refused(r) => Written::Refused(r),
+    judge_size(end, memory.len())?;
+    if starts.len() <= lines {
+        return Err(Refusal::ShortOutput);
     }
+    hex::put_line(identity, key, &mut memory[length..end]);
+    starts[lines] = length as u32;
+    *count = lines + 1;
+    Ok(end)
 }
 
 // The key's digits in the place of those from `from` to `to`, where there is room for them.
-fn put_digits(memory: &mut [u8], length: usize, from: usize, to: usize, key: &[u8]) -> Written
+fn put_digits(
+    memory: &mut [u8],
+    length: usize,
+    from: usize,
+    to: usize,
+    key: &[u8],
+) -> Result<usize, Refusal>
     requires length_len_bound { length ≤ ListN.length memory.old }
     requires length_len_bound_2 { length ≤ 65536 }
     requires from_le_to { from ≤ to }
@@ -134,15 +115,10 @@ fn put_digits(memory: &mut [u8], length: usize, from: usize, to: usize, key: &[u
 {
     let digits_end = from + 2 * key.len();
     let new_length = digits_end + (length - to);
-    let size = judge_size(new_length, memory.len());
-    match size {
-        Judged::Good => {
-            moves::shift(memory, to, length, digits_end);
-            hex::put_key(key, &mut memory[from..digits_end]);
-            Written::Wrote(new_length)
-        }
-        Judged::Refused(r) => Written::Refused(r),
-    }
+    judge_size(new_length, memory.len())?;
+    memory.copy_within(to..length, digits_end);
+    hex::put_key(key, &mut memory[from..digits_end]);
+    Ok(new_length)
 }
 
 // The line of the identity and the key, as the table's last one. R2, R10, R5, R6 where the identity is listed
@@ -154,7 +130,7 @@ pub fn add(
     count: &mut usize,
     identity: &[u8],
     key: &[u8],
-) -> Written
+) -> Result<usize, Refusal>
     ensures { EditsBoth (edited_in memory.old length starts.old count.old (add identity.now key.now))
         memory.old starts.old count.old result memory.new starts.new count.new }
 {
@@ -165,11 +141,10 @@ pub fn add(
         *count,
         identity,
         keytable::valid_secret(key),
-    );
+    )?;
     match found {
-        Place::At(_, _, _) => Written::Refused(Refusal::AlreadyListed),
-        Place::Absent => append(memory, length, starts, count, identity, key),
-        Place::Refused(r) => Written::Refused(r),
+        Some(_) => Err(Refusal::AlreadyListed),
+        None => append(memory, length, starts, count, identity, key),
     }
 }
 
@@ -181,7 +156,7 @@ pub fn replace(
     count: &mut usize,
     identity: &[u8],
     key: &[u8],
-) -> Written
+) -> Result<usize, Refusal>
     ensures { EditsBoth (edited_in memory.old length starts.old count.old (replace identity.now key.now))
         memory.old starts.old count.old result memory.new starts.new count.new }
 {
@@ -192,21 +167,13 @@ pub fn replace(
         *count,
         identity,
         keytable::valid_secret(key),
-    );
-    match found {
-        Place::At(k, from, to) => {
-            let written = put_digits(memory, length, from, to, key);
-            match written {
-                Written::Wrote(n) => {
-                    list::follow(starts, k + 1, *count, k + 1, to, from + 2 * key.len());
-                    Written::Wrote(n)
-                }
-                Written::Refused(r) => Written::Refused(r),
-            }
-        }
-        Place::Absent => Written::Refused(Refusal::NotListed),
-        Place::Refused(r) => Written::Refused(r),
-    }
+    )?;
+    let Some(Hit { line, from, to }) = found else {
+        return Err(Refusal::NotListed);
+    };
+    let n = put_digits(memory, length, from, to, key)?;
+    list::follow(starts, line + 1, *count, line + 1, to, from + 2 * key.len());
+    Ok(n)
 }
 
 // The table without the identity's line. R2, R10, R5, R7 where the identity is not listed. The bytes
@@ -217,21 +184,18 @@ pub fn retire(
     starts: &mut [u32],
     count: &mut usize,
     identity: &[u8],
-) -> Written
+) -> Result<usize, Refusal>
     ensures { EditsBoth (edited_in memory.old length starts.old count.old (retire identity.now))
         memory.old starts.old count.old result memory.new starts.new count.new }
 {
-    let found = locate(memory, length, starts, *count, identity, true);
-    match found {
-        Place::At(k, from, to) => {
-            let start = from - 1 - identity.len();
-            let next = to + 1;
-            moves::shift(memory, next, length, start);
-            list::follow(starts, k + 1, *count, k, next, start);
-            *count = *count - 1;
-            Written::Wrote(start + (length - next))
-        }
-        Place::Absent => Written::Refused(Refusal::NotListed),
-        Place::Refused(r) => Written::Refused(r),
-    }
+    let found = locate(memory, length, starts, *count, identity, true)?;
+    let Some(Hit { line, from, to }) = found else {
+        return Err(Refusal::NotListed);
+    };
+    let start = from - 1 - identity.len();
+    let next = to + 1;
+    memory.copy_within(next..length, start);
+    list::follow(starts, line + 1, *count, line, next, start);
+    *count -= 1;
+    Ok(start + (length - next))
 }

@@ -2,8 +2,7 @@
 ghost use Rattle.std.specs.Prelude.{◌≡◌, ◌≤◌, length};
 ghost use Rattle.table_edits.specs.Inner.{restarted, Starting};
 
-// The starts from the `from`-th on come to the place `to`, each as far behind `new` as it was behind `old`. They
-// move to the front or stay, so the first one goes first: no start is overwritten before it is read.
+// The starts from the `from`-th on come to the place `to`, each as far behind `new` as it was behind `old`.
 pub(crate) fn follow(
     starts: &mut [u32],
     from: usize,
@@ -22,10 +21,8 @@ pub(crate) fn follow(
 {
     let less = old as u32;
     let more = new as u32;
-    let n = count - from;
-    let mut i = 0;
-    while i < n {
-        starts[to + i] = starts[from + i] - less + more;
-        i += 1;
+    starts.copy_within(from..count, to);
+    for start in &mut starts[to..to + (count - from)] {
+        *start = *start - less + more;
     }
 }

@@ -11,8 +11,7 @@
 
 ghost use Rattle.std.specs.Prelude.{◌≤◌, IfOk};
 
-use keytable::Judged;
-use refusal::Written;
+use refusal::Refusal;
 use std::io;
 use std::io::{Read, Write};
 
@@ -43,10 +42,7 @@ fn list_room(input: &mut impl Read) -> io::Result<usize>
     ensures { IfOk result (λ n. n ≤ 300) }
 {
     let n = lines::number16(input)?;
-    if 300 < n {
-        return Ok(300);
-    }
-    Ok(n)
+    Ok(n.min(300))
 }
 
 // The number in the next four bytes.
@@ -87,12 +83,12 @@ fn print_list(output: &mut impl Write, starts: &[u32]) -> io::Result<()> {
 }
 
 // A number, or the refusal.
-fn print_number(output: &mut impl Write, said: Written) -> io::Result<()> {
+fn print_number(output: &mut impl Write, said: Result<usize, Refusal>) -> io::Result<()> {
     match said {
-        Written::Wrote(n) => {
+        Ok(n) => {
             lines::number(output, n)?;
         }
-        Written::Refused(r) => {
+        Err(r) => {
             lines::refused(output, r)?;
         }
     }
@@ -122,12 +118,11 @@ fn print_judged(
     count: usize,
 ) -> io::Result<()> {
     lines::text(output, name)?;
-    let judged = keytable::judge(table, starts, count);
-    match judged {
-        Judged::Good => {
+    match keytable::judge(table, starts, count) {
+        Ok(()) => {
             lines::text(output, b": its list")?;
         }
-        Judged::Refused(r) => {
+        Err(r) => {
             lines::text(output, b": ")?;
             lines::refused(output, r)?;
         }
@@ -147,12 +142,11 @@ fn print_key(
 ) -> io::Result<()> {
     lines::hex(output, identity)?;
     lines::text(output, b" ")?;
-    let answer = keytable::lookup(table, starts, count, identity, room);
-    match answer {
-        Written::Wrote(n) => {
+    match keytable::lookup(table, starts, count, identity, room) {
+        Ok(n) => {
             lines::hex(output, lines::part(room, 0, n))?;
         }
-        Written::Refused(r) => {
+        Err(r) => {
             lines::refused(output, r)?;
         }
     }
@@ -177,7 +171,7 @@ fn edit(
     count: &mut usize,
     identity: &[u8],
     key: &[u8],
-) -> Written {
+) -> Result<usize, Refusal> {
     match kind {
         4 => table_edits::add(memory, length, starts, count, identity, key),
         5 => table_edits::replace(memory, length, starts, count, identity, key),
@@ -186,7 +180,11 @@ fn edit(
 }
 
 // The new length or the refusal, and the memory afterwards; that of a long table is not printed.
-fn print_said(output: &mut impl Write, said: Written, memory: &[u8]) -> io::Result<()> {
+fn print_said(
+    output: &mut impl Write,
+    said: Result<usize, Refusal>,
+    memory: &[u8],
+) -> io::Result<()> {
     print_number(output, said)?;
     if memory.len() <= 512 {
         lines::text(output, b" [")?;

@@ -6,7 +6,7 @@ use mathlib.Core.Logic.{◌↔◌}
 use Prim.Native.Nat.{ℕ}
 use mathlib.Core.Bool.{true, false}
 use mathlib.Core.List.{List, [], ◌∷◌, ◌++◌, append-nil, append_assoc}
-use mathlib.Core.Option.{Option, some}
+use Rattle.std.specs.Prelude.{Option, Some}
 use Rattle.handshake.specs.Series.{Call, message, change_of_cipher, IgnoredWarning}
 use Rattle.server.specs.declared.Rule.{Rule}
 use Rattle.server.specs.declared.Phase.{Phase}
@@ -31,7 +31,7 @@ IsComplete Phase.Finished = ⊥
 IsComplete Phase.Complete = Unit
 IsComplete Phase.Closed = ⊥
 
-listed-known : (rule : Rule) (found : Option (List ℕ)) (key : List ℕ) → found ≡ some key → unknown rule found ≡ false
+listed-known : (rule : Rule) (found : Option (List ℕ)) (key : List ℕ) → found ≡ Some key → unknown rule found ≡ false
 listed-known Rule.Tell found key e = rw e
 listed-known Rule.Hide found key e = refl
 

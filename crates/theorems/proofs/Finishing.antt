@@ -7,10 +7,10 @@ use native.Mathlib.Omega.{arith}
 use native.Mathlib.Decide.{dec_le}
 use mathlib.Core.Bool.{Bool, true, false, and-eq-true_iff}
 use mathlib.Core.List.{List, ◌++◌, append-nil}
-use mathlib.Core.Option.{Option, none, some}
 use lib.ListN.{length, length-append}
 use lib.Dec.{leb, eqb}
 use borrow.Author.Tests.{leb-true, eqb-true}
+use Rattle.std.specs.Prelude.{Option, None, Some}
 use Rattle.refusal.specs.Lent.{gives}
 use Rattle.refusal.specs.Table.{to_peer}
 use Rattle.refusal.specs.declared.Refusal.{Refusal}
@@ -54,13 +54,13 @@ pub record Right (s : Settings) {hello : List ℕ} (legal : LegalHello s.suites 
     (m : List ℕ) : Type 0 where
   pub finished : LegalFinished m
   pub key : List ℕ
-  pub listed : found ≡ some key
+  pub listed : found ≡ Some key
   pub right : value_under s legal exchange key ≡ gives finished.value
 
 -- what a Finished is refused with that isn't right
 abbrev wrong_of : Refusal → Option (List ℕ) → Refusal
-wrong_of r none = r
-wrong_of r (some value) = DecryptError
+wrong_of r None = r
+wrong_of r (Some value) = DecryptError
 
 abbrev pub wrong : List ℕ → Refusal
 wrong m = wrong_of (unread 20 m) (read_fixed 20 12 m)
@@ -69,8 +69,8 @@ pub wrong-alerts : (m : List ℕ) → to_peer (wrong m) ≡ true
 wrong-alerts m = go (read_fixed 20 12 m)
   where
     go : (o : Option (List ℕ)) → to_peer (wrong_of (unread 20 m) o) ≡ true
-    go none = unread-alerts 20 m
-    go (some value) = refl
+    go None = unread-alerts 20 m
+    go (Some value) = refl
 
 flight-short : (s : Settings) → acceptable s ≡ true → (suite : ℕ) → length (flight_bytes (flight s.random s.hint suite)) ≤ 180
 flight-short s ok suite =
@@ -89,28 +89,28 @@ module _ (s : Settings) (v : View) {hello : List ℕ} (legal : LegalHello s.suit
       ∙ sym (absorb-append fresh hello (flight_to s legal ++ exchange) ∙ absorb-append (absorb fresh hello) (flight_to s legal) exchange)
 
   value-compared : (key value : List ℕ)
-      → is_value value (finished_of Client (keyed s legal exchange (some key)).secrets.master (keyed s legal exchange (some key)).transcript)
+      → is_value value (finished_of Client (keyed s legal exchange (Some key)).secrets.master (keyed s legal exchange (Some key)).transcript)
       ≡ is_value value (value_under s legal exchange key)
   unfolding started
   value-compared key value =
-      compared (master_under key legal.fields.random s.random) (keyed s legal exchange (some key)).transcript messages transcript-is value
+      compared (master_under key legal.fields.random s.random) (keyed s legal exchange (Some key)).transcript messages transcript-is value
 
   judged-other : (found : Option (List ℕ)) (m value : List ℕ)
-      → ((key : List ℕ) × (found ≡ some key) × (value_under s legal exchange key ≡ gives value))
+      → ((key : List ℕ) × (found ≡ Some key) × (value_under s legal exchange key ≡ gives value))
       ⊎ (judged (changed s legal exchange found) m value ≡ refuse DecryptError)
-  judged-other none m value = inr refl
-  judged-other (some key) m value = go (is_value value (value_under s legal exchange key)) refl
+  judged-other None m value = inr refl
+  judged-other (Some key) m value = go (is_value value (value_under s legal exchange key)) refl
     where
       go : (b : Bool) → is_value value (value_under s legal exchange key) ≡ b
-          → ((k : List ℕ) × (some key ≡ some k) × (value_under s legal exchange k ≡ gives value))
-          ⊎ (judged (changed s legal exchange (some key)) m value ≡ refuse DecryptError)
+          → ((k : List ℕ) × (Some key ≡ Some k) × (value_under s legal exchange k ≡ gives value))
+          ⊎ (judged (changed s legal exchange (Some key)) m value ≡ refuse DecryptError)
       go true e = inl (key, refl, is-value value (value_under s legal exchange key) e)
       go false e = inr (rw (value-compared key value, e))
 
   judged-right : acceptable s ≡ true → LegalKeyExchange exchange → (m key value : List ℕ) → length m ≤ message_limit
       → value_under s legal exchange key ≡ gives value
       → (own : List ℕ) × (length own ≡ 12)
-      × (judged (changed s legal exchange (some key)) m value ≡ accept (finished_flight own) (ended Phase.Complete))
+      × (judged (changed s legal exchange (Some key)) m value ≡ accept (finished_flight own) (ended Phase.Complete))
   unfolding started
   judged-right ok legal-exchange m key value fits right =
       let last : length exchange ≤ message_limit =
@@ -122,9 +122,9 @@ module _ (s : Settings) (v : View) {hello : List ℕ} (legal : LegalHello s.suit
       let few : length messages + length m ≤ 65536 =
       rw (length-append hello (flight_to s legal ++ exchange), length-append (flight_to s legal) exchange) (omega arith) in
       let secret = master_under key legal.fields.random s.random in
-      let own = servers-value secret (keyed s legal exchange (some key)).transcript messages transcript-is value m few right in
-      let same : is_value value (finished_of Client (keyed s legal exchange (some key)).secrets.master
-      (keyed s legal exchange (some key)).transcript) ≡ true =
+      let own = servers-value secret (keyed s legal exchange (Some key)).transcript messages transcript-is value m few right in
+      let same : is_value value (finished_of Client (keyed s legal exchange (Some key)).secrets.master
+      (keyed s legal exchange (Some key)).transcript) ≡ true =
       value-compared key value ∙ value-is value (value_under s legal exchange key) right in
       (own.0, own.1, rw (same, own.2))
 
@@ -140,8 +140,8 @@ module _ (s : Settings) (v : View) {hello : List ℕ} (legal : LegalHello s.suit
     pub finished-other : (m : List ℕ) → Right s legal exchange found m ⊎ (finished_step m ≡ refuse (wrong m))
     finished-other m = of-read (read_fixed 20 12 m) refl
       where
-        of-value : (value : List ℕ) → read_fixed 20 12 m ≡ some value
-            → ((key : List ℕ) × (found ≡ some key) × (value_under s legal exchange key ≡ gives value))
+        of-value : (value : List ℕ) → read_fixed 20 12 m ≡ Some value
+            → ((key : List ℕ) × (found ≡ Some key) × (value_under s legal exchange key ≡ gives value))
             ⊎ (judged (changed s legal exchange found) m value ≡ refuse DecryptError)
             → Right s legal exchange found m ⊎ (finished_step m ≡ refuse (wrong m))
         of-value value read (inl right) =
@@ -149,8 +149,8 @@ module _ (s : Settings) (v : View) {hello : List ℕ} (legal : LegalHello s.suit
         of-value value read (inr refused) = inr (finished-read m ∙ rw read refused)
 
         of-read : (o : Option (List ℕ)) → read_fixed 20 12 m ≡ o → Right s legal exchange found m ⊎ (finished_step m ≡ refuse (wrong m))
-        of-read none read = inr (finished-read m ∙ rw read)
-        of-read (some value) read = of-value value read (judged-other found m value)
+        of-read None read = inr (finished-read m ∙ rw read)
+        of-read (Some value) read = of-value value read (judged-other found m value)
 
     pub finished-right : acceptable s ≡ true → LegalKeyExchange exchange → (m : List ℕ) → Right s legal exchange found m
         → (own : List ℕ) × (length own ≡ 12) × (finished_step m ≡ accept (finished_flight own) (ended Phase.Complete))

@@ -8,8 +8,8 @@ use mathlib.Core.List.{List, ◌∷◌, map}
 use lib.Dec.{leb}
 use lib.IntN.{ℤ}
 use native.Mathlib.Omega.{arith}
+use Rattle.std.specs.Prelude.{Ok, Err}
 use Rattle.refusal.specs.declared.Refusal.{Refusal}
-use Rattle.refusal.specs.declared.Written.TheVariants.{Wrote, Refused}
 use Rattle.handshake.specs.Series.{Call}
 use Rattle.server.specs.declared.Phase.{Phase}
 use Rattle.server.specs.declared.Connection.{Connection}
@@ -48,7 +48,7 @@ module _ (v : View) where
 
 -- ---- the start
 
-refused-wrote : {r : Refusal} {n : ℕ} → Refused r ≡ Wrote n → ⊥
+refused-wrote : {r : Refusal} {n : ℕ} → Err r ≡ Ok n → ⊥
 refused-wrote e = let z : ◌≡◌ {A = ℕ} 0 1 = cc in omega arith
 
 -- 0 is returned only where the settings are acceptable, and the bytes are the connection that such a start gives
@@ -56,22 +56,22 @@ module _ (random hint stand_in : List ℕ) (rule : ℕ) where
   abbrev settings : Settings
   settings = settings_of random hint stand_in rule
 
-  accepted : Wrote 0 ≡ (start_call random hint stand_in rule).said
-      → (acceptable settings ≡ true) × (start_call random hint stand_in rule ≡ record { said = Wrote 0; next = started settings })
+  accepted : Ok 0 ≡ (start_call random hint stand_in rule).said
+      → (acceptable settings ≡ true) × (start_call random hint stand_in rule ≡ record { said = Ok 0; next = started settings })
   accepted e = go (leb rule 2) (acceptable settings) refl e
     where
       go : (a b : Bool) → acceptable settings ≡ b
-          → Wrote 0 ≡ (cond a (cond b (record { said = Wrote 0; next = started settings }) bad_setting) bad_setting).said
+          → Ok 0 ≡ (cond a (cond b (record { said = Ok 0; next = started settings }) bad_setting) bad_setting).said
           → (acceptable settings ≡ true)
-          × (cond a (cond (acceptable settings) (record { said = Wrote 0; next = started settings }) bad_setting) bad_setting
-          ≡ record { said = Wrote 0; next = started settings })
+          × (cond a (cond (acceptable settings) (record { said = Ok 0; next = started settings }) bad_setting) bad_setting
+          ≡ record { said = Ok 0; next = started settings })
       go true true ok e = (ok, rw ok)
       go true false ok e = absurd (refused-wrote (sym e))
       go false b ok e = absurd (refused-wrote (sym e))
 
   begun : {bytes : List ℕ} → Started random hint stand_in rule bytes → (acceptable settings ≡ true) × (restored bytes ≡ (start_answer settings).next)
   begun (before, starts) =
-      let said = codes-apart (Wrote 0) (start_call random hint stand_in rule).said starts.told in
+      let said = codes-apart (Ok 0) (start_call random hint stand_in rule).said starts.told in
       let all = accepted said in
       (all.0, starts.reads (sym said) ∙ ap (λ (a : Answer). a.next) all.1 ∙ rw all.0)
 

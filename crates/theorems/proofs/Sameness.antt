@@ -7,7 +7,8 @@ use Prim.Native.Nat.{ℕ}
 use native.Mathlib.Omega.{arith}
 use mathlib.Core.Bool.{Bool, true, false, true≢false}
 use mathlib.Core.List.{List, [], ◌∷◌, ◌++◌, append_assoc, append-nil}
-use mathlib.Core.Option.{Option, none, some, none-ne-some}
+use Rattle.std.proofs.lemmas.Option.{none-some}
+use Rattle.std.specs.Prelude.{Option, None, Some}
 use Rattle.messages.specs.KeyExchange.{read_vector}
 use Rattle.lists.specs.Lists.{same, Each}
 use Rattle.keytable.specs.Table.{key_of}
@@ -20,7 +21,6 @@ use Rattle.handshake.specs.Flight.{silence}
 use Rattle.handshake.specs.Series.{Call, message, change_of_cipher, alert, IgnoredWarning}
 use Rattle.handshake.specs.Step.{refuse, accept, outcome}
 use Rattle.server.specs.declared.Rule.{Rule}
-use Rattle.server.specs.declared.Named.{Named}
 use Rattle.server.specs.declared.Phase.{Phase}
 use Rattle.server.specs.declared.Connection.{Connection}
 use Rattle.server.specs.Connection.{Settings, rule_of, acceptable, started, start_answer, ended}
@@ -82,13 +82,13 @@ data Together (s : Settings) (v v' : View) (Set : List ℕ → Type 0) (calls : 
       → Together s v v' Set calls c c'
 
 module _ (s : Settings) (ok : acceptable s ≡ true) (hide : rule_of s.named ≡ Rule.Hide) (Set : List ℕ → Type 0) (v v' : View)
-    (good : v.refusal ≡ none)
-    (good' : v'.refusal ≡ none) (agree : AgreeOutside Set v v') where
+    (good : v.refusal ≡ None)
+    (good' : v'.refusal ≡ None) (agree : AgreeOutside Set v v') where
   -- ---- what came is the same for both
 
   never-bad : (x : Call) → Aside (BadTableCall v) x → Aside (BadTableCall v') x
   never-bad x (inl warning) = inl warning
-  never-bad x (inr bad) = absurd (none-ne-some bad.refusal (sym good ∙ bad.bad))
+  never-bad x (inr bad) = absurd (none-some bad.refusal (sym good ∙ bad.bad))
 
   abbrev exchange-too : {calls : List Call} → KeyExchangeCame s v calls → KeyExchangeCame s v' calls
   exchange-too k = record {
@@ -149,14 +149,14 @@ module _ (s : Settings) (ok : acceptable s ≡ true) (hide : rule_of s.named ≡
     abbrev here : Connection
     here = helloed s came.legal
 
-    exchange-same : (m : List ℕ) → ((i : List ℕ) → read_vector 16 m ≡ some i → v.lookup i ≡ v'.lookup i)
+    exchange-same : (m : List ℕ) → ((i : List ℕ) → read_vector 16 m ≡ Some i → v.lookup i ≡ v'.lookup i)
         → message_step v here m Phase.KeyExchange ≡ message_step v' here m Phase.KeyExchange
     exchange-same m alike = exchange-read s v came.legal m good ∙ go (read_vector 16 m) alike ∙ sym (exchange-read s v' came.legal m good')
       where
-        go : (o : Option (List ℕ)) → ((i : List ℕ) → o ≡ some i → v.lookup i ≡ v'.lookup i)
+        go : (o : Option (List ℕ)) → ((i : List ℕ) → o ≡ Some i → v.lookup i ≡ v'.lookup i)
             → or_refuse (unread 16 m) (λ i. key_found here m (v.lookup i)) o ≡ or_refuse (unread 16 m) (λ i. key_found here m (v'.lookup i)) o
-        go none h = refl
-        go (some i) h = ap (key_found here m) (h i refl)
+        go None h = refl
+        go (Some i) h = ap (key_found here m) (h i refl)
 
     -- from here on the connections differ
     names-one : (m out : List ℕ) (legal : LegalKeyExchange m) → Set legal.identity → Goes calls (message m out) here here
@@ -165,11 +165,11 @@ module _ (s : Settings) (ok : acceptable s ≡ true) (hide : rule_of s.named ≡
       changing (calls ++ (message m out ∷ [])) now [] (sym (append-nil _)) tt set (next v good) (next v' good'),
     )
       where
-        accepted : (w : View) → w.refusal ≡ none
+        accepted : (w : View) → w.refusal ≡ None
             → message_step w here m Phase.KeyExchange ≡ accept silence (keyed s came.legal m (w.lookup legal.identity))
         accepted w h = exchange-legal s w came.legal h legal ∙ rw hide
 
-        next : (w : View) → w.refusal ≡ none → (call w here (message m out)).next ≡ keyed s came.legal m (w.lookup legal.identity)
+        next : (w : View) → w.refusal ≡ None → (call w here (message m out)).next ≡ keyed s came.legal m (w.lookup legal.identity)
         next w h = accepted-next (ended Phase.Closed) here out _ silence _ (accepted w h) (omega arith)
 
         now : KeyExchangeCame s v (calls ++ (message m out ∷ []))
@@ -178,16 +178,16 @@ module _ (s : Settings) (ok : acceptable s ≡ true) (hide : rule_of s.named ≡
     exchange-on : (x : Call) → Goes calls x here here
     exchange-on (message m out) = of-read (read_vector 16 m) refl
       where
-        alike : ((i : List ℕ) → read_vector 16 m ≡ some i → v.lookup i ≡ v'.lookup i) → Goes calls (message m out) here here
+        alike : ((i : List ℕ) → read_vector 16 m ≡ Some i → v.lookup i ≡ v'.lookup i) → Goes calls (message m out) here here
         alike h = same-on calls (message m out) here (ap (settled here out) (exchange-same m h))
 
-        of-identity : (i : List ℕ) → read_vector 16 m ≡ some i → (v.lookup i ≡ v'.lookup i) ⊎ Set i → Goes calls (message m out) here here
+        of-identity : (i : List ℕ) → read_vector 16 m ≡ Some i → (v.lookup i ≡ v'.lookup i) ⊎ Set i → Goes calls (message m out) here here
         of-identity i read (inl e) = alike (λ j read'. let is : i ≡ j = cc in rw (← is) e)
         of-identity i read (inr set) = names-one m out (record { identity = i; read = read }) set
 
         of-read : (o : Option (List ℕ)) → read_vector 16 m ≡ o → Goes calls (message m out) here here
-        of-read none read = alike (λ i read'. absurd (none-ne-some i (sym read ∙ read')))
-        of-read (some i) read = of-identity i read (agree i)
+        of-read None read = alike (λ i read'. absurd (none-some i (sym read ∙ read')))
+        of-read (Some i) read = of-identity i read (agree i)
     exchange-on change_of_cipher = same-on calls change_of_cipher here refl
     exchange-on (alert level description) = same-on calls (alert level description) here refl
 
@@ -317,7 +317,7 @@ module _ (s : Settings) (ok : acceptable s ≡ true) (hide : rule_of s.named ≡
 
 -- ---- from the start on
 
-pub hides : (named : Named) → Hiding named → rule_of named ≡ Rule.Hide
+pub hides : (named : Option Rule) → Hiding named → rule_of named ≡ Rule.Hide
 hides named (inl e) = rw e
 hides named (inr e) = rw e
 
@@ -350,9 +350,9 @@ sameness s s' alike ok hide hide' identity table without removed good good' star
     -- the second table has no key for it
     unlisted : (i : List ℕ) → i ≡ identity → (before : List Call) (x : Call) → ¬ JudgedRight s (view_of without starts' count') i before x
     unlisted i is before x judged =
-        let gone : key_of without identity ≡ none = removed-gone identity table without removed good in
-        let found : key_of without identity ≡ some judged.right.key = rw (← is, ← judged.names) judged.right.listed in
-        none-ne-some judged.right.key (sym gone ∙ found)
+        let gone : key_of without identity ≡ None = removed-gone identity table without removed good in
+        let found : key_of without identity ≡ Some judged.right.key = rw (← is, ← judged.names) judged.right.listed in
+        none-some judged.right.key (sym gone ∙ found)
 
     never-judged : NoneJudgedRightOf (λ i. i ≡ identity) s (view_of table starts count) (view_of without starts' count') calls
     never-judged i is = (rw is never, λ before x after split. unlisted i is before x)

@@ -8,15 +8,14 @@ use native.Mathlib.Omega.{arith}
 use native.Mathlib.Decide.{dec_le}
 use mathlib.Core.Bool.{Bool, true, false, cond}
 use mathlib.Core.List.{List}
-use mathlib.Core.Option.{Option, none, some}
 use lib.ListN.{length, replicate}
 use lib.Seq.{take-append_seam}
 use lib.Dec.{ltb}
+use Rattle.std.specs.Prelude.{Result, Ok, Err, Option, None, Some}
 use Rattle.refusal.specs.declared.Refusal.{Refusal}
 use Rattle.refusal.specs.Table.{to_peer}
 use Rattle.refusal.specs.declared.Refusal.TheVariants.{UnexpectedMessage, HandshakeFailure, IllegalParameter, DecodeError, ProtocolVersion}
 use Rattle.refusal.specs.declared.Refusal.TheVariants.{UnknownPskIdentity}
-use Rattle.layout.specs.declared.Verdict.{Verdict}
 use Rattle.layout.specs.Header.{header}
 use Rattle.layout.specs.Place.{last_at, after_header, contents}
 use Rattle.hellos.specs.ClientHello.{ClientHello, client_header, client_fields, read_client_hello}
@@ -66,7 +65,7 @@ module _ (s : Settings) (v : View) where
   abbrev hello_step : List ℕ → Step
   hello_step m = message_step v (started s) m Phase.Hello
 
-  pub hello-read : (m : List ℕ) → hello_step m ≡ or_refuse (unread 1 m) (λ f. hello_fields (started s) m (some f)) (read_client_hello m)
+  pub hello-read : (m : List ℕ) → hello_step m ≡ or_refuse (unread 1 m) (λ f. hello_fields (started s) m (Some f)) (read_client_hello m)
   hello-read m = step-read (λ h. client_fields m (client_header m h)) (λ r. refl) (hello_fields (started s) m) refl (header 1 m)
 
   pub hello-legal : {m : List ℕ} (legal : LegalHello s.suites m) → hello_step m ≡ accept (answer_to s legal) (helloed s legal)
@@ -79,21 +78,21 @@ module _ (s : Settings) (v : View) where
   unfolding started
   hello-other m = of-read (read_client_hello m) refl
     where
-      step : (f : ClientHello) → read_client_hello m ≡ some f → hello_step m ≡ hello_fields (started s) m (some f)
+      step : (f : ClientHello) → read_client_hello m ≡ Some f → hello_step m ≡ hello_fields (started s) m (Some f)
       step f read = hello-read m ∙ rw read
 
-      of_fields : (f : ClientHello) → read_client_hello m ≡ some f → Dec (0x0303 ≤ f.version) → (b : Bool) → offers_null f.methods ≡ b
+      of_fields : (f : ClientHello) → read_client_hello m ≡ Some f → Dec (0x0303 ≤ f.version) → (b : Bool) → offers_null f.methods ≡ b
           → (o : Option ℕ) → chosen (started s).setup.suites f.suites ≡ o → LegalHello s.suites m ⊎ Alerts (hello_step m)
       of_fields f read (no old) b null o common = inr (ProtocolVersion, step f read ∙ version-old (started s) m f (omega arith), refl)
       of_fields f read (yes version) false null o common = inr (IllegalParameter, step f read ∙ null-missing (started s) m f version null, refl)
-      of_fields f read (yes version) true null none common =
+      of_fields f read (yes version) true null None common =
           inr (HandshakeFailure, step f read ∙ null-there (started s) m f version null ∙ ap (hello_chosen (started s) m f) common, refl)
-      of_fields f read (yes version) true null (some suite) common =
+      of_fields f read (yes version) true null (Some suite) common =
           inl (record { fields = f; read = read; version = version; null = null; suite = suite; common = common })
 
       of-read : (o : Option ClientHello) → read_client_hello m ≡ o → LegalHello s.suites m ⊎ Alerts (hello_step m)
-      of-read none read = inr (unread 1 m, hello-read m ∙ rw read, unread-alerts 1 m)
-      of-read (some f) read =
+      of-read None read = inr (unread 1 m, hello-read m ∙ rw read, unread-alerts 1 m)
+      of-read (Some f) read =
           of_fields f read (dec_le 0x0303 f.version) (offers_null f.methods) refl (chosen (started s).setup.suites f.suites) refl
 
   pub hello-stays : (x : Call) → Aside (ShortHello s) x → (call v (started s) x).next ≡ started s
@@ -128,12 +127,12 @@ module _ (s : Settings) (v : View) where
 
 -- the key that the master secret is made of, by what the table has for the identity
 abbrev key_used : Settings → Option (List ℕ) → List ℕ
-key_used s none = (started s).setup.stand_in
-key_used s (some key) = key
+key_used s None = (started s).setup.stand_in
+key_used s (Some key) = key
 
 abbrev is_listed : Option (List ℕ) → Bool
-is_listed none = false
-is_listed (some key) = true
+is_listed None = false
+is_listed (Some key) = true
 
 -- what the connection is after a legal ClientKeyExchange that was accepted, by what the table has for its identity
 abbrev pub keyed : (s : Settings) → {hello : List ℕ} → LegalHello s.suites hello → List ℕ → Option (List ℕ) → Connection
@@ -141,8 +140,8 @@ keyed s legal exchange found = after_keys (helloed s legal) exchange (key_used s
 
 -- "Under tell, an unlisted identity is 115."
 abbrev pub unknown : Rule → Option (List ℕ) → Bool
-unknown Rule.Tell none = true
-unknown Rule.Tell (some key) = false
+unknown Rule.Tell None = true
+unknown Rule.Tell (Some key) = false
 unknown Rule.Hide found = false
 
 -- a legal ClientKeyExchange, with a table that is well formed
@@ -150,14 +149,14 @@ pub record ExchangeComes (v : View) (x : Call) : Type 0 where
   pub exchange : List ℕ
   pub out : List ℕ
   pub is : x ≡ message exchange out
-  pub good : v.refusal ≡ none
+  pub good : v.refusal ≡ None
   pub legal : LegalKeyExchange exchange
 
 module _ (s : Settings) (v : View) {hello : List ℕ} (legal : LegalHello s.suites hello) where
   abbrev exchange_step : List ℕ → Step
   exchange_step m = message_step v (helloed s legal) m Phase.KeyExchange
 
-  pub exchange-read : (m : List ℕ) → v.refusal ≡ none
+  pub exchange-read : (m : List ℕ) → v.refusal ≡ None
       → exchange_step m ≡ or_refuse (unread 16 m) (λ identity. key_found (helloed s legal) m (v.lookup identity)) (read_vector 16 m)
   exchange-read m good =
       rw good (step-read (λ h. contents m (after_header h (last_at 2 m 4))) (λ r. refl) (key_identity v.lookup (helloed s legal) m) refl
@@ -170,12 +169,12 @@ module _ (s : Settings) (v : View) {hello : List ℕ} (legal : LegalHello s.suit
     where
       go : (rule : Rule) → (started s).setup.rule ≡ rule → (o : Option (List ℕ))
           → key_found (helloed s legal) m o ≡ cond (unknown rule o) (refuse UnknownPskIdentity) (accept silence (keyed s legal m o))
-      go Rule.Tell e none = rw e
-      go Rule.Tell e (some key) = refl
-      go Rule.Hide e none = rw e
-      go Rule.Hide e (some key) = refl
+      go Rule.Tell e None = rw e
+      go Rule.Tell e (Some key) = refl
+      go Rule.Hide e None = rw e
+      go Rule.Hide e (Some key) = refl
 
-  pub exchange-legal : {m : List ℕ} → v.refusal ≡ none → (exchange : LegalKeyExchange m) → exchange_step m
+  pub exchange-legal : {m : List ℕ} → v.refusal ≡ None → (exchange : LegalKeyExchange m) → exchange_step m
       ≡ cond (unknown (rule_of s.named) (v.lookup exchange.identity)) (refuse UnknownPskIdentity)
       (accept silence (keyed s legal m (v.lookup exchange.identity)))
   exchange-legal {m} good exchange = exchange-read m good ∙ rw exchange.read (found-step m (v.lookup exchange.identity))
@@ -203,31 +202,31 @@ module _ (s : Settings) (v : View) {hello : List ℕ} (legal : LegalHello s.suit
       refused : Alerts (exchange_step m) → Fate v (helloed s legal) (Aside (BadTableCall v)) (ExchangeComes v) (message m out)
       refused alerts = inr (inr (refused-closes (ended Phase.Closed) (helloed s legal) out (exchange_step m) alerts.0 alerts.1 alerts.2))
 
-      of-read : v.refusal ≡ none → (o : Option (List ℕ)) → read_vector 16 m ≡ o
+      of-read : v.refusal ≡ None → (o : Option (List ℕ)) → read_vector 16 m ≡ o
           → Fate v (helloed s legal) (Aside (BadTableCall v)) (ExchangeComes v) (message m out)
-      of-read good none read = refused (unread 16 m, exchange-read m good ∙ rw read, unread-alerts 16 m)
-      of-read good (some identity) read =
+      of-read good None read = refused (unread 16 m, exchange-read m good ∙ rw read, unread-alerts 16 m)
+      of-read good (Some identity) read =
           inr (inl (record { exchange = m; out = out; is = refl; good = good; legal = record { identity = identity; read = read } }))
 
-      of-header : (r : Refusal) → v.refusal ≡ some r → to_peer r ≡ false → (h : Verdict) → header 16 m ≡ h → Tested m h
+      of-header : (r : Refusal) → v.refusal ≡ Some r → to_peer r ≡ false → (h : Result Unit Refusal) → header 16 m ≡ h → Tested m h
           → Fate v (helloed s legal) (Aside (BadTableCall v)) (ExchangeComes v) (message m out)
-      of-header r bad host Verdict.Accepted fits t =
+      of-header r bad host (Ok tt) fits t =
           inl (inr (record { exchange = m; out = out; is = refl; fits = fits; refusal = r; bad = bad; to_host = host }))
-      of-header r bad host (Verdict.Refused q) refuses t = refused (q, rw refuses, t)
+      of-header r bad host (Err q) refuses t = refused (q, rw refuses, t)
 
       -- a table that refused with an alert would close the connection; none does
-      alerting : (r : Refusal) → v.refusal ≡ some r → to_peer r ≡ true → (h : Verdict) → header 16 m ≡ h → Tested m h → Alerts (exchange_step m)
-      alerting r bad told Verdict.Accepted fits t = (r, rw (fits, bad), told)
-      alerting r bad told (Verdict.Refused q) refuses t = (q, rw refuses, t)
+      alerting : (r : Refusal) → v.refusal ≡ Some r → to_peer r ≡ true → (h : Result Unit Refusal) → header 16 m ≡ h → Tested m h → Alerts (exchange_step m)
+      alerting r bad told (Ok tt) fits t = (r, rw (fits, bad), told)
+      alerting r bad told (Err q) refuses t = (q, rw refuses, t)
 
-      of-refusal : (r : Refusal) → v.refusal ≡ some r → (b : Bool) → to_peer r ≡ b
+      of-refusal : (r : Refusal) → v.refusal ≡ Some r → (b : Bool) → to_peer r ≡ b
           → Fate v (helloed s legal) (Aside (BadTableCall v)) (ExchangeComes v) (message m out)
       of-refusal r bad true told = refused (alerting r bad told (header 16 m) refl (header-tested 16 m))
       of-refusal r bad false host = of-header r bad host (header 16 m) refl (header-tested 16 m)
 
       of-table : (o : Option Refusal) → v.refusal ≡ o → Fate v (helloed s legal) (Aside (BadTableCall v)) (ExchangeComes v) (message m out)
-      of-table none good = of-read good (read_vector 16 m) refl
-      of-table (some r) bad = of-refusal r bad (to_peer r) refl
+      of-table None good = of-read good (read_vector 16 m) refl
+      of-table (Some r) bad = of-refusal r bad (to_peer r) refl
   exchange-fate change_of_cipher = inr (inr refl)
   exchange-fate (alert level description) =
       alert-fate v (helloed s legal) refl (Aside (BadTableCall v)) (ExchangeComes v) (λ x. inl) level description

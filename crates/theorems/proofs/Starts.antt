@@ -6,11 +6,11 @@ use Prim.Native.Nat.{ℕ, ◌+◌, ◌≤◌}
 use native.Mathlib.Omega.{arith}
 use mathlib.Core.Bool.{Bool, true, false, cond}
 use mathlib.Core.List.{List, ◌++◌}
-use mathlib.Core.Option.{Option, none, some}
 use lib.ListN.{length, take, length-append, length-drop}
 use lib.Seq.{length-take-le, take-append_seam}
 use lib.Dec.{leb}
 use borrow.Author.Tests.{leb-true, le-leb}
+use Rattle.std.specs.Prelude.{Option, None, Some}
 use Rattle.lists.proofs.Tests.{both}
 use Rattle.lists.proofs.Equal.{same_refl}
 use Rattle.refusal.specs.declared.Refusal.{Refusal}
@@ -43,8 +43,8 @@ given-if true o r e = e
 given-if false o r e = absurd (refuses-gives e)
 
 given-unless : (r : Option Refusal) (o : Outcome) {bytes : List ℕ} → unless r o ≡ gives bytes → o ≡ gives bytes
-given-unless none o e = e
-given-unless (some r) o e = absurd (refuses-gives e)
+given-unless None o e = e
+given-unless (Some r) o e = absurd (refuses-gives e)
 
 given-room : (room : ℕ) (o : Outcome) {bytes : List ℕ} → roomed room o ≡ gives bytes → o ≡ gives bytes
 given-room room (gives t) e = given-if (leb (length (lines t)) room) (gives t) ShortOutput e

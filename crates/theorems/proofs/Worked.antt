@@ -7,8 +7,8 @@ use mathlib.Core.Bool.{false}
 use mathlib.Core.List.{List}
 use lib.ListN.{length}
 use lib.Count.{count_leading_zeros}
+use Rattle.std.specs.Prelude.{Ok}
 use Rattle.refusal.specs.Lent.{answer}
-use Rattle.refusal.specs.declared.Written.TheVariants.{Wrote}
 use Rattle.keys.specs.Secrets.{premaster, premaster_bytes}
 use Rattle.keys.proofs.Lengths.{length-premaster, premaster-given}
 use Rattle.hellos.proofs.ClientHellos.{at-least-45}
@@ -16,8 +16,8 @@ use Rattle.utf8.specs.Utf8.{valid_utf8}
 use Rattle.keytable.specs.Table.{well_formed, key_of}
 use Rattle.theorems.specs.Worked.{BytesWorkedThrough, GivesR2, unended, odd}
 
-premaster-answer : (psk : List ℕ) → 1 ≤ length psk → length psk ≤ 64 → answer (premaster psk) ≡ Wrote (4 + 2 * length psk)
-premaster-answer psk h k = rw (premaster-given psk h k) (ap Wrote (length-premaster psk))
+premaster-answer : (psk : List ℕ) → 1 ≤ length psk → length psk ≤ 64 → answer (premaster psk) ≡ Ok (4 + 2 * length psk)
+premaster-answer psk h k = rw (premaster-given psk h k) (ap Ok (length-premaster psk))
 
 bad-gives-R2 : (t : List ℕ) → well_formed t ≡ false → GivesR2 t
 bad-gives-R2 t bad starts count c m fits = rw (fits, bad)

@@ -1,7 +1,6 @@
 -- The first half of demand 3 for any two tables whose lookups agree outside a set of identities; specs/Demand3.antt's is the case of one line removed.
 -- proofs/Sameness.antt proves it.
-use Rattle.std.specs.Prelude.{◌≡◌, ◌⊎◌, ℕ, true, List}
-use Rattle.std.proofs.Math.Option.{none}
+use Rattle.std.specs.Prelude.{◌≡◌, ◌⊎◌, ℕ, true, List, None}
 use Rattle.handshake.specs.Series.{Call}
 use Rattle.server.specs.Connection.{Settings, acceptable, start_answer}
 use Rattle.server.specs.KeyExchange.{View}
@@ -19,6 +18,6 @@ NoneJudgedRightOf Set s v v' calls = (identity : List ℕ) → Set identity → 
 abbrev pub SamenessOfLookups : Type 1
 SamenessOfLookups =
     (s s' : Settings) → Alike s s' → acceptable s ≡ true → Hiding s.named → Hiding s'.named
-    → (Set : List ℕ → Type 0) (v v' : View) → v.refusal ≡ none → v'.refusal ≡ none → AgreeOutside Set v v'
+    → (Set : List ℕ → Type 0) (v v' : View) → v.refusal ≡ None → v'.refusal ≡ None → AgreeOutside Set v v'
     → (calls : List Call) → NoneJudgedRightOf Set s v v' calls
     → answers v (start_answer s).next calls ≡ answers v' (start_answer s').next calls

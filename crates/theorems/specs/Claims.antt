@@ -1,12 +1,9 @@
 -- Every headline statement, as one record: a statement that goes missing, or has no proof any more, fails the crate. docs/ASSURANCE.md has a row for each
 -- field, and tests/claims compares the two. proofs/Claims.antt proves it by one value.
-use Rattle.std.specs.Prelude.{◌≡◌, ◌↔◌, ℕ, ◌+◌, ◌-◌, ◌%◌, ◌^◌, ◌≤◌, ◌<◌, true, false, cond, List, [], ◌∷◌, ◌++◌, map, length, take, drop, replicate, leb, eqb}
-use Rattle.std.proofs.Math.Option.{none, some}
+use Rattle.std.specs.Prelude.{◌≡◌, ◌↔◌, ℕ, ◌+◌, ◌-◌, ◌%◌, ◌^◌, ◌≤◌, ◌<◌, true, false, cond, List, [], ◌∷◌, ◌++◌, map, length, take, drop, replicate, leb, eqb, Result, Ok, Err, None, Some}
 use Rattle.lists.specs.Lists.{each, distinct, Each}
 use Rattle.refusal.specs.declared.Refusal.{Refusal}
 use Rattle.refusal.specs.declared.Refusal.TheVariants.{ShortOutput}
-use Rattle.refusal.specs.declared.Written.{Written}
-use Rattle.refusal.specs.declared.Written.TheVariants.{Wrote, Refused}
 use Rattle.refusal.specs.Lent.{Outcome, gives, refuses, within, answer, after}
 use Rattle.endian.specs.Number.{Bytes, be, number}
 use Rattle.sha256_block.specs.Blocks.{parse}
@@ -51,11 +48,11 @@ use Rattle.theorems.specs.Worked.{BytesWorkedThrough}
 
 pub record Claims : Type 1 where
   -- demand 1: lent memory
-  pub refusal_keeps : (o : Outcome) (out : List ℕ) (r : Refusal) → answer o ≡ Refused r → after o out ≡ out
-  pub answer_keeps_rest : (o : Outcome) (out : List ℕ) (n : ℕ) → answer o ≡ Wrote n → drop n (after o out) ≡ drop n out
+  pub refusal_keeps : (o : Outcome) (out : List ℕ) (r : Refusal) → answer o ≡ Err r → after o out ≡ out
+  pub answer_keeps_rest : (o : Outcome) (out : List ℕ) (n : ℕ) → answer o ≡ Ok n → drop n (after o out) ≡ drop n out
   pub short_exactly : (room : ℕ) (wanted : Outcome) → ¬ (wanted ≡ refuses ShortOutput)
       → (within room wanted ≡ refuses ShortOutput) ↔ ((bytes : List ℕ) × (wanted ≡ gives bytes) × (room < length bytes))
-  pub codes_apart : (v w : Written) → coded v ≡ coded w → v ≡ w
+  pub codes_apart : (v w : Result ℕ Refusal) → coded v ≡ coded w → v ≡ w
   pub numbers_in_c : NumbersInC
   pub over_stays : OverStays
   pub cleared_closed : restored (replicate 388 0) ≡ ended Phase.Closed
@@ -67,10 +64,10 @@ pub record Claims : Type 1 where
   -- numbers and vectors, for any width
   pub numbers_apart : (w m n : ℕ) → m < 256 ^ w → n < 256 ^ w → be w m ≡ be w n → m ≡ n
   pub bytes_apart : (xs bs : List ℕ) → Bytes xs → Bytes bs → length xs ≡ length bs → number xs ≡ number bs → xs ≡ bs
-  pub vector_read : (w : ℕ) (xs rest : List ℕ) → writable w xs ≡ true → split w (vector w xs ++ rest) ≡ some (record { contents = xs; rest = rest })
+  pub vector_read : (w : ℕ) (xs rest : List ℕ) → writable w xs ≡ true → split w (vector w xs ++ rest) ≡ Some (record { contents = xs; rest = rest })
   pub vector_cut : (w : ℕ) (bs : List ℕ) → Bytes bs
-      → (split w bs ≡ none) ↔ ((xs rest : List ℕ) → writable w xs ≡ true → bs ≡ vector w xs ++ rest → ⊥)
-  pub vector_stated : (w : ℕ) (bs : List ℕ) (s : Split) → Bytes bs → writable w s.contents ≡ false → split w bs ≡ some s → ⊥
+      → (split w bs ≡ None) ↔ ((xs rest : List ℕ) → writable w xs ≡ true → bs ≡ vector w xs ++ rest → ⊥)
+  pub vector_stated : (w : ℕ) (bs : List ℕ) (s : Split) → Bytes bs → writable w s.contents ≡ false → split w bs ≡ Some s → ⊥
   pub vectors_apart : (w : ℕ) (xs ys rest rest' : List ℕ) → writable w xs ≡ true → writable w ys ≡ true
       → vector w xs ++ rest ≡ vector w ys ++ rest' → (xs ≡ ys) × (rest ≡ rest')
   -- each layout with its reader, by name and number
@@ -83,17 +80,17 @@ pub record Claims : Type 1 where
   pub new_session_ticket_inverse : Inverse new_session_ticket read_ticket
   pub block_by_types : (es : List Ext) → each writable_ext es ≡ true → block_rule (block_bytes es) ≡ distinct eqb (kinds es)
   pub ticket_extension_read : (ticket : List ℕ) → length ticket < 65536
-      → extensions_in (0x00 ∷ 0x23 ∷ vector 2 ticket) ≡ some (ticket_extension ticket ∷ [])
+      → extensions_in (0x00 ∷ 0x23 ∷ vector 2 ticket) ≡ Some (ticket_extension ticket ∷ [])
   -- texts
   pub utf8_twice : (s : List ℕ) → (valid_utf8 s ≡ true) ↔ Text s
   -- the key table
   pub tested_soundly : (t : List ℕ) → well_formed t ≡ true → WellFormed t
   pub tested_completely : (t : List ℕ) → WellFormed t → well_formed t ≡ true
-  pub lookup_exact : (t : List ℕ) (w : WellFormed t) (i k : List ℕ) → (key_of t i ≡ some k) ↔ Listed i k w.lines
-  pub malformed_unlisted : (t : List ℕ) → well_formed t ≡ true → (i : List ℕ) → valid_identity i ≡ false → key_of t i ≡ none
+  pub lookup_exact : (t : List ℕ) (w : WellFormed t) (i k : List ℕ) → (key_of t i ≡ Some k) ↔ Listed i k w.lines
+  pub malformed_unlisted : (t : List ℕ) → well_formed t ≡ true → (i : List ℕ) → valid_identity i ≡ false → key_of t i ≡ None
   pub line_removable : (t : List ℕ) (w : WellFormed t) (xs : List Line) (l : Line) (ys : List Line) → w.lines ≡ xs ++ (l ∷ ys)
       → LineRemoved l.identity t (text (xs ++ ys))
-  pub removed_had : (identity t t' : List ℕ) (r : LineRemoved identity t t') → well_formed t ≡ true → key_of t identity ≡ some (decoded r.hex)
+  pub removed_had : (identity t t' : List ℕ) (r : LineRemoved identity t t') → well_formed t ≡ true → key_of t identity ≡ Some (decoded r.hex)
   -- the list of line starts (document 02, P6): at the table's own starts stand its lines, a list that is not refused is its own, the one that is made is
   -- not refused, and a lookup by it answers as one without a list
   pub lines_at_starts : (t : List ℕ) → map (line_at t) (starts_of t) ≡ lines t
@@ -117,7 +114,7 @@ pub record Claims : Type 1 where
       → edited (retire identity) t' ≡ gives t
   pub replace_twice : (identity key key' t t' : List ℕ) → Each (λ b. b < 256) key → edited (replace identity key) t ≡ gives t'
       → edited (replace identity key') t' ≡ edited (replace identity key') t
-  pub listed_found : (t identity : List ℕ) → well_formed t ≡ true → (listed identity (lines t) ≡ false) ↔ (key_of t identity ≡ none)
+  pub listed_found : (t identity : List ℕ) → well_formed t ≡ true → (listed identity (lines t) ≡ false) ↔ (key_of t identity ≡ None)
   -- edits with a list (document 02, P6): the table is edited as without one, and the list afterwards is the edited table's own, in its room
   pub edited_alike : (memory : List ℕ) (n : ℕ) (starts : List ℕ) (count : ℕ) (e : Edit) (t : List ℕ) → edited_in memory n starts count e ≡ gives t
       → edited e (take n memory) ≡ gives t
@@ -137,8 +134,8 @@ pub record Claims : Type 1 where
   pub worked : BytesWorkedThrough
   -- the server's choices
   pub suites_in_order : SuitesInOrder
-  pub master_handed : (flight : Flight) (next : Connection) → handed_over Phase.KeyExchange (accept flight next) ≡ some next.secrets.master
-  pub master_handed_once : (v : View) (c : Connection) (m secret : List ℕ) → handed_over c.phase (message_step v c m c.phase) ≡ some secret
+  pub master_handed : (flight : Flight) (next : Connection) → handed_over Phase.KeyExchange (accept flight next) ≡ Some next.secrets.master
+  pub master_handed_once : (v : View) (c : Connection) (m secret : List ℕ) → handed_over c.phase (message_step v c m c.phase) ≡ Some secret
       → c.phase ≡ Phase.KeyExchange
   -- how many blocks are hashed for a master secret (document 02, P8), by the length of its key
   pub master_counts : (key client server : List ℕ) → 1 ≤ length key → length key ≤ 64 → length client ≡ 32 → length server ≡ 32

@@ -1,12 +1,12 @@
 -- Demand 3, both halves: each is one statement about every series of calls from an accepted start. specs/Series.antt has the calls and the run,
 -- specs/Terms.antt the terms. proofs/Sameness.antt and proofs/Completion.antt prove them.
-use Rattle.std.specs.Prelude.{◌≡◌, ◌⊎◌, ◌↔◌, ℕ, ◌≤◌, true, List, ◌∷◌, ◌++◌, length}
+use Rattle.std.specs.Prelude.{◌≡◌, ◌⊎◌, ◌↔◌, ℕ, ◌≤◌, true, List, ◌∷◌, ◌++◌, length, Option, None, Some}
 use Rattle.keytable.specs.Table.{well_formed}
 use Rattle.keytable.specs.Starts.{is_list}
 use Rattle.keytable.specs.WellFormed.{LineRemoved}
 use Rattle.handshake.specs.Finished.{finished_length}
 use Rattle.handshake.specs.Series.{Call, message}
-use Rattle.server.specs.declared.Named.{Named}
+use Rattle.server.specs.declared.Rule.{Rule}
 use Rattle.server.specs.declared.Phase.{Phase}
 use Rattle.server.specs.Connection.{Settings, acceptable, start_answer}
 use Rattle.server.specs.KeyExchange.{View, view_of}
@@ -16,8 +16,8 @@ use Rattle.theorems.specs.Terms.{AwaitsFinished, RightFinished, named}
 -- ---- first half: under the hiding rule, nothing tells which identities are listed
 
 -- the hiding rule: the setting is hide, or none is named
-abbrev pub Hiding : Named → Type 0
-Hiding named = (named ≡ Named.Hide) ⊎ (named ≡ Named.Nothing)
+abbrev pub Hiding : Option Rule → Type 0
+Hiding named = (named ≡ Some Rule.Hide) ⊎ (named ≡ None)
 
 -- two servers' settings, alike but for the rule that each names
 pub record Alike (s s' : Settings) : Type 0 where

@@ -1,6 +1,6 @@
 -- A series of calls on one connection of the server's (document 01, "The series of demand 3"), and what is compared of it.
-use Rattle.std.specs.Prelude.{ℕ, List, [], ◌∷◌}
-use Rattle.refusal.specs.declared.Written.{Written}
+use Rattle.std.specs.Prelude.{ℕ, List, [], ◌∷◌, Result}
+use Rattle.refusal.specs.declared.Refusal.{Refusal}
 use Rattle.handshake.specs.Series as Shared
 use Rattle.handshake.specs.Series.{Call, message, change_of_cipher, alert}
 use Rattle.server.specs.declared.Connection.{Connection}
@@ -22,7 +22,7 @@ run v = Shared.run (call v)
 
 -- what is compared of a call: the alert or refusal or the answer's length, which are in what is said, and all of the output afterwards
 pub record Seen : Type 0 where
-  pub said : Written
+  pub said : Result ℕ Refusal
   pub out : List ℕ
 
 abbrev pub seen : Settled → Seen

@@ -1,14 +1,13 @@
 -- The order in which a start's connection chooses suites (document 01, "The server's steps"), whatever the order in which the client lists them.
 -- proofs/Suites.antt proves it.
-use Rattle.std.specs.Prelude.{◌≡◌, ℕ, true, false, List}
-use Rattle.std.proofs.Math.Option.{none, some}
+use Rattle.std.specs.Prelude.{◌≡◌, ℕ, true, false, List, None, Some}
 use Rattle.handshake.specs.Protocol.{suites}
 use Rattle.server.specs.Hello.{offers, chosen}
 
 pub record SuitesInOrder : Type 0 where
-  pub first : (offered : List ℕ) → offers offered 0x00AE ≡ true → chosen suites offered ≡ some 0x00AE
-  pub second : (offered : List ℕ) → offers offered 0x00AE ≡ false → offers offered 0x008C ≡ true → chosen suites offered ≡ some 0x008C
+  pub first : (offered : List ℕ) → offers offered 0x00AE ≡ true → chosen suites offered ≡ Some 0x00AE
+  pub second : (offered : List ℕ) → offers offered 0x00AE ≡ false → offers offered 0x008C ≡ true → chosen suites offered ≡ Some 0x008C
   pub third : (offered : List ℕ) → offers offered 0x00AE ≡ false → offers offered 0x008C ≡ false → offers offered 0x00B0 ≡ true
-      → chosen suites offered ≡ some 0x00B0
+      → chosen suites offered ≡ Some 0x00B0
   pub no_other : (offered : List ℕ) → offers offered 0x00AE ≡ false → offers offered 0x008C ≡ false → offers offered 0x00B0 ≡ false
-      → chosen suites offered ≡ none
+      → chosen suites offered ≡ None

@@ -1,14 +1,12 @@
 -- Document 01's terms for demand 3 ("The series of demand 3"), said of the calls, the settings and the table alone: nothing here speaks of the state
 -- that a server keeps. A message is legal by the layouts' readers, and its value right by the definitions of "Secrets".
-use Rattle.std.specs.Prelude.{◌≡◌, ◌⊎◌, ℕ, ◌≤◌, ◌<◌, true, false, List, [], ◌∷◌, ◌++◌, length}
-use Rattle.std.proofs.Math.Option.{none, some}
+use Rattle.std.specs.Prelude.{◌≡◌, ◌⊎◌, ℕ, ◌≤◌, ◌<◌, true, false, List, [], ◌∷◌, ◌++◌, length, Ok, None, Some}
 use Rattle.refusal.specs.declared.Refusal.{Refusal}
 use Rattle.refusal.specs.Table.{to_peer}
 use Rattle.refusal.specs.Lent.{Outcome, gives}
 use Rattle.sha256.specs.Hash.{sha256}
 use Rattle.keys.specs.declared.Side.TheVariants.{Client}
 use Rattle.keys.specs.Secrets.{verify_data}
-use Rattle.layout.specs.declared.Verdict.TheVariants.{Accepted}
 use Rattle.layout.specs.Header.{header}
 use Rattle.hellos.specs.ClientHello.{ClientHello, read_client_hello}
 use Rattle.messages.specs.KeyExchange.{read_vector}
@@ -31,19 +29,19 @@ use Rattle.server.specs.Hello.{chosen, offers_null, flight}
 -- of a server that chooses from these suites
 pub record LegalHello (ours m : List ℕ) : Type 0 where
   pub fields : ClientHello
-  pub read : read_client_hello m ≡ some fields
+  pub read : read_client_hello m ≡ Some fields
   pub version : tls12 ≤ fields.version
   pub null : offers_null fields.methods ≡ true
   pub suite : ℕ
-  pub common : chosen ours fields.suites ≡ some suite
+  pub common : chosen ours fields.suites ≡ Some suite
 
 pub record LegalKeyExchange (m : List ℕ) : Type 0 where
   pub identity : List ℕ
-  pub read : read_vector client_key_exchange_type m ≡ some identity
+  pub read : read_vector client_key_exchange_type m ≡ Some identity
 
 pub record LegalFinished (m : List ℕ) : Type 0 where
   pub value : List ℕ
-  pub read : read_fixed finished_type verify_data_length m ≡ some value
+  pub read : read_fixed finished_type verify_data_length m ≡ Some value
 
 -- ---- what a connection's messages are, and what is right
 
@@ -80,9 +78,9 @@ pub record BadTableCall (v : View) (x : Call) : Type 0 where
   pub exchange : List ℕ
   pub out : List ℕ
   pub is : x ≡ message exchange out
-  pub fits : header client_key_exchange_type exchange ≡ Accepted
+  pub fits : header client_key_exchange_type exchange ≡ Ok tt
   pub refusal : Refusal
-  pub bad : v.refusal ≡ some refusal
+  pub bad : v.refusal ≡ Some refusal
   pub to_host : to_peer refusal ≡ false
 
 -- ---- what came, call by call: each record says that its message came in its place and that nothing else did
@@ -104,7 +102,7 @@ pub record KeyExchangeCame (s : Settings) (v : View) (calls : List Call) : Type 
   pub out : List ℕ
   pub is : calls ≡ first ++ (between ++ (message exchange out ∷ []))
   pub aside : Each (Aside (BadTableCall v)) between
-  pub good : v.refusal ≡ none
+  pub good : v.refusal ≡ None
   pub legal : LegalKeyExchange exchange
 
 pub record ChangeCame (s : Settings) (v : View) (calls : List Call) : Type 0 where
@@ -125,7 +123,7 @@ module _ (s : Settings) (v : View) {calls : List Call} (came : ChangeCame s v ca
   pub record RightFinished (m : List ℕ) : Type 0 where
     pub legal : LegalFinished m
     pub key : List ℕ
-    pub listed : v.lookup named ≡ some key
+    pub listed : v.lookup named ≡ Some key
     pub right : value_under s came.came.came.legal came.came.exchange key ≡ gives legal.value
 
   -- R1 of a Finished: it is right, and its output has less room than the server's Finished takes

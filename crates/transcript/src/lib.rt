@@ -7,7 +7,7 @@ ghost use Rattle.refusal.specs.Lent.{Answers};
 ghost use Rattle.sha256.specs.State.{absorb, finished};
 ghost use Rattle.transcript.specs.Transcript.{begun, added};
 
-use refusal::Written;
+use refusal::Refusal;
 use sha256::Sha256;
 
 // The running hash of one connection's handshake messages, headers included.
@@ -36,7 +36,7 @@ pub fn add(t: &mut Transcript, message: &[u8])
 }
 
 // The handshake hash: SHA-256 of all messages so far, at the front of the lent output.
-pub fn handshake_hash(t: &Transcript, out: &mut [u8]) -> Written
+pub fn handshake_hash(t: &Transcript, out: &mut [u8]) -> Result<usize, Refusal>
     ensures { Answers (finished t.now.hash) out.old result out.new }
 {
     t.hash.finish(out)
@@ -53,7 +53,7 @@ pub fn with_message(state: Sha256, message: &[u8]) -> Sha256
 }
 
 // The handshake hash of the messages in the running hash: `handshake_hash` for such a caller.
-pub fn hash_of(state: Sha256, out: &mut [u8]) -> Written
+pub fn hash_of(state: Sha256, out: &mut [u8]) -> Result<usize, Refusal>
     ensures { Answers (finished state) out.old result out.new }
 {
     let t = Transcript { hash: state };

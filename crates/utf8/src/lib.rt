@@ -4,12 +4,6 @@
 ghost use Rattle.std.specs.Prelude.{◌≡◌, ◌<◌, length, take, get_or};
 ghost use Rattle.utf8.specs.Utf8.{size, row, tail, allowed, character, valid_utf8};
 
-fn wide(b: u8) -> u32
-    ensures { result ≡ b }
-{
-    b as u32
-}
-
 // How many bytes the character has that begins with b, 0 where none does.
 fn size(b: u8) -> usize
     ensures { result ≡ size b }
@@ -65,7 +59,7 @@ struct Row {
 fn row_of(n: usize, a: u8) -> Row
     ensures { result ≡ row n a }
 {
-    let bits = wide(a);
+    let bits = u32::from(a);
     match n {
         1 => Row {
             bits: bits % 128,
@@ -100,13 +94,11 @@ fn begins(s: &[u8], n: usize) -> bool
     }
     let first = row_of(n, s[0]);
     let mut v = first.bits;
-    let mut i = 1;
-    while i < n {
-        if !tail(s[i]) {
+    for b in &s[1..n] {
+        if !tail(*b) {
             return false;
         }
-        v = v * 64 + wide(s[i]) % 64;
-        i += 1;
+        v = v * 64 + u32::from(*b) % 64;
     }
     allowed(first.least, v)
 }
@@ -115,13 +107,13 @@ fn begins(s: &[u8], n: usize) -> bool
 pub fn valid_utf8(s: &[u8]) -> bool
     ensures { result ≡ valid_utf8 s.now }
 {
-    let mut at = 0;
-    while at < s.len() {
-        let n = size(s[at]);
-        if !begins(&s[at..], n) {
+    let mut rest = s;
+    while let [first, ..] = rest {
+        let n = size(*first);
+        if !begins(rest, n) {
             return false;
         }
-        at += n;
+        rest = &rest[n..];
     }
     true
 }

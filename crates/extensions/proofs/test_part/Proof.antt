@@ -6,8 +6,8 @@ use Prim.Native.Nat.{ℕ, ◌+◌, ◌-◌, ◌/◌, ◌%◌, ◌≤◌, zero-le
 use native.Mathlib.Omega.{arith}
 use mathlib.Core.Path.{◌≡◌, refl, sym, ap, ◌∙◌}
 use mathlib.Core.List.{List}
-use mathlib.Core.Option.{Option}
 use lib.ListN.{length, drop, set, length-set}
+use Rattle.std.specs.Prelude.{Option}
 use Rattle.extensions.specs.declared.Pass.{Pass}
 use Rattle.extensions.specs.Extensions.{Ext, adding, extensions_in}
 use Rattle.extensions.specs.Parts.{pass_over}

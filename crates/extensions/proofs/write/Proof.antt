@@ -26,7 +26,7 @@ returns-3 c =
     let a = c.args in
     let xs = a.contents.now in
     rw (lt-ltb a.kind 65536 (omega arith), lt-ltb (length xs) (256 ^ 2) (omega arith))
-    (rw (c.bytes16-number.ensures, c.bytes16-size.ensures) at c.two.ensures)
+    (rw (c.bytes-number.ensures, c.bytes-size.ensures) at c.two.ensures)
 
 pub write_spec : {M : Type 1} → statement M
 write_spec =

@@ -7,16 +7,16 @@ use borrow.Author.Rules.{rules}
 use Rattle.handshake.proofs.is_value.Statement.{statement}
 use Rattle.handshake.proofs.is_value.Tie as tie
 
-returns : tie.Need-returns-in-Wrote
+returns : tie.Need-returns-in-Ok
 returns c =
     let args = c.args in
-    let expected = sized-gives _ (finished-of-sized args.side args.master.now args.transcript) refl c.finished_of.ensures c.in-Wrote.is in
+    let expected = sized-gives _ (finished-of-sized args.side args.master.now args.transcript) refl c.finished_of.ensures c.in-Ok.is in
     rw expected c.same.ensures
 
-returns-2 : tie.Need-returns-in-Refused
+returns-2 : tie.Need-returns-in-Err
 returns-2 c =
     let args = c.args in
-    rw (sized-refuses _ (finished-of-sized args.side args.master.now args.transcript) refl c.finished_of.ensures c.in-Refused.is)
+    rw (sized-refuses _ (finished-of-sized args.side args.master.now args.transcript) refl c.finished_of.ensures c.in-Err.is)
 
 pub is_value_spec : {M : Type 1} → statement M
 is_value_spec =

@@ -7,14 +7,14 @@ use borrow.Author.Rules.{rules}
 use Rattle.keys.proofs.finished_of.Statement.{statement}
 use Rattle.keys.proofs.finished_of.Tie as tie
 
-returns : tie.Need-returns-in-Wrote
+returns : tie.Need-returns-in-Ok
 returns c =
-    rw (sized-gives _ (hash-sized _) refl c.hash_of.ensures c.in-Wrote.is)
+    rw (sized-gives _ (hash-sized _) refl c.hash_of.ensures c.in-Ok.is)
     c.finished.ensures
 
-returns-2 : tie.Need-returns-in-Refused
+returns-2 : tie.Need-returns-in-Err
 returns-2 c =
-    rw (sized-refuses _ (hash-sized _) refl c.hash_of.ensures c.in-Refused.is) (refuses-answers _ _)
+    rw (sized-refuses _ (hash-sized _) refl c.hash_of.ensures c.in-Err.is) (refuses-answers _ _)
 
 pub finished_of_spec : {M : Type 1} → statement M
 finished_of_spec =

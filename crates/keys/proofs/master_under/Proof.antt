@@ -14,8 +14,8 @@ use Rattle.keys.proofs.master_under.Statement.{statement}
 use Rattle.keys.proofs.master_under.Tie as tie
 
 -- the premaster secret is within its buffer
-premaster-short : (c : tie.In-Wrote) → c.in-Wrote.n ≤ 132
-premaster-short c = (wrote-gives (premaster _) c.premaster.ensures c.in-Wrote.is).0
+premaster-short : (c : tie.In-Ok) → c.in-Ok.n ≤ 132
+premaster-short c = (wrote-gives (premaster _) c.premaster.ensures c.in-Ok.is).0
 
 array-share-prefix-secret : tie.Need-slice_bounds-secret-end
 array-share-prefix-secret c = let within = premaster-short c in search rules
@@ -26,17 +26,17 @@ slice-aggregate-master c =
     let size : length buffer ≡ 132 = search rules in
     sym (length-take-le _ buffer (omega (arith, premaster-short c.before)))
 
-returns : tie.Need-returns-in-Wrote
+returns : tie.Need-returns-in-Ok
 returns c =
     let key = c.args.key.now in
     let made = c.master.ensures in
-    let given = (wrote-gives (premaster _) c.premaster.ensures c.in-Wrote.is).1 in
+    let given = (wrote-gives (premaster _) c.premaster.ensures c.in-Ok.is).1 in
     (rw given made.0, made.1 ∙ rw (premaster-is key given))
 
-returns-2 : tie.Need-returns-in-Refused
+returns-2 : tie.Need-returns-in-Err
 returns-2 c =
     let told = c.report.ensures in (
-      rw (refused-refuses (premaster _) (premaster-most _) c.premaster.ensures c.in-Refused.is) (refused-answers told),
+      rw (refused-refuses (premaster _) (premaster-most _) c.premaster.ensures c.in-Err.is) (refused-answers told),
       refused-counts told _,
     )
 

@@ -22,12 +22,12 @@ append-requires-2 c κs =
 returns : tie.Need-returns
 returns c =
     let psk = c.args.psk.now in
-    premaster-parts psk c.bytes16-size.result (take (length psk) (replicate 64 0))
+    premaster-parts psk c.bytes-size.result (take (length psk) (replicate 64 0))
     c.append.new.buffer
     c.append-2.new.buffer
     c.append-3.new.buffer
     c.append-4.new.buffer
-    c.bytes16-size.ensures
+    c.bytes-size.ensures
     (take-replicate 64 (length psk) 0 c.requires)
     c.append.ensures
     c.append-2.ensures

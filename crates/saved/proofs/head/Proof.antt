@@ -6,7 +6,7 @@ use Rattle.saved.proofs.head.Tie as tie
 
 returns : tie.Need-returns
 returns c =
-    rw (c.listed_byte.ensures, c.rule_byte.ensures, c.phase_byte.ensures, c.bytes16-suite.ensures)
+    rw (c.listed_byte.ensures, c.rule_byte.ensures, c.phase_byte.ensures, c.bytes-suite.ensures)
 
 pub head_spec : {M : Type 1} → statement M
 head_spec =

@@ -12,7 +12,7 @@ returns : tie.Need-returns
 returns c =
     let suites = c.args.suites in
     let size : length suites ≡ 3 = search (rules, c.well_formed) in
-    rw (c.bytes16-third.ensures, c.bytes16-second.ensures, c.bytes16-first.ensures) (ap pairs (three-of suites size))
+    rw (c.bytes-third.ensures, c.bytes-second.ensures, c.bytes-first.ensures) (ap pairs (three-of suites size))
 
 pub pairs_spec : {M : Type 1} → statement M
 pairs_spec =

@@ -5,7 +5,7 @@ use Rattle.saved_client.proofs.head.Statement.{statement}
 use Rattle.saved_client.proofs.head.Tie as tie
 
 returns : tie.Need-returns
-returns c = rw (c.phase_byte.ensures, c.bytes16-suite.ensures)
+returns c = rw (c.phase_byte.ensures, c.bytes-suite.ensures)
 
 pub head_spec : {M : Type 1} → statement M
 head_spec =

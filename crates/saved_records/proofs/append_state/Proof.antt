@@ -26,7 +26,7 @@ returns c =
     let first : take (at + 1) c.append-with_first.result ≡ take at c.args.bytes ++ (protected_byte s.protected ∷ []) =
     copy-behind c.args.bytes (c.protected_byte.result ∷ []) c.append-with_first.result at 1 c.append-with_first.ensures refl (rw c.protected_byte.ensures) refl in
     let second =
-    copy-behind c.append-with_first.result c.bytes64-sequence.result c.append-with_sequence.result (at + 1) 8 c.append-with_sequence.ensures first c.bytes64-sequence.ensures refl in
+    copy-behind c.append-with_first.result c.bytes-sequence.result c.append-with_sequence.result (at + 1) 8 c.append-with_sequence.ensures first c.bytes-sequence.ensures refl in
     let nine : at + 1 + 8 ≡ at + 9 = omega arith in
     let all : at + 9 + 32 ≡ at + 41 = omega arith in
     let third =

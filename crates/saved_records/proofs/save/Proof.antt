@@ -66,7 +66,7 @@ returns c =
     let server =
     copy-behind c.append-with_client.result conn.pending.server c.append-with_server.result 502 32 c.append-with_server.ensures client refl ok.server in
     let held =
-    copy-behind c.append-with_server.result c.bytes16-held.result c.append-with_held.result 534 2 c.append-with_held.ensures server c.bytes16-held.ensures refl in
+    copy-behind c.append-with_server.result c.bytes-held.result c.append-with_held.result 534 2 c.append-with_held.ensures server c.bytes-held.ensures refl in
     let alert-length =
     copy-behind c.append-with_held.result (conn.alert.length ∷ []) c.append-with_length.result 536 1 c.append-with_length.ensures held refl refl in
     let all = copy-behind c.append-with_length.result conn.alert.bytes r 537 39 c.append.ensures alert-length refl ok.alert in

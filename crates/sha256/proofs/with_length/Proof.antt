@@ -13,12 +13,12 @@ use Rattle.sha256.proofs.with_length.Tie as tie
 returns : tie.Need-returns
 returns c =
     let args = c.args in
-    let src = c.bytes64-bits.result in
-    let eight : length src ≡ 8 = ap length c.bytes64-bits.ensures in
+    let src = c.bytes-bits.result in
+    let eight : length src ≡ 8 = ap length c.bytes-bits.ensures in
     let size : length args.block ≡ 64 = search (rules, c.well_formed) in
     copied-in args.block src c.copy.new.dst 56 64 (omega arith) (omega arith) c.copy.ensures.1
     ∙ rw (drop_of_length-le args.block {i = 64} (omega arith), append-nil src)
-    (ap (λ (bits : List ℕ). take 56 args.block ++ bits) c.bytes64-bits.ensures)
+    (ap (λ (bits : List ℕ). take 56 args.block ++ bits) c.bytes-bits.ensures)
 
 pub with_length_spec : {M : Type 1} → statement M
 with_length_spec =

@@ -12,7 +12,7 @@ use Rattle.keys.proofs.Lengths.{finished-of-sized}
 use Rattle.sha256.specs.declared.Sha256.{Sha256}
 use Rattle.sha256.specs.State.{absorb}
 use Rattle.client.specs.Inner.{after_done_with}
-use Rattle.client.proofs.Decisions.{same_step, refusing}
+use Rattle.client.proofs.Decisions.{same_step}
 use Rattle.client.proofs.Exchanges.{answer-made, answer-refused}
 use borrow.Author.Rules.{rules}
 use Rattle.client.proofs.exchange.answer.Statement.{statement}
@@ -48,7 +48,7 @@ array-share-prefix-exchange c = within c.before.before
 slice-aggregate-with-message : tie.Need-slice_bounds-with_message-end
 slice-aggregate-with-message c = counted c.before.before.before
 
-array-share-prefix-exchange-2 : tie.Need-slice_bounds-exchange-end-in-Wrote
+array-share-prefix-exchange-2 : tie.Need-slice_bounds-exchange-end-in-Ok
 array-share-prefix-exchange-2 c = within c.before.before.before.before.before.before.before.before.before.before.before
 
 slice-aggregate-two : tie.Need-slice_bounds-two-end
@@ -58,22 +58,22 @@ two-requires : tie.Need-two-outgoing-requires
 two-requires c κs =
     (omega (arith, counted c.before.before.before.before.before.before.before.before.before.before.before.before.before, c.put_exchange-n.ensures.1), omega (arith, counted c.before.before.before.before.before.before.before.before.before.before.before.before.before, c.put_exchange-n.ensures.0))
 
-returns : tie.Need-returns-in-Wrote
+returns : tie.Need-returns-in-Ok
 returns c =
     let args = (put c.before.before.before.before.before.before.before.before.before.before.before.before.before).args in
-    let made = sized-gives _ (finished-of-sized Client args.master c.with_message-before.result) refl c.finished_of.ensures c.in-Wrote.is in
+    let made = sized-gives _ (finished-of-sized Client args.master c.with_message-before.result) refl c.finished_of.ensures c.in-Ok.is in
     let message = c.finished-message.ensures in
     let next = c.after_done-next.ensures ∙ ap (after_done_with args.c args.master) c.with_message.ensures in
     same_step {n = args.blocks}
     (answer-made args.c args.m.now args.master (put c.before.before.before.before.before.before.before.before.before.before.before.before.before).put_exchange-n.ensures.2 (before c.before.before.before.before.before.before.before.before.before.before.before.before.before) made message c.two-outgoing.ensures.means next)
-    (record { means = refl; counts = refl })
+    (record { means = refl; fits = c.two-outgoing.ensures.fits; counts = refl })
 
-returns-2 : tie.Need-returns-in-Refused
+returns-2 : tie.Need-returns-in-Err
 returns-2 c =
-    let args = (put c.before.before.before.before.before.before).args in
-    let none = sized-refuses _ (finished-of-sized Client args.master c.with_message-before.result) refl c.finished_of.ensures c.in-Refused.is in
-    same_step (answer-refused args.c args.m.now args.master (put c.before.before.before.before.before.before).put_exchange-n.ensures.2 (before c.before.before.before.before.before.before) none)
-    (refusing c.refused.ensures _)
+    let args = (put c.before.before.before.before.before).args in
+    let none = sized-refuses _ (finished-of-sized Client args.master c.with_message-before.result) refl c.finished_of.ensures c.in-Err.is in
+    same_step (answer-refused args.c args.m.now args.master (put c.before.before.before.before.before).put_exchange-n.ensures.2 (before c.before.before.before.before.before) none)
+    (record { means = refl; fits = omega arith; counts = refl })
 
 pub answer_spec : {M : Type 1} → statement M
 answer_spec =
@@ -96,6 +96,5 @@ answer_spec =
     (λ c κs. search rules)
     (λ c κs. search rules)
     (λ c. search rules)
-    (λ c κs. search rules)
     returns
     returns-2)

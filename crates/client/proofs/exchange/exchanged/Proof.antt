@@ -13,7 +13,7 @@ use Rattle.keys.specs.Secrets.{master_under}
 use Rattle.keys.proofs.Lengths.{master-under-sized}
 use Rattle.client.specs.Connection.{key_of}
 use Rattle.client.specs.Exchange.{exchange_with, exchanged, blocks_under}
-use Rattle.client.proofs.Decisions.{same_step, refusing}
+use Rattle.client.proofs.Decisions.{same_step}
 use borrow.Author.Rules.{rules}
 use Rattle.client.proofs.exchange.exchanged.Statement.{statement}
 use Rattle.client.proofs.exchange.exchanged.Tie as tie
@@ -61,19 +61,19 @@ array-share-prefix-key c = within c
 slice-aggregate-master-under : tie.Need-slice_bounds-master_under-end
 slice-aggregate-master-under c = counted c.before
 
-returns : tie.Need-returns-in-Wrote
+returns : tie.Need-returns-in-Ok
 returns c =
     let conn = (start c.before.before.before.before.before.before.before.before).args.c in
     let sized = master-under-sized (take (size c.before.before.before.before.before.before.before.before) (field c.before.before.before.before.before.before.before.before)) conn.setup.random conn.server.random in
-    let number : c.master_under-told.result.blocks ≡ blocks_under conn = rw c.in-Wrote.is at c.master_under-told.ensures.1 ∙ counted-by c.before.before.before.before.before.before.before.before in
-    same_step (decided-by c.before.before.before.before.before.before.before.before (sized-gives _ sized refl c.master_under-told.ensures.0 c.in-Wrote.is)) (rw number at c.answer.ensures)
+    let number : c.master_under-told.result.blocks ≡ blocks_under conn = rw c.in-Ok.is at c.master_under-told.ensures.1 ∙ counted-by c.before.before.before.before.before.before.before.before in
+    same_step (decided-by c.before.before.before.before.before.before.before.before (sized-gives _ sized refl c.master_under-told.ensures.0 c.in-Ok.is)) (rw number at c.answer.ensures)
 
-returns-2 : tie.Need-returns-in-Refused
+returns-2 : tie.Need-returns-in-Err
 returns-2 c =
-    let conn = (start c.before.before.before.before.before.before.before.before).args.c in
-    let sized = master-under-sized (take (size c.before.before.before.before.before.before.before.before) (field c.before.before.before.before.before.before.before.before)) conn.setup.random conn.server.random in
-    same_step (decided-by c.before.before.before.before.before.before.before.before (sized-refuses _ sized refl c.master_under-told.ensures.0 c.in-Refused.is))
-    (refusing c.refused.ensures _)
+    let conn = (start c.before.before.before.before.before.before.before).args.c in
+    let sized = master-under-sized (take (size c.before.before.before.before.before.before.before) (field c.before.before.before.before.before.before.before)) conn.setup.random conn.server.random in
+    same_step (decided-by c.before.before.before.before.before.before.before (sized-refuses _ sized refl c.master_under-told.ensures.0 c.in-Err.is))
+    (record { means = refl; fits = omega arith; counts = refl })
 
 pub exchanged_spec : {M : Type 1} → statement M
 exchanged_spec =
@@ -89,6 +89,5 @@ exchanged_spec =
     (λ c. search rules)
     (λ c κs. search rules)
     (λ c. search rules)
-    (λ c κs. search rules)
     returns
     returns-2)

@@ -1,12 +1,12 @@
 -- `client::starting::start` meets its contract: R3, then the room, and then the connection.
 -- Assumes nothing.
+use Rattle.std.specs.Prelude.{Ok, Err}
 use Rattle.std.specs.Prelude.{not}
 use mathlib.Core.Path.{◌≡◌, sym, ap, ◌∙◌}
 use mathlib.Core.Bool.{true}
 use Prim.Native.Nat.{ℕ}
 use borrow.Author.Tests.{not-true, not-false}
 use Rattle.refusal.specs.declared.Refusal.{Refusal}
-use Rattle.refusal.specs.declared.Written.TheVariants.{Wrote, Refused}
 use Rattle.refusal.specs.Lent.{gives, Answers}
 use Rattle.client.specs.declared.Phase.{Phase}
 use Rattle.client.specs.Connection.{Settings, acceptable, hello, started, ended, start_call}
@@ -34,12 +34,12 @@ module _ (c : tie.After-put-said) where
   put : Answers (gives (hello (given at-else.before).random)) at-else.args.out.now c.put-said.result c.put-said.new.out
   put = rw (← c.hello-hello.ensures) c.put-said.ensures
 
-  sent : {n : ℕ} → c.put-said.result ≡ Wrote n
+  sent : {n : ℕ} → c.put-said.result ≡ Ok n
       → start_call (given at-else.before) at-else.args.out.now
       ≡ record { said = c.put-said.result; out = c.put-said.new.out; next = started (given at-else.before) }
   sent = hello-sent (given at-else.before) (fine at-else) put
 
-  short : {r : Refusal} → c.put-said.result ≡ Refused r
+  short : {r : Refusal} → c.put-said.result ≡ Err r
       → start_call (given at-else.before) at-else.args.out.now
       ≡ record { said = c.put-said.result; out = c.put-said.new.out; next = ended Phase.Closed }
   short = hello-short (given at-else.before) (fine at-else) put
@@ -61,16 +61,16 @@ started-requires : tie.Need-started-next-requires
 started-requires c κs =
     rw c.setup.ensures c.hello-hello.ensures
 
-returns-2 : tie.Need-returns-in-Wrote
+returns-2 : tie.Need-returns-in-Ok
 unfolding started
 returns-2 c =
-    let all = sent c.before.before.before.before.before.before c.in-Wrote.is in
+    let all = sent c.before.before.before.before.before.before c.in-Ok.is in
     (rw (c.started-next.ensures, c.setup.ensures) (sym (ap answered all)), sym (ap (λ (s : Settled). s.out) all))
 
-returns-3 : tie.Need-returns-in-Refused
+returns-3 : tie.Need-returns-in-Err
 returns-3 c =
-    let all = short c.before.before.before.before c.in-Refused.is in
-    (rw c.ended-next-in-Refused.ensures (sym (ap answered all)), sym (ap (λ (s : Settled). s.out) all))
+    let all = short c.before.before.before.before c.in-Err.is in
+    (rw c.ended-next-in-Err.ensures (sym (ap answered all)), sym (ap (λ (s : Settled). s.out) all))
 
 pub start_spec : {M : Type 1} → statement M
 start_spec =

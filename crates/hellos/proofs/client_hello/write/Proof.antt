@@ -86,8 +86,8 @@ returns-2 c =
     let s = start c.before.before.before.before.before.before.before.before in
     let a = s.args in
     let tail : List ℕ = tail_bytes (given a.present a.block.now) in
-    let size = c.bytes16-suites_size.result in
-    let parts = four-parts a.suites.now a.methods.now tail size c.bytes16-suites_size.ensures (lists-ok c.before.before.before.before.before.before.before).1 in
+    let size = c.bytes-suites_size.result in
+    let parts = four-parts a.suites.now a.methods.now tail size c.bytes-suites_size.ensures (lists-ok c.before.before.before.before.before.before.before).1 in
     let same = same-written client_hello (fields s)
     (hello_with 1 (between size a.suites.now (length a.methods.now ∷ []) a.methods.now))
     (front_given a.version a.random.now a.session_id.now a.present a.block.now) refl

@@ -24,11 +24,11 @@ head-is kind size version random id n v e f small =
     rw (e, f, append-nil id, div-one (length id), mod-eq_of_lt small, append_assoc random (length id ∷ []) id)
 
 -- the six bytes, from where their numbers are known, and the entry
-abbrev start : tie.After-bytes16-v → tie.Start
+abbrev start : tie.After-bytes-v → tie.Start
 start c = c.before.before.before.before.before
 
-abbrev first : tie.After-bytes16-v → List ℕ
-first c = head (start c).args.kind c.bytes24-n.result c.bytes16-v.result
+abbrev first : tie.After-bytes-v → List ℕ
+first c = head (start c).args.kind c.bytes-n.result c.bytes-v.result
 
 cast-size : tie.Need-overflow_cast-size
 cast-size c = record { fits = omega (arith, (start c).requires) }
@@ -48,7 +48,7 @@ returns c =
     let small : length id < 256 = omega (arith, s.requires.1) in
     let total = length-between (first c.before.before.before.before.before.before) random (length id ∷ []) id in
     let size : length (between (first c.before.before.before.before.before.before) random (length id ∷ []) id) ≡ 39 + length id = omega (arith, total, s.requires.0) in
-    let whole = head-is a.kind a.body_len a.version random id _ _ c.bytes24-n.ensures c.bytes16-v.ensures small in
+    let whole = head-is a.kind a.body_len a.version random id _ _ c.bytes-n.ensures c.bytes-v.ensures small in
     (c.four.ensures.0 ∙ (omega (arith, size)), c.four.ensures.1 ∙ ap₂ (λ (l : List ℕ) (k : ℕ). paste a.out.now 0 l k) whole size)
 
 pub put_front_spec : {M : Type 1} → statement M

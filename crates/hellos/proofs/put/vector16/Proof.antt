@@ -16,8 +16,8 @@ returns : tie.Need-returns
 returns c =
     let a = c.args in
     let xs = a.contents.now in
-    let size = c.bytes16-size.result in
-    let two : size ≡ be 2 (length xs) = c.bytes16-size.ensures in
+    let size = c.bytes-size.result in
+    let two : size ≡ be 2 (length xs) = c.bytes-size.ensures in
     let room : a.place + length size ≤ length a.out.now = rw two (omega (arith, c.requires)) in
     let both : c.at.new.out ≡ paste a.out.now a.place (size ++ xs) (length (size ++ xs)) =
     put_two a.out.now c.at-next.new.out c.at.new.out size xs a.place c.at-next.result

@@ -40,8 +40,8 @@ returns-2 : tie.Need-returns
 returns-2 c =
     let a = c.args in
     let tail : List ℕ = tail_bytes (given a.present a.block.now) in
-    let number = c.bytes16-number.result in
-    let parts = four-parts a.suite a.compression number tail c.bytes16-number.ensures in
+    let number = c.bytes-number.result in
+    let parts = four-parts a.suite a.compression number tail c.bytes-number.ensures in
     let same = same-written server_hello (fields c.before.before.before.before.before.before.before.before.before.before.before.before.before) (hello_with 2 (between number (a.compression ∷ []) [] []))
     (front_given a.version a.random.now a.session_id.now a.present a.block.now) refl
     (rw (lt-ltb a.suite 65536 (omega (arith, c.if-suite-gt65535.false)), lt-ltb a.compression 256 c.ranges.compression.fits))

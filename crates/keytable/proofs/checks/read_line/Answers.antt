@@ -1,47 +1,34 @@
 -- `keytable::checks::read_line`: each test that fails is one of the definition's, and the two places are where it looks.
-use Rattle.std.proofs.Common.{◌<◌, length, ap, not, arith}
-use Rattle.lists.proofs.Tests.{failed, passed}
+use Rattle.std.proofs.Common.{rules, ◌∙◌, sym, arith}
 use Rattle.keytable.specs.Table.{plain, hex_digit}
-use Rattle.keytable.proofs.Reading.{leading-within, no-colon, other-colon, no_end, other-end, key-unsized, identity-unsized, line-there}
+use Rattle.keytable.proofs.Reading.{other-colon, other-end, key-unsized, identity-unsized, line-there}
+use Rattle.keytable.proofs.Matching.{next-is, next-other, next-same}
 use Rattle.keytable.proofs.checks.read_line.Goals as goal
+use Rattle.keytable.proofs.checks.read_line.Goals.{else-sized_key-via-then-sized_key+else-sized_identity, else-sized_key-via-else-sized_key}
 
-pub returns-then-colon-table : goal.returns-then-colon-table
-returns-then-colon-table c = no-colon _ _ _ c.class_end-colon.ensures c.if-colon-table.true
+pub returns-then-ne : goal.returns-then-ne
+returns-then-ne c =
+    other-colon _ _ _ (c.class_end-colon.ensures.value plain (λ b said k. search rules))
+    (next-other _ _ c.ne.ensures (next-is c.get.result _ _ (c.get.ensures.lookup.4 (omega arith) 0) (omega arith)) c.if-ne.true)
 
-pub bounds-table-colon : goal.bounds-table-colon
-bounds-table-colon c =
-    omega (arith, leading-within plain _ _ _ c.class_end-colon.ensures (omega (arith, c.requires)), c.if-colon-table.false)
+pub returns-then-ne-2 : goal.returns-then-ne-2
+returns-then-ne-2 c =
+    other-end _ _ _ (c.class_end-colon.ensures.value plain (λ b said k. search rules)) _ (c.class_end-end.ensures.value hex_digit (λ b said k. search rules))
+    (next-other _ _ c.ne-2.ensures (next-is c.get-2.result _ _ (c.get-2.ensures.lookup.4 (omega arith) 0) (omega arith)) c.if-ne-2.true)
 
-pub returns-then-table-colon-ne58 : goal.returns-then-table-colon-ne58
-returns-then-table-colon-ne58 c = other-colon _ _ _ c.class_end-colon.ensures c.if-table-colon-ne58.true
+pub returns-then-sized_identity : goal.returns-then-sized_identity
+returns-then-sized_identity c =
+    line-there _ _ _ (c.class_end-colon.ensures.value plain (λ b said k. search rules)) _ (c.class_end-end.ensures.value hex_digit (λ b said k. search rules))
+    (next-same _ _ c.ne.ensures (next-is c.get.result _ _ (c.get.ensures.lookup.4 (omega arith) 0) (omega arith)) c.if-ne.false)
+    (next-same _ _ c.ne-2.ensures (next-is c.get-2.result _ _ (c.get-2.ensures.lookup.4 (omega arith) 0) (omega arith)) c.if-ne-2.false)
+    (sym c.sized_key.ensures ∙ c.if-sized_key.true)
+    (sym c.sized_identity.ensures ∙ c.if-sized_identity.true)
 
-pub returns-then-end-table : goal.returns-then-end-table
-returns-then-end-table c = no_end _ _ _ c.class_end-colon.ensures _ c.class_end-end.ensures c.if-end-table.true
-
-pub bounds-table-end : goal.bounds-table-end
-bounds-table-end c =
-    let inside : c.class_end-colon.result < length c.args.table.now =
-    omega (arith, leading-within plain _ _ _ c.class_end-colon.ensures (omega (arith, c.requires)), c.if-colon-table.false) in
-    omega (arith, leading-within hex_digit _ _ _ c.class_end-end.ensures (omega (arith, inside)), c.if-end-table.false)
-
-pub returns-then-table-end-ne10 : goal.returns-then-table-end-ne10
-returns-then-table-end-ne10 c = other-end _ _ _ c.class_end-colon.ensures _ c.class_end-end.ensures c.if-table-end-ne10.true
-
-pub returns-then-not-sized_key : goal.returns-then-not-sized_key
-returns-then-not-sized_key c =
-    key-unsized _ _ _ c.class_end-colon.ensures _ c.class_end-end.ensures (failed _ _ c.sized_key.ensures (ap not c.if-not-sized_key.true))
-
-pub returns-then-not-sized_identity : goal.returns-then-not-sized_identity
-returns-then-not-sized_identity c =
-    identity-unsized _ _ _ c.class_end-colon.ensures _ c.class_end-end.ensures
-    (failed _ _ c.sized_identity.ensures (ap not c.if-not-sized_identity.true))
-
-pub returns : goal.returns
-returns c =
-    let inside : c.class_end-colon.result < length c.args.table.now =
-    omega (arith, leading-within plain _ _ _ c.class_end-colon.ensures (omega (arith, c.requires)), c.if-colon-table.false) in
-    let end_inside : c.class_end-end.result < length c.args.table.now =
-    omega (arith, leading-within hex_digit _ _ _ c.class_end-end.ensures (omega (arith, inside)), c.if-end-table.false) in
-    line-there _ _ _ c.class_end-colon.ensures _ c.class_end-end.ensures inside c.if-table-colon-ne58.false end_inside c.if-table-end-ne10.false
-    (passed _ _ c.sized_key.ensures (ap not c.if-not-sized_key.false))
-    (passed _ _ c.sized_identity.ensures (ap not c.if-not-sized_identity.false))
+pub returns-else-sized_key : goal.returns-else-sized_key
+returns-else-sized_key c =
+    let colon = c.class_end-colon.ensures.value plain (λ b said k. search rules) in
+    let end = c.class_end-end.ensures.value hex_digit (λ b said k. search rules) in
+    elim c.else-sized_key.branch [
+      | else-sized_key-via-then-sized_key+else-sized_identity w ↦ identity-unsized _ _ _ colon _ end (sym w.sized_identity.ensures ∙ w.if-sized_identity.false)
+      | else-sized_key-via-else-sized_key w ↦ key-unsized _ _ _ colon _ end (sym c.sized_key.ensures ∙ w.if-sized_key.false)
+    ]

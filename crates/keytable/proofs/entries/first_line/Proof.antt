@@ -7,11 +7,11 @@ use Prim.Native.Nat.{ℕ, ◌+◌, ◌-◌, ◌≤◌, ◌<◌}
 use native.Mathlib.Nat.{add-zero}
 use native.Mathlib.Omega.{arith}
 use mathlib.Core.List.{List}
-use mathlib.Core.Option.{none}
 use lib.ListN.{length, drop, get_or, drop_of_length-le}
+use Rattle.std.specs.Prelude.{None}
 use Rattle.keytable.specs.Table.{key_text}
 use Rattle.keytable.specs.Starts.{line_at, placed}
-use Rattle.keytable.proofs.Matching.{Matched, match-more, match-other, match-ended, match-colon, match-longer, match-end, search-on, search-hit}
+use Rattle.keytable.proofs.Search.{Matched, match-more, match-other, match-ended, match-colon, match-longer, match-end, search-on, search-hit}
 use Rattle.keytable.proofs.entries.first_line.Statement.{statement}
 use Rattle.keytable.proofs.entries.first_line.Lts.{else-loop-i-test, then-loop-i-test+then-i-identity+else-b-eq58, then-loop-i-test+else-i-identity+then-b-identity, then-loop-i-test+else-i-identity+else-b-identity+then-b-eq10}
 use Rattle.keytable.proofs.entries.first_line.Tie as tie
@@ -54,7 +54,7 @@ module _ (c : tie.After-shared_slice_known-in-lines-1 invariant-loop decreases-l
   small : place < 4294967296
   small = omega (arith, c.shared_slice_known-in-lines-1.given at-lines.lines.k)
 
-  on : key_text identity (line_at table place) ≡ none
+  on : key_text identity (line_at table place) ≡ None
       → placed 0 identity table starts ≡ placed (at-lines.lines.k + 1) identity table (drop (at-lines.lines.k + 1) starts)
   on = search-on _ _ _ _ c.if-k-starts.false at-lines.lines.invariant.1
 
@@ -73,7 +73,7 @@ loop-again c =
     (search rules, match-more _ _ _ _ c.loop-i-test.true c.loop-i.invariant.1 more c.if-b-identity.false c.if-b-eq10.false)
 
 -- every way out of the comparison but the hit: the line does not match
-missed : (c : tie.Left-loop-i invariant-loop decreases-loop invariant-lines decreases-lines) → key_text (identity c.before.before) (line_at (table c.before.before) (place c.before.before)) ≡ none
+missed : (c : tie.Left-loop-i invariant-loop decreases-loop invariant-lines decreases-lines) → key_text (identity c.before.before) (line_at (table c.before.before) (place c.before.before)) ≡ None
 missed c =
     let m = c.loop-i.invariant.1 in
     let few = c.loop-i.invariant.0 in
@@ -100,7 +100,7 @@ returns-2 : tie.Need-returns-then-b-eq58 invariant-loop decreases-loop invariant
 returns-2 c =
     let whole = c.if-i-identity.true in
     let text = match-colon _ _ _ _ c.loop-i-test.true c.loop-i.invariant.1 whole c.if-b-eq58.true in
-    search-hit _ _ _ _ c.if-k-starts.false (at-lines c.before.before.before.before.before.before).lines.invariant.1 _ _ (rw whole) c.line_end.ensures text
+    search-hit _ _ _ _ c.if-k-starts.false (at-lines c.before.before.before.before.before.before).lines.invariant.1 _ _ (rw whole) c.line_end-to.ensures text
 
 pub first_line_spec : {M : Type 1} → statement M
 first_line_spec =

@@ -32,8 +32,8 @@ returns-2 : tie.Need-returns
 returns-2 c =
     let a = c.args in
     let xs = a.contents.now in
-    let all : bytes (vector_message a.kind) xs ≡ head a.kind c.bytes24-body.result c.bytes16-size.result ++ xs =
-    head-is a.kind xs _ _ c.bytes24-body.ensures c.bytes16-size.ensures in
+    let all : bytes (vector_message a.kind) xs ≡ head a.kind c.bytes-body.result c.bytes-size.result ++ xs =
+    head-is a.kind xs _ _ c.bytes-body.ensures c.bytes-size.ensures in
     writes (vector_message a.kind) xs a.out.now _ _ (vector-valid a.kind xs (omega arith)) (rw all c.two.ensures)
 
 pub write_spec : {M : Type 1} → statement M

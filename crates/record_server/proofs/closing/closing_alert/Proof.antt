@@ -20,17 +20,17 @@ test c = c.before.before.before
 cast-t14 : tie.Need-overflow_cast-result
 cast-t14 c =
     let a = (test c.before.before).args in
-    omega (arith, alert-wrote a.writing a.number c.seal.ensures c.in-Wrote.is)
+    omega (arith, alert-wrote a.writing a.number c.seal.ensures c.in-Ok.is)
 
-returns-2 : tie.Need-returns-in-Wrote
+returns-2 : tie.Need-returns-in-Ok
 returns-2 c =
     let a = (test c.before.before).args in
-    alert-kept a.writing a.number c.seal.ensures (test c.before.before).if-writing-eq-LAST.false c.in-Wrote.is
+    alert-kept a.writing a.number c.seal.ensures (test c.before.before).if-writing-eq-LAST.false c.in-Ok.is
 
-returns-3 : tie.Need-returns-in-Refused
+returns-3 : tie.Need-returns-in-Err
 returns-3 c =
     let a = (test c.before.before.before).args in
-    absurd (alert-room a.writing a.number c.seal.ensures c.in-Refused.is)
+    absurd (alert-room a.writing a.number c.seal.ensures c.in-Err.is)
 
 pub closing_alert_spec : {M : Type 1} → statement M
 closing_alert_spec =

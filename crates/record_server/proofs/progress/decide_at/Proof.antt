@@ -11,17 +11,19 @@ use lib.Seq.{length-take-le}
 use borrow.Rule.Slice.PartMut.{put_mid, same_len_mid}
 use Rattle.lists.proofs.Parts.{length_part}
 use Rattle.server.specs.declared.Connection.{Connection}
-use Rattle.server.specs.declared.step.Decision.{Decision}
+use Rattle.std.specs.Prelude.{Result}
+use Rattle.refusal.specs.declared.Refusal.{Refusal}
+use Rattle.handshake.specs.declared.Decision.{Decision}
 use Rattle.server.specs.KeyExchange.{View, view_of}
 use Rattle.server.specs.Message.{message_step, blocks_in}
-use Rattle.server.specs.Decision.{Decides}
+use Rattle.handshake.specs.Decision.{Decides}
 use Rattle.record_server.proofs.Places.{behind-held, over-seam, joined-front}
 use borrow.Author.Rules.{rules}
 use Rattle.record_server.proofs.progress.decide_at.Statement.{statement}
 use Rattle.record_server.proofs.progress.decide_at.Tie as tie
 
 -- what is decided for a message is decided for the same message
-same-message : (v : View) (c : Connection) {d : Decision} {m n : List ℕ} → m ≡ n → Decides d (message_step v c n c.phase) (blocks_in v c n c.phase)
+same-message : (v : View) (c : Connection) {d : Result (Decision Connection) Refusal} {m n : List ℕ} → m ≡ n → Decides d (message_step v c n c.phase) (blocks_in v c n c.phase)
     → Decides d (message_step v c m c.phase) (blocks_in v c m c.phase)
 same-message v c {d} e h = subst (λ (m : List ℕ). Decides d (message_step v c m c.phase) (blocks_in v c m c.phase)) (sym e) h
 

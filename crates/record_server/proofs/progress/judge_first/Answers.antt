@@ -3,10 +3,10 @@ use Prim.Native.Nat.{ℕ, ◌+◌, ◌-◌, ◌<◌}
 use native.Mathlib.Omega.{arith}
 use mathlib.Core.Path.{◌≡◌, sym, ap, ◌∙◌}
 use mathlib.Core.Bool.{false, not, ◌&&◌, and-false}
-use mathlib.Core.Option.{Option}
 use mathlib.Core.List.{List, ◌++◌}
 use lib.ListN.{length, take, drop, length-append, length-drop}
-use Rattle.layout.specs.declared.Verdict.{Verdict}
+use Rattle.std.specs.Prelude.{Result, Option}
+use Rattle.refusal.specs.declared.Refusal.{Refusal}
 use Rattle.handshake.specs.Header.{early_test}
 use Rattle.server.specs.KeyExchange.{view_of}
 use Rattle.server.specs.Message.{awaited}
@@ -24,7 +24,7 @@ left-size : (held content : List ℕ) (at : ℕ) → length (drop at (held ++ co
 left-size held content at = simp (length-drop, length-append)
 
 -- the verdict on the header is that on the bytes
-early : (kind : Option ℕ) (left header : List ℕ) {given verdict : Verdict} → header ≡ take 4 left → given ≡ early_test kind header → given ≡ verdict
+early : (kind : Option ℕ) (left header : List ℕ) {given verdict : Result Unit Refusal} → header ≡ take 4 left → given ≡ early_test kind header → given ≡ verdict
     → early_test kind left ≡ verdict
 early kind left header h j e = sym (header-test kind left) ∙ ap (early_test kind) (sym h) ∙ sym j ∙ e
 
@@ -53,8 +53,8 @@ returns-then-left-lt4 c =
     rw c.on_course-then-left-lt4.ensures
     (goes-waits v (length c.args.held.now) bytes c.args.p c.requires.sound (left-few v (progress_of bytes c.args.p) awaits few) (omega arith))
 
-pub returns-in-Accepted : goal.returns-in-Accepted
-returns-in-Accepted c =
+pub returns-in-Ok : goal.returns-in-Ok
+returns-in-Ok c =
     let v = view_of c.args.table.now c.args.starts.now c.args.count in
     let bytes = c.args.held.now ++ c.args.content.now in
     let left = drop c.args.p.at bytes in
@@ -64,12 +64,12 @@ returns-in-Accepted c =
       | then-left-ne0+else-is_complete w ↦ rw (sym w.is_complete.ensures ∙ w.if-is_complete.false)
       | else-left-ne0 w ↦ rw (is-empty left (size ∙ w.if-left-ne0.false), and-false (is_complete c.args.p.connection.phase))
     ] in
-    let tested = early (awaited c.args.p.connection.phase) left _ c.header_at-header.ensures c.judge_header.ensures c.in-Accepted.is in
+    let tested = early (awaited c.args.p.connection.phase) left _ c.header_at-header.ensures c.judge_header.ensures c.in-Ok.is in
     let end = c.message_end.ensures ∙ ap message_end c.header_at-header.ensures ∙ header-end left in
     rw (left-early v (progress_of bytes c.args.p) awaits (omega arith) tested, ← end) c.judge_whole.ensures
 
-pub returns-in-Refused : goal.returns-in-Refused
-returns-in-Refused c =
+pub returns-in-Err : goal.returns-in-Err
+returns-in-Err c =
     let v = view_of c.args.table.now c.args.starts.now c.args.count in
     let bytes = c.args.held.now ++ c.args.content.now in
     let left = drop c.args.p.at bytes in
@@ -79,7 +79,7 @@ returns-in-Refused c =
       | then-left-ne0+else-is_complete w ↦ rw (sym w.is_complete.ensures ∙ w.if-is_complete.false)
       | else-left-ne0 w ↦ rw (is-empty left (size ∙ w.if-left-ne0.false), and-false (is_complete c.args.p.connection.phase))
     ] in
-    let tested = early (awaited c.args.p.connection.phase) left _ c.header_at-header.ensures c.judge_header.ensures c.in-Refused.is in
-    rw c.on_course-in-Refused.ensures
+    let tested = early (awaited c.args.p.connection.phase) left _ c.header_at-header.ensures c.judge_header.ensures c.in-Err.is in
+    rw c.on_course-in-Err.ensures
     (goes-refused v (length c.args.held.now) bytes c.args.p c.requires.sound
     (left-early v (progress_of bytes c.args.p) awaits (omega arith) tested))

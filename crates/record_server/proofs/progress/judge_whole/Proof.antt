@@ -42,7 +42,7 @@ returns c =
 add-decide-at : tie.Need-overflow_add-at
 add-decide-at c = search rules
 
-decide-at-requires : tie.Need-decide_at-d-requires
+decide-at-requires : tie.Need-decide_at-requires
 decide-at-requires c κs =
     let rest = room c.before in
     let a = c.args in (
@@ -50,23 +50,23 @@ decide-at-requires c κs =
       apart c.requires.1.2 c.requires.0.apart,
     )
 
-returns-2 : tie.Need-returns-in-Accepted
+returns-2 : tie.Need-returns-in-Ok
 returns-2 c =
     let start = entry c.before.before.before.before in
     let a = start.args in
     rw c.advance.ensures
     (goes-accepted (view start) (length a.held.now) (a.held.now ++ a.content.now) a.p start.requires.0 a.size
     start.requires.1.0 start.requires.1.2 (room c.before.before.before.before)
-    c.decide_at-d.result c.decide_at-d.ensures c.in-Accepted.is)
+    c.decide_at.ensures c.in-Ok.is)
 
-returns-3 : tie.Need-returns-in-Refused
+returns-3 : tie.Need-returns-in-Err
 returns-3 c =
     let start = entry c.before.before.before.before in
     let a = start.args in
-    rw c.on_course-in-Refused.ensures
+    rw c.on_course-in-Err.ensures
     (goes-rejected (view start) (length a.held.now) (a.held.now ++ a.content.now) a.p start.requires.0 a.size
     start.requires.1.0 start.requires.1.2 (room c.before.before.before.before)
-    c.decide_at-d.result c.decide_at-d.ensures c.in-Refused.is)
+    c.decide_at.ensures c.in-Err.is)
 
 pub judge_whole_spec : {M : Type 1} → statement M
 judge_whole_spec =

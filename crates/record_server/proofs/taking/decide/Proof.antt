@@ -5,7 +5,8 @@ use Prim.Native.Nat.{◌≤◌}
 use native.Mathlib.Omega.{arith}
 use lib.ListN.{length}
 use lib.Seq.{length-take-le}
-use Rattle.layout.specs.declared.Verdict.{Verdict}
+use Rattle.std.specs.Prelude.{Result}
+use Rattle.refusal.specs.declared.Refusal.{Refusal}
 use Rattle.server.specs.KeyExchange.{view_of}
 use Rattle.records.specs.Protection.{opened}
 use Rattle.records.specs.Joining.{held_in}
@@ -17,7 +18,7 @@ use Rattle.record_server.proofs.taking.decide.Statement.{statement}
 use Rattle.record_server.proofs.taking.decide.Tie as tie
 
 -- behind the two tests
-behind : (c : tie.After-test_over) {verdict : Verdict} → c.test_over.result ≡ verdict →
+behind : (c : tie.After-test_over) {verdict : Result Unit Refusal} → c.test_over.result ≡ verdict →
     let args = c.args in
     let v = view_of args.table.now args.starts.now args.count in
     take_step v args.c args.memory.now args.received.now
@@ -29,7 +30,7 @@ behind c e =
     let bytes = args.received.now in
     let v = view_of args.table.now args.starts.now args.count in
     let step = opened_step v args.c (held_in memory args.c.held) bytes (opened args.c.reading bytes) in
-    ap (λ (t : Verdict). after_test t step) (sym c.test_over.ensures ∙ e)
+    ap (λ (t : Result Unit Refusal). after_test t step) (sym c.test_over.ensures ∙ e)
 
 decide-opened-requires : tie.Need-decide_opened-requires
 decide-opened-requires c κs =
@@ -40,12 +41,12 @@ decide-opened-requires c κs =
     let few : c.held-kept.result ≤ 65535 = omega (arith, held-few memory n, c.struct_known-1.given) in
     (c.held-kept.ensures.0, few, rw c.held-kept.ensures.1 (held-unfinished memory n))
 
-returns : tie.Need-returns-in-Accepted
+returns : tie.Need-returns-in-Ok
 returns c =
-    same_step (behind c.before.before.before.before c.in-Accepted.is) (rw c.held-kept.ensures.1 at c.decide_opened.ensures)
+    same_step (behind c.before.before.before.before c.in-Ok.is) (rw c.held-kept.ensures.1 at c.decide_opened.ensures)
 
-returns-2 : tie.Need-returns-in-Refused
-returns-2 c = same_step (behind c.before.before c.in-Refused.is) (c.refused.ensures _ _ _)
+returns-2 : tie.Need-returns-in-Err
+returns-2 c = same_step (behind c.before.before c.in-Err.is) (c.refused.ensures _ _ _)
 
 pub decide_spec : {M : Type 1} → statement M
 decide_spec =

@@ -1,5 +1,6 @@
 -- `record_server::taking::settle` meets its contract: by what was decided, and then by the room.
 -- Assumes nothing.
+use Rattle.std.specs.Prelude.{Ok}
 use Rattle.std.specs.Prelude.{not}
 use mathlib.Core.Path.{◌≡◌, sym, ap, ◌∙◌}
 use mathlib.Core.List.{List, ◌++◌}
@@ -10,7 +11,6 @@ use lib.Seq.{length-take-le}
 use lib.Dec.{leb}
 use Rattle.lists.proofs.Tests.{failed, passed}
 use borrow.Author.Tests.{le-leb, lt-leb}
-use Rattle.refusal.specs.declared.Written.TheVariants.{Wrote}
 use Rattle.refusal.proofs.Laws.{wrote-all, refused-short, answer-in-front}
 use Rattle.record_server.specs.InnerTaking.{held_by, answered_by}
 use Rattle.record_server.proofs.Holding.{held-room}
@@ -37,7 +37,7 @@ returns : tie.Need-returns-then-not-has_room
 returns c held h =
     let args = (entry c.before.before.before.before).args in
     let short = failed c.has_room.result _ (room c.before.before held h) (ap not c.if-not-has_room.true) in
-    memory-short c.in-Accepted.is short (c.refuse.ensures args.out.now args.memory.now)
+    memory-short c.in-Ok.is short (c.refuse.ensures args.out.now args.memory.now)
 
 -- the records are at the front of their array
 array-share-prefix-records : tie.Need-slice_bounds-records-end
@@ -55,27 +55,27 @@ put-held-requires : tie.Need-put_held-requires
 put-held-requires c κs =
     ((entry c.before.before.before.before.before.before.before.before.before.before).requires.1, passed c.has_room.result _ c.has_room.ensures (ap not c.if-not-has_room.false))
 
-returns-2 : tie.Need-returns-in-Wrote
+returns-2 : tie.Need-returns-in-Ok-said
 returns-2 c held h =
     let d = (entry c.before.before.before.before.before.before.before.before.before.before.before.before.before.before).args.d in
-    let wrote = wrote-all c.put-said.ensures c.in-Wrote.is in
+    let wrote = wrote-all c.put-said.ensures c.in-Ok-said.is in
     let kept = passed c.has_room.result _ (room c.before.before.before.before.before.before.before.before.before.before.before.before held h) (ap not c.if-not-has_room.false) in
-    settled-does c.in-Accepted.is (le-leb _ _ wrote.0) kept
-    (c.answered.ensures ∙ ap (answered_by d) (c.in-Wrote.is ∙ ap Wrote wrote.1))
+    settled-does c.in-Ok.is (le-leb _ _ wrote.0) kept
+    (c.answered.ensures ∙ ap (answered_by d) (c.in-Ok-said.is ∙ ap Ok wrote.1))
     (answer-in-front c.put-said.ensures wrote.0)
     (c.put_held.ensures held h)
 
-returns-3 : tie.Need-returns-in-Refused-said
+returns-3 : tie.Need-returns-in-Err-said
 returns-3 c held h =
     let args = (entry c.before.before.before.before.before.before.before.before.before.before).args in
-    let short = lt-leb _ _ (refused-short c.put-said.ensures c.in-Refused-said.is) in
-    output-short c.in-Accepted.is short (c.refuse-in-Refused-said.ensures args.out.now args.memory.now)
+    let short = lt-leb _ _ (refused-short c.put-said.ensures c.in-Err-said.is) in
+    output-short c.in-Ok.is short (c.refuse-in-Err-said.ensures args.out.now args.memory.now)
     (c.put-said.ensures.left ∙ rw short)
 
-returns-4 : tie.Need-returns-in-Refused
+returns-4 : tie.Need-returns-in-Err
 returns-4 c held h =
     let args = (entry c.before.before).args in
-    refused-does c.in-Refused.is (c.refuse-in-Refused.ensures args.out.now args.memory.now)
+    refused-does c.in-Err.is (c.refuse-in-Err.ensures args.out.now args.memory.now)
 
 pub settle_spec : {M : Type 1} → statement M
 settle_spec =

@@ -12,7 +12,7 @@ returns c =
     let a = c.args in
     let key : length a.key ≡ 32 = search (rules, c.well_formed) in
     let front : length a.front ≡ 3 = search (rules, c.well_formed) in
-    mac-given a.key a.sequence a.front a.content.now key front c.requires c.bytes64-number.ensures c.bytes16-size.ensures
+    mac-given a.key a.sequence a.front a.content.now key front c.requires c.bytes-number.ensures c.bytes-size.ensures
     c.hmac_of_two.ensures
 
 pub mac_of_spec : {M : Type 1} → statement M

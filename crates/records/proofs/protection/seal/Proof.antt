@@ -8,10 +8,10 @@ use mathlib.Core.Path.{◌≡◌, sym, ◌∙◌}
 use mathlib.Core.Bool.{true, false}
 use mathlib.Core.List.{List, [], ◌∷◌, ◌++◌}
 use lib.ListN.{length, get_or, take, drop, length-append}
+use Rattle.std.specs.Prelude.{Result, Ok, Err}
+use Rattle.refusal.specs.declared.Refusal.{Refusal}
 use Rattle.endian.specs.Number.{be}
 use Rattle.refusal.specs.declared.Refusal.TheVariants.{ShortOutput}
-use Rattle.refusal.specs.declared.Written.{Written}
-use Rattle.refusal.specs.declared.Written.TheVariants.{Wrote, Refused}
 use Rattle.refusal.specs.Lent.{gives, Answers}
 use Rattle.refusal.proofs.Laws.{refuses-answers, short-answers, answer-in-front}
 use Rattle.layout.proofs.Puts.{copy-in-front, put-behind, front-answers}
@@ -30,12 +30,12 @@ module _ (s : State) (kind : ContentType) (content : List ℕ) (few : length con
   within = rw (le-leb (length content) 16384 few)
 
   -- without protection the code writes two parts
-  plain-put : s.protected ≡ false → {head out left : List ℕ} {said : Written} → head ≡ front kind ++ be 2 (length content)
+  plain-put : s.protected ≡ false → {head out left : List ℕ} {said : Result ℕ Refusal} → head ≡ front kind ++ be 2 (length content)
       → Answers (gives (head ++ content)) out said left → Answers (sealing s kind content) out said left
   plain-put p h two = rw (within, p) (rw h at two)
 
   -- with it, there is room or not
-  no_room : s.protected ≡ true → {out : List ℕ} → length out < 37 + length content → Answers (sealing s kind content) out (Refused ShortOutput) out
+  no_room : s.protected ≡ true → {out : List ℕ} → length out < 37 + length content → Answers (sealing s kind content) out (Err ShortOutput) out
   no_room p {out} short =
       let long : length (sealed s kind content) ≡ 37 + length content = length-sealed s kind content ∙ rw p (omega arith) in
       rw within (short-answers (sealed s kind content) out (omega arith))
@@ -49,9 +49,9 @@ module _ (s : State) (kind : ContentType) (content : List ℕ) (few : length con
         let size : length (content ++ tail) ≡ length content + 32 = length-append content tail ∙ rw length-mac-of in
         rw (v, h, p, size)
 
-    put-parts : (out mid back : List ℕ) {said : Written} → 37 + length content ≤ length out → Answers (gives (head ++ content)) out said mid
+    put-parts : (out mid back : List ℕ) {said : Result ℕ Refusal} → 37 + length content ≤ length out → Answers (gives (head ++ content)) out said mid
         → back ≡ take (length value) value ++ drop (length value) (take (length mid - (5 + length content)) (drop (5 + length content) mid))
-        → Answers (sealing s kind content) out (Wrote (37 + length content))
+        → Answers (sealing s kind content) out (Ok (37 + length content))
         (take (5 + length content) mid ++ (back ++ drop (length mid - (5 + length content)) (drop (5 + length content) mid)))
     put-parts out mid back room two copied =
         let long : length ((head ++ content) ++ value) ≡ 37 + length content = rw (← parts) (length-sealed s kind content ∙ rw p (omega arith)) in

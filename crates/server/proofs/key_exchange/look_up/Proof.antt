@@ -4,9 +4,9 @@ use mathlib.Core.Path.{◌≡◌, refl, sym}
 use Prim.Native.Nat.{ℕ, ◌≤◌}
 use native.Mathlib.Omega.{arith}
 use mathlib.Core.List.{List}
-use mathlib.Core.Option.{some}
 use lib.ListN.{length, take}
 use lib.Seq.{length-take-le}
+use Rattle.std.specs.Prelude.{Some}
 use Rattle.keytable.specs.Table.{key_of, found}
 use Rattle.keytable.specs.Starts.{looked_up}
 use Rattle.keytable.proofs.Lookups.{key-size}
@@ -30,18 +30,18 @@ module _ (c : tie.After-lookup) where
   by-own = looked-up-own table _ _ entry.requires identity
 
 -- where the lookup has found a key
-module _ (c : tie.In-Wrote) where
+module _ (c : tie.In-Ok) where
   abbrev look : tie.After-lookup
   look = c.before.before
 
   abbrev n : ℕ
-  n = c.in-Wrote.n
+  n = c.in-Ok.n
 
   abbrev buffer : List ℕ
   buffer = look.lookup.new.out
 
-  put : (n ≤ 64) × (key_of (table look) (identity look) ≡ some (take n buffer))
-  put = key-put (table look) (identity look) _ (rw (by-own look) at look.lookup.ensures) c.in-Wrote.is
+  put : (n ≤ 64) × (key_of (table look) (identity look) ≡ Some (take n buffer))
+  put = key-put (table look) (identity look) _ (rw (by-own look) at look.lookup.ensures) c.in-Ok.is
 
   fits : n ≤ length buffer
   fits =
@@ -57,15 +57,15 @@ slice-aggregate-master-under c = sym (length-take-le (n c.before) (buffer c.befo
 master-under-requires : tie.Need-master_under-requires
 master-under-requires c κs = key-size (table (look c.before)) (identity (look c.before)) _ (put c.before).1
 
-returns : tie.Need-returns-in-Wrote
+returns : tie.Need-returns-in-Ok
 returns c =
     let made = c.master_under.ensures in
     rw ((put c.before.before.before).1, ← made.0, ← made.1) c.accept.ensures
 
-returns-2 : tie.Need-returns-in-Refused
+returns-2 : tie.Need-returns-in-Err
 returns-2 c =
     let said = rw (by-own c.before.before.before) at c.lookup.ensures in
-    rw (key-missing (table c.before.before.before) (identity c.before.before.before) _ refl said c.in-Refused.is) c.unlisted.ensures
+    rw (key-missing (table c.before.before.before) (identity c.before.before.before) _ refl said c.in-Err.is) c.unlisted.ensures
 
 pub look_up_spec : {M : Type 1} → statement M
 look_up_spec =

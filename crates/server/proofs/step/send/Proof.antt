@@ -20,15 +20,15 @@ few c =
 abbrev entry : tie.After-send-said → tie.Start
 entry c = c.before.before.before
 
-returns : tie.Need-returns-in-Wrote
+returns : tie.Need-returns-in-Ok
 returns c =
     let start = entry c.before.before.before in
-    sent start.args.c start.args.next (flight_of start.args.outgoing) (few start) c.send-said.ensures c.in-Wrote.is
+    sent start.args.c start.args.next (flight_of start.args.outgoing) (few start) c.send-said.ensures c.in-Ok.is
 
-returns-2 : tie.Need-returns-in-Refused
+returns-2 : tie.Need-returns-in-Err
 returns-2 c =
     let start = entry c.before.before.before in
-    not-sent start.args.c start.args.next (flight_of start.args.outgoing) (few start) c.send-said.ensures c.in-Refused.is
+    not-sent start.args.c start.args.next (flight_of start.args.outgoing) (few start) c.send-said.ensures c.in-Err.is
 
 pub send_spec : {M : Type 1} → statement M
 send_spec =

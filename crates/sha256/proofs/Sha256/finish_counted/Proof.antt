@@ -3,13 +3,13 @@
 use mathlib.Core.Path.{◌≡◌, refl, ◌∙◌}
 use Prim.Native.Nat.{ℕ, ◌+◌, ◌^◌, ◌≤◌}
 use native.Mathlib.Omega.{arith}
+use Rattle.std.specs.Prelude.{Result, Ok, Err}
+use Rattle.refusal.specs.declared.Refusal.{Refusal}
 use Rattle.refusal.specs.Lent.{gives}
 use Rattle.sha256.specs.Hash.{limit}
 use borrow.Author.Tests.{lt-leb, le-leb}
 use Rattle.refusal.proofs.Laws.{refuses-answers}
 use Rattle.refusal.specs.declared.Refusal.TheVariants.{BadValue}
-use Rattle.refusal.specs.declared.Written.{Written}
-use Rattle.refusal.specs.declared.Written.TheVariants.{Wrote, Refused}
 use Rattle.sha256.specs.State.{finished}
 use Rattle.sha256.specs.Report.{reported}
 use borrow.Author.Rules.{rules}
@@ -17,9 +17,9 @@ use Rattle.sha256.proofs.Sha256.finish_counted.Statement.{statement}
 use Rattle.sha256.proofs.Sha256.finish_counted.Tie as tie
 
 -- a number that is not reported is within the bound too
-reported-most : (said : Written) (blocks : ℕ) → blocks ≤ 2 ^ 55 + 1 → reported said blocks ≤ 2 ^ 55 + 1
-reported-most (Wrote n) blocks h = h
-reported-most (Refused r) blocks h = omega arith
+reported-most : (said : Result ℕ Refusal) (blocks : ℕ) → blocks ≤ 2 ^ 55 + 1 → reported said blocks ≤ 2 ^ 55 + 1
+reported-most (Ok n) blocks h = h
+reported-most (Err r) blocks h = omega arith
 
 returns : tie.Need-returns-then-self-gt-LIMIT
 unfolding finished

@@ -1,5 +1,5 @@
 -- `sha256::Sha256::padded`: one block or two, by whether the length has room, and so many are counted.
-use Rattle.std.proofs.Common.{◌≡◌, ℕ, ◌+◌, ◌-◌, ◌*◌, ◌/◌, ◌%◌, List, ◌∷◌, ◌++◌, length, take, arith, rules}
+use Rattle.std.proofs.Common.{◌≡◌, ℕ, ◌-◌, ◌*◌, ◌%◌, List, ◌∷◌, ◌++◌, length, take, arith, rules}
 use lib.ListN.{replicate}
 use lib.Seq.{length-take-le}
 use Rattle.endian.specs.Number.{be}

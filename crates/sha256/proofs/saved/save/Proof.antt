@@ -39,7 +39,7 @@ returns c =
     let size : length r ≡ 104 = search (rules, c.append.type_inv) in
     let front = copy-behind (replicate 104 0) c.concatenation-words.result c.append-front.result 0 32 c.append-front.ensures refl c.concatenation-words.ensures refl in
     let held = copy-behind c.append-front.result state.block c.append-held.result 32 64 c.append-held.ensures front refl (fits c.before.before.before.before.before.before.before.before.before.before).size in
-    let all = copy-behind c.append-held.result c.bytes64-count.result r 96 8 c.append.ensures held c.bytes64-count.ensures refl in
+    let all = copy-behind c.append-held.result c.bytes-count.result r 96 8 c.append.ensures held c.bytes-count.ensures refl in
     let whole : r ≡ saved state = sym (take_all 104 r (omega arith)) ∙ all in
     (whole, ap restored whole ∙ restored-saved state (fits c.before.before.before.before.before.before.before.before.before.before))
 

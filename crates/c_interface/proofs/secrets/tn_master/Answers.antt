@@ -1,0 +1,9 @@
+-- `c_interface::secrets::tn_master`: what it answers is a code.
+use Rattle.c_interface.proofs.Answers.{answer-count-small}
+use Rattle.c_interface.proofs.Sizes.{master-small}
+use Rattle.c_interface.proofs.secrets.tn_master.Goals as goal
+
+pub of_answer-requires : goal.of_answer-requires
+of_answer-requires c =
+    let a = c.args in
+    answer-count-small c.master-done.ensures.answers (master-small a.premaster.now a.client.now a.server.now)
