@@ -1,15 +1,17 @@
 /*
  * The work on a ClientKeyExchange, evened out. How long it may take is measured: the median of some logins whose name takes as long to be compared with the
- * table's as any, times a margin for a machine that has become crowded since, longer keys and cold caches.
+ * table's as any, by the library and by the gateway, times a margin for a machine that has become crowded since, longer keys and colder caches.
  */
 #include "work.h"
 
 #include <stdlib.h>
 #include <string.h>
+#include <time.h>
 
-#include "rest.h"
+#include "clock.h"
+#include "settings.h"
 
-enum { TRIES = 15, MARGIN = 3 };
+enum { TRIES = 15, MARGIN = 5 };
 
 static int64_t allowed; /* nanoseconds */
 
@@ -20,6 +22,13 @@ static void hand(struct connection *c, const struct settings *settings, const ui
     memcpy(c->channel.in, header, sizeof header);
     memcpy(c->channel.in + sizeof header, message, n);
     (void)connection_received(c, settings, sizeof header + n);
+}
+
+/* The gateway waits between logins, and others use the processor and its caches meanwhile. */
+static void leave_processor(void)
+{
+    const struct timespec rest = {0, 500000};
+    (void)nanosleep(&rest, NULL);
 }
 
 /* The table's last name with another last byte, one that is no UTF-8: listed nowhere, and as long in being compared as the last. Its length. */
@@ -54,8 +63,10 @@ void work_measure(const struct settings *settings)
         if (!connection_start(&trial, settings) || !tn_is_count(hello_len) || !tn_is_count(exchange_len))
             return;
         hand(&trial, settings, hello, (size_t)hello_len);
+        leave_processor();
         int64_t from = nanoseconds();
         hand(&trial, settings, exchange, (size_t)exchange_len);
+        trial.unlisted = !table_lists(settings, trial.identity, trial.identity_len);
         taken[i] = nanoseconds() - from;
     }
     connection_clear(&trial);
