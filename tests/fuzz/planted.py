@@ -688,10 +688,10 @@ def plant(fault, directory, objects, library):
 
 
 def planted(directory, objects, library):
-    """How many faults are not found; two are tried at a time."""
+    """How many faults are not found; as many are tried at a time as there are processors."""
     missed = 0
-    with concurrent.futures.ThreadPoolExecutor(2) as two:
-        for fault, said in zip(PLANTED, two.map(lambda fault: plant(fault, directory, objects, library), PLANTED)):
+    with concurrent.futures.ThreadPoolExecutor(os.cpu_count()) as several:
+        for fault, said in zip(PLANTED, several.map(lambda fault: plant(fault, directory, objects, library), PLANTED)):
             print(f"{fault[0]}: {said or 'NOT FOUND'}", flush=True)
             missed += said is None
     return missed
