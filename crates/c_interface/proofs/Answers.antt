@@ -16,7 +16,6 @@ use Rattle.refusal.specs.declared.Refusal.{Refusal}
 use Rattle.refusal.specs.declared.Refusal.TheVariants.{ShortOutput}
 use Rattle.refusal.specs.Lent.{Outcome, gives, refuses, within, answer, Answers}
 use Rattle.table_edits.specs.Edits.{EditsBoth}
-use Rattle.sha256.specs.Report.{reported}
 use Rattle.c_interface.specs.Codes.{coded, refusal_code, report_after, Codes, CodesBoth}
 use Rattle.c_interface.specs.Inner.{count}
 use Rattle.c_interface.proofs.Signed.{handed-on}
@@ -26,9 +25,9 @@ pub codes-answer : {wanted : Outcome} {out out' : List ℕ} {said : Result ℕ R
 codes-answer {result = result} a fits e = record { told = handed-on result fits ∙ e ∙ ap coded a.told; left = a.left }
 
 -- of a call that reports a number: it is written where bytes were, and stays where there was a refusal
-pub report-wrote : (o : Outcome) (reports old : ℕ) {said : Result ℕ Refusal} {n blocks : ℕ} → said ≡ answer o → said ≡ Ok n → blocks ≡ reported said reports
+pub report-wrote : (o : Outcome) (reports old : ℕ) {said : Result ℕ Refusal} {n blocks : ℕ} → said ≡ answer o → said ≡ Ok n → blocks ≡ reports
     → blocks ≡ report_after o reports old
-report-wrote (gives bytes) reports old told wrote e = e ∙ rw wrote
+report-wrote (gives bytes) reports old told wrote e = e
 report-wrote (refuses r) reports old told wrote e = let z : ◌≡◌ {A = ℕ} 0 1 = cc in absurd (omega arith)
 
 pub report-refused : (o : Outcome) (reports old : ℕ) {said : Result ℕ Refusal} {r : Refusal} → said ≡ answer o → said ≡ Err r

@@ -1,17 +1,13 @@
--- What is the client's own of what Keeping says: how long a ClientHello is, and the parts of a reply.
+-- What is the client's own of what Keeping says: how long a ClientHello is.
 -- Assumes nothing.
-use mathlib.Core.Path.{◌≡◌, refl, ap}
+use mathlib.Core.Path.{◌≡◌, refl}
 use Prim.Native.Nat.{ℕ, ◌<◌, ◌^◌}
 use native.Mathlib.Omega.{arith}
 use mathlib.Core.List.{List}
-use Rattle.std.specs.Prelude.{Result, Option}
+use Rattle.std.specs.Prelude.{Result}
 use Rattle.refusal.specs.declared.Refusal.{Refusal}
 use Rattle.refusal.specs.declared.Refusal.TheVariants.{BadSetting}
-use Rattle.handshake.specs.declared.Derived.{Derived}
-use Rattle.client.specs.declared.Connection.{Connection}
-use Rattle.client.specs.declared.Reply.{Reply}
 use Rattle.client.specs.Connection.{Settings, acceptable, hello, start_outcome, start_call}
-use Rattle.client.specs.Message.{with_master}
 use Rattle.client.proofs.Hellos.{hello-length}
 use Rattle.client.proofs.Starts.{allowed}
 use Rattle.c_interface.specs.Inner.{count}
@@ -22,7 +18,3 @@ pub hello-count : (s : Settings) (out : List ℕ) {said : Result ℕ Refusal} �
 hello-count s out e =
     answer-count-small {wanted = start_outcome s} {out = out} (record { told = e; left = refl })
     (bytes-if-small (acceptable s) (hello s.random) BadSetting (λ ok. omega (arith, hello-length s.random (allowed s ok).random)))
-
-pub reply-parts : (said : Result ℕ Refusal) (next : Connection) (o : Option Derived) {r : Reply} → r ≡ with_master said next o
-    → (r.said ≡ said) × (r.next ≡ next) × (r.handed ≡ o)
-reply-parts said next o e = (ap (λ (r : Reply). r.said) e, ap (λ (r : Reply). r.next) e, ap (λ (r : Reply). r.handed) e)

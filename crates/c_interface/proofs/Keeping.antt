@@ -4,7 +4,7 @@
 use mathlib.Core.Path.{◌≡◌, refl, sym, ap, ◌∙◌}
 use Prim.Native.Nat.{ℕ, ◌<◌, ◌^◌}
 use native.Mathlib.Omega.{arith}
-use mathlib.Core.Bool.{Bool, true, false, cond, true≢false}
+use mathlib.Core.Bool.{Bool, true, false, cond}
 use mathlib.Core.List.{List}
 use lib.ListN.{length}
 use lib.Dec.{leb}
@@ -18,31 +18,41 @@ use Rattle.refusal.specs.declared.Refusal.{Refusal}
 use Rattle.refusal.specs.declared.Refusal.TheVariants.{ShortOutput}
 use Rattle.refusal.specs.Table.{to_peer}
 use Rattle.refusal.specs.Lent.{Outcome, gives, refuses, within, answer}
+use Rattle.handshake.specs.declared.Answer.{Answer}
 use Rattle.handshake.specs.declared.Derived.{Derived}
-use Rattle.handshake.specs.Step.{Step, outcome, next_after, settled}
+use Rattle.handshake.specs.declared.Reply.{Reply}
+use Rattle.handshake.specs.Handed.{with_master}
+use Rattle.handshake.specs.Step.{Step, Settled, outcome, next_after, settled, answered}
 use Rattle.handshake.proofs.Refusals.{alerts-close}
-use Rattle.server.specs.declared.Answer.{Answer}
-use Rattle.server.specs.declared.Reply.{Reply}
+use Rattle.server.specs.declared.Connection.{Connection}
 use Rattle.server.specs.Connection.{Settings, acceptable, bad_setting, started, start_answer}
-use Rattle.server.specs.Step.{Settled, answered}
-use Rattle.server.specs.Message.{with_master}
 use Rattle.c_interface.specs.Codes.{coded}
-use Rattle.c_interface.specs.Kept.{KeepsAs, StartsAs, master_after, blocks_after}
-use Rattle.c_interface.specs.Inner.{count, changes, read_after, KeptAs}
+use Rattle.c_interface.specs.Kept.{KeepsAs, StartsAs, kept_bytes, master_after, blocks_after}
+use Rattle.c_interface.specs.Inner.{count}
 use Rattle.c_interface.proofs.Signed.{handed-on}
 
 -- ---- the connection's bytes
 
--- whatever kind of connection it is, and however it is saved
-module _ {A : Type 0} {save : A → List ℕ} {restore : List ℕ → A} {next : A} {bytes bytes' : List ℕ} where
-  pub kept-changed : {said : Result ℕ Refusal} → changes said ≡ true → bytes' ≡ save next → restore bytes' ≡ next → KeptAs save restore said next bytes bytes'
-  kept-changed {said = Ok n} t left read = record { left = left; read = read }
-  kept-changed {said = Err r} t left read = record { left = rw t left; read = rw t read }
+-- the connection that the bytes stand for after a call that said this, where they stood for c
+abbrev pub read_after : {A : Type 0} → Result ℕ Refusal → (next c : A) → A
+read_after (Ok n) next c = next
+read_after (Err r) next c = cond (to_peer r) next c
 
-  -- an R number
-  pub kept_same : {said : Result ℕ Refusal} → changes said ≡ false → bytes' ≡ bytes → KeptAs save restore said next bytes bytes'
-  kept_same {said = Ok n} t same = absurd (true≢false t)
-  kept_same {said = Err r} t same = record { left = rw t same; read = rw t (ap restore same) }
+-- the bytes after a call that said this and gave this connection, by the way in which it is saved, and what they stand for
+pub record KeptAs {A : Type 0} (save : A → List ℕ) (restore : List ℕ → A) (said : Result ℕ Refusal) (next : A) (bytes bytes' : List ℕ) : Type 0 where
+  pub left : bytes' ≡ kept_bytes said (save next) bytes
+  pub read : restore bytes' ≡ read_after said next (restore bytes)
+
+-- whatever kind of connection it is: what is saved stands for what it was made of
+pub kept-as : {A : Type 0} {save : A → List ℕ} {restore : List ℕ → A} {said : Result ℕ Refusal} {next : A} {new bytes bytes' : List ℕ} → new ≡ save next
+    → restore new ≡ next → bytes' ≡ kept_bytes said new bytes → KeptAs save restore said next bytes bytes'
+kept-as {restore = restore} {said = Ok n} e read left = record { left = left ∙ e; read = ap restore left ∙ read }
+kept-as {save = save} {restore} {said = Err r} {next} {new} {bytes} e read left =
+    record { left = left ∙ ap (λ (b : List ℕ). cond (to_peer r) b bytes) e; read = ap restore left ∙ go (to_peer r) }
+  where
+    go : (t : Bool) → restore (cond t new bytes) ≡ cond t next (restore bytes)
+    go true = read
+    go false = refl
 
 -- an alert's connection is written, and an R number's is the one that the bytes stand for
 pub closed-read : {A : Type 0} (t : Bool) (closed c : A) {next : A} → next ≡ cond t closed c → cond t next c ≡ next
@@ -103,15 +113,16 @@ module _ {o given : Option Derived} (same : given ≡ o) (master : List ℕ) (bl
   pub was-kept : given ≡ None → (master ≡ master_after o master) × (blocks ≡ blocks_after o blocks)
   was-kept e = rw (sym same ∙ e) (refl, refl)
 
+-- the parts of a reply
+pub reply-parts : {A : Type 0} (s : Settled A) (o : Option Derived) {r : Reply A} → r ≡ with_master (answered s) o
+    → (r.said ≡ s.said) × (r.next ≡ s.next) × (r.handed ≡ o)
+reply-parts s o e = (ap (λ r. r.said) e, ap (λ r. r.next) e, ap (λ r. r.handed) e)
+
 -- ---- the server's own
 
-pub start-count : (s : Settings) {a : Answer} → a ≡ start_answer s → count a.said < 2 ^ 31
+pub start-count : (s : Settings) {a : Answer Connection} → a ≡ start_answer s → count a.said < 2 ^ 31
 start-count s e = rw e (go (acceptable s))
   where
     go : (t : Bool) → count (cond t (record { said = Ok 0; next = started s }) bad_setting).said < 2 ^ 31
     go true = omega arith
     go false = omega arith
-
-pub reply-parts : (s : Settled) (o : Option Derived) {r : Reply} → r ≡ with_master (answered s) o
-    → (r.said ≡ s.said) × (r.next ≡ s.next) × (r.handed ≡ o)
-reply-parts s o e = (ap (λ (r : Reply). r.said) e, ap (λ (r : Reply). r.next) e, ap (λ (r : Reply). r.handed) e)

@@ -15,25 +15,26 @@ use Rattle.refusal.specs.declared.Refusal.{Refusal}
 use Rattle.refusal.specs.declared.Refusal.TheVariants.{ShortOutput}
 use Rattle.refusal.specs.Table.{to_peer, number_of}
 use Rattle.refusal.specs.Lent.{Outcome, gives, refuses, within, answer}
+use Rattle.handshake.specs.declared.Answer.{Answer}
 use Rattle.handshake.specs.declared.Derived.{Derived}
+use Rattle.handshake.specs.Step as Shared
+use Rattle.handshake.specs.Step.{answered}
 use Rattle.server.specs.KeyExchange.{View}
 use Rattle.server.specs.Connection.{Settings, start_answer}
 use Rattle.record_server.specs.declared.RecordConnection.{RecordConnection}
-use Rattle.record_server.specs.declared.Answer.{Answer}
 use Rattle.record_server.specs.declared.Taken.{Taken}
 use Rattle.record_server.specs.Connection.{closed_with, closing_alert, after_refusal, record_start}
-use Rattle.record_server.specs.Sending as Sending
-use Rattle.record_server.specs.Sending.{settled, answered, next_after}
+use Rattle.record_server.specs.Sending.{settled, next_after}
 use Rattle.record_server.specs.Taking as Taking
 use Rattle.record_server.specs.Taking.{Step, Settled, refuse, accept, refused, front, take_call, take_step, taken}
 use Rattle.record_server.proofs.Settling.{alerts-close}
-use Rattle.saved_records.specs.Saved.{restored}
+use Rattle.saved_records.specs.Saved.{saved, restored}
 use Rattle.c_interface.specs.Codes.{coded}
 use Rattle.c_interface.specs.Records.{KeepsRecord, data_fields, told_after}
-use Rattle.c_interface.specs.Inner.{count, read_after, KeptRecord}
+use Rattle.c_interface.specs.Inner.{count}
 use Rattle.c_interface.proofs.Answers.{answer-count-small}
 use Rattle.c_interface.proofs.Sizes.{Small}
-use Rattle.c_interface.proofs.Keeping.{closed-read, start-count, call-keeps}
+use Rattle.c_interface.proofs.Keeping.{read_after, KeptAs, closed-read, start-count, call-keeps}
 
 -- ---- what the bytes stand for
 
@@ -68,28 +69,28 @@ took-read c out memory (accept a) = go (leb (length a.answer) (length out) && le
 
 -- ---- start
 
-pub record-start-count : (s : Settings) {a : Answer} → a ≡ record_start s → count a.said < 2 ^ 31
+pub record-start-count : (s : Settings) {a : Answer RecordConnection} → a ≡ record_start s → count a.said < 2 ^ 31
 record-start-count s e = rw e (start-count s {a = start_answer s} refl)
 
 -- ---- a call that sends, on the connection that was restored
 
 module _ (bytes out : List ℕ) (next : RecordConnection → RecordConnection) (wanted : RecordConnection → Outcome) where
-  abbrev pub sent_on : RecordConnection → Sending.Settled
+  abbrev pub sent_on : RecordConnection → Shared.Settled RecordConnection
   sent_on x = settled x (next x) out (wanted x)
 
-  pub sent-count : (c : RecordConnection) {a : Answer} → a ≡ answered (sent_on c) → Small (wanted c) → count a.said < 2 ^ 31
+  pub sent-count : (c : RecordConnection) {a : Answer RecordConnection} → a ≡ answered (sent_on c) → Small (wanted c) → count a.said < 2 ^ 31
   sent-count c e small =
-      answer-count-small {wanted = wanted c} {out = out} (record { told = ap (λ (y : Answer). y.said) e; left = refl }) small
+      answer-count-small {wanted = wanted c} {out = out} (record { told = ap (λ (y : Answer RecordConnection). y.said) e; left = refl }) small
 
-  pub sent-keeps : {c : RecordConnection} {a : Answer} {out' bytes' : List ℕ} {result : ℤ} → c ≡ restored bytes
+  pub sent-keeps : {c : RecordConnection} {a : Answer RecordConnection} {out' bytes' : List ℕ} {result : ℤ} → c ≡ restored bytes
       → (a ≡ answered (sent_on c)) × (out' ≡ (sent_on c).out) → mag result < 2 ^ 31 → result ≡ coded a.said
-      → KeptRecord a.said a.next bytes bytes'
+      → KeptAs saved restored a.said a.next bytes bytes'
       → KeepsRecord (sent_on (restored bytes)).said (sent_on (restored bytes)).next bytes (to_z w32 (of_z w32 result)) bytes'
       × (out' ≡ (sent_on (restored bytes)).out)
   sent-keeps same e fits told kept =
       let now = restored bytes in (
-        call-keeps (ap (λ (y : Answer). y.said) e.0 ∙ ap (λ (x : RecordConnection). (sent_on x).said) same)
-            (ap (λ (y : Answer). y.next) e.0 ∙ ap (λ (x : RecordConnection). (sent_on x).next) same) fits told kept
+        call-keeps (ap (λ (y : Answer RecordConnection). y.said) e.0 ∙ ap (λ (x : RecordConnection). (sent_on x).said) same)
+            (ap (λ (y : Answer RecordConnection). y.next) e.0 ∙ ap (λ (x : RecordConnection). (sent_on x).next) same) fits told kept
             (sent-read now (next now) (within (length out) (wanted now))),
         e.1 ∙ ap (λ (x : RecordConnection). (sent_on x).out) same,
       )
@@ -123,7 +124,7 @@ module _ (s : Settled) where
 
 module _ (v : View) (bytes received memory out : List ℕ) where
   pub took-keeps : {t : Taken} {bytes' : List ℕ} {result : ℤ} → t ≡ taken (take_call v (restored bytes) received memory out) → mag result < 2 ^ 31
-      → result ≡ coded t.said → KeptRecord t.said t.next bytes bytes'
+      → result ≡ coded t.said → KeptAs saved restored t.said t.next bytes bytes'
       → KeepsRecord (take_call v (restored bytes) received memory out).said (take_call v (restored bytes) received memory out).next bytes
       (to_z w32 (of_z w32 result)) bytes'
   took-keeps e fits told kept =

@@ -1,11 +1,11 @@
 -- The server's calls as C makes them: the connection in lent bytes (crates/saved/specs/Saved.antt).
 use Rattle.std.specs.Prelude.{◌≡◌, ℕ, cond, List, leb, eqb, ℤ, Option, None, Some}
 use Rattle.handshake.specs.Handed.{derived}
+use Rattle.handshake.specs.declared.Answer.{Answer}
 use Rattle.handshake.specs.declared.Derived.{Derived}
 use Rattle.handshake.specs.Protocol.{suites}
 use Rattle.server.specs.declared.Rule.{Rule}
 use Rattle.server.specs.declared.Connection.{Connection}
-use Rattle.server.specs.declared.Answer.{Answer}
 use Rattle.server.specs.Connection.{bad_setting, start_answer}
 use Rattle.server.specs.KeyExchange.{View}
 use Rattle.server.specs.Step.{Settled}
@@ -23,12 +23,12 @@ Keeps wanted = KeepsAs saved restored wanted.said wanted.next
 abbrev pub named_of : ℕ → Option Rule
 named_of n = cond (eqb n 0) None (cond (eqb n 1) (Some Rule.Tell) (Some Rule.Hide))
 
-abbrev pub start_call : (random hint stand_in : List ℕ) → ℕ → Answer
+abbrev pub start_call : (random hint stand_in : List ℕ) → ℕ → Answer Connection
 start_call random hint stand_in rule =
     cond (leb rule 2) (start_answer (record { random = random; hint = hint; stand_in = stand_in; named = named_of rule; suites = suites })) bad_setting
 
 -- the call that makes a connection
-abbrev pub Starts : Answer → (bytes : List ℕ) → ℤ → (bytes' : List ℕ) → Type 0
+abbrev pub Starts : Answer Connection → (bytes : List ℕ) → ℤ → (bytes' : List ℕ) → Type 0
 Starts wanted = StartsAs saved restored wanted.said wanted.next
 
 -- ---- a message

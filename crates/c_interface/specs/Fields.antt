@@ -1,5 +1,5 @@
--- What a layout reader says, as the fields that C is given. A place is its start and its length.
-use Rattle.std.specs.Prelude.{ℕ, cond, List, [], ◌∷◌, length, leb, pos, None, Some, Option}
+-- What a layout reader says, as the fields that C is given. A place is its start and its length. And the block that C gives a writer.
+use Rattle.std.specs.Prelude.{ℕ, Bool, cond, List, [], ◌∷◌, length, leb, pos, None, Some, Option}
 use Rattle.refusal.specs.declared.Refusal.TheVariants.{DecodeError}
 use Rattle.layout.specs.declared.Part.{Part}
 use Rattle.messages.specs.declared.ticket.Ticket.{Ticket}
@@ -17,6 +17,10 @@ part_read None = rejected DecodeError
 abbrev pub block_fields : Option Part → List ℕ
 block_fields None = 0 ∷ 0 ∷ 0 ∷ []
 block_fields (Some p) = 1 ∷ p.start ∷ p.len ∷ []
+
+-- the block that C gives a writer: a flag, and bytes that count only where it is true
+abbrev pub block_given : Bool → List ℕ → Option (List ℕ)
+block_given present b = cond present (Some b) None
 
 -- version, session id's length, suites, compression methods, block; the random stands at 6, the session id at 39
 abbrev pub client_read : Option Client → Reading

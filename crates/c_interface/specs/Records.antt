@@ -6,13 +6,13 @@ use Rattle.refusal.specs.declared.Refusal.TheVariants.{BadSetting, BadValue}
 use Rattle.refusal.specs.Lent.{Outcome, refuses}
 use Rattle.endian.specs.Number.{number}
 use Rattle.lists.specs.Lists.{part}
+use Rattle.handshake.specs.declared.Answer.{Answer}
 use Rattle.handshake.specs.declared.Derived.{Derived}
 use Rattle.records.specs.declared.ContentType.{ContentType}
 use Rattle.records.specs.declared.State.{State}
 use Rattle.records.specs.Record.{type_number, type_of, fragment_of, record_read}
 use Rattle.records.specs.Protection.{sealing}
 use Rattle.record_server.specs.declared.RecordConnection.{RecordConnection}
-use Rattle.record_server.specs.declared.Answer.{Answer}
 use Rattle.record_server.specs.Connection.{offered, no_alert, closed_with, record_start}
 use Rattle.record_server.specs.Taking as Taking
 use Rattle.saved_records.specs.Saved.{saved, restored}
@@ -27,13 +27,13 @@ abbrev pub KeepsRecord : Result ℕ Refusal → RecordConnection → (bytes : Li
 KeepsRecord = KeepsAs saved restored
 
 -- a rule of 3 and above is R3
-abbrev pub record_start_call : (random hint stand_in : List ℕ) → ℕ → Answer
+abbrev pub record_start_call : (random hint stand_in : List ℕ) → ℕ → Answer RecordConnection
 record_start_call random hint stand_in rule =
     cond (leb rule 2) (record_start (record { random = random; hint = hint; stand_in = stand_in; named = named_of rule; suites = offered }))
     (record { said = Err BadSetting; next = closed_with no_alert })
 
 -- the call that makes a connection
-abbrev pub StartsRecord : Answer → (bytes : List ℕ) → ℤ → (bytes' : List ℕ) → Type 0
+abbrev pub StartsRecord : Answer RecordConnection → (bytes : List ℕ) → ℤ → (bytes' : List ℕ) → Type 0
 StartsRecord wanted = StartsAs saved restored wanted.said wanted.next
 
 -- ---- a record that was taken

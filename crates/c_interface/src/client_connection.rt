@@ -1,31 +1,15 @@
 // The client's calls, on a connection that the host keeps as 413 bytes. Cleared bytes, and those whose
 // first names no phase, stand for a closed connection. An R number leaves the bytes as they were, an
 // alert makes them those of a closed connection.
-ghost use Rattle.std.specs.Prelude.{◌≡◌, ◌<◌, ◌^◌, pos};
+ghost use Rattle.std.specs.Prelude.{◌≡◌, pos};
 ghost use Rattle.client.specs.Connection.{start_call};
 ghost use Rattle.client.specs.Message.{message_call};
 ghost use Rattle.client.specs.Change.{change_call};
 ghost use Rattle.client.specs.Alert.{alert_call};
 ghost use Rattle.saved_client.specs.Saved.{restored, phase_byte};
-ghost use Rattle.c_interface.specs.Codes.{coded};
 ghost use Rattle.c_interface.specs.Clients.{Keeps, Starts, Replies};
-ghost use Rattle.c_interface.specs.Inner.{count, KeptClient};
 
 use crate::code;
-use client::Connection;
-use refusal::Refusal;
-
-// The code of what was said; the connection's bytes change unless it is an R number.
-fn keep(said: Result<usize, Refusal>, next: Connection, client: &mut [u8; 413]) -> i32
-    requires { count said < 2 ^ 31 }
-    ensures value { result ≡ coded said }
-    ensures kept_client { KeptClient said next client.old client.new }
-{
-    if code::changes(said) {
-        *client = saved_client::save(next);
-    }
-    code::of_answer(said)
-}
 
 // A new connection, and its ClientHello in the output.
 pub fn tn_client_start(
@@ -40,7 +24,7 @@ pub fn tn_client_start(
     ensures out_after { out.new ≡ (start_call (record { random = random.now; identity = identity.now; key = key.now }) out.old).out }
 {
     let answer = client::start(random, identity, key, out);
-    keep(answer.said, answer.next, client)
+    code::keep(answer.said, &saved_client::save(answer.next), client)
 }
 
 // A handshake message. The answer to a ServerHelloDone has the ClientKeyExchange, and the Finished in
@@ -64,7 +48,7 @@ pub fn tn_client_message(
         *master = secret;
         *blocks = derived.blocks;
     }
-    keep(reply.said, reply.next, client)
+    code::keep(reply.said, &saved_client::save(reply.next), client)
 }
 
 // The server's change of cipher.
@@ -73,7 +57,7 @@ pub fn tn_client_change_of_cipher(client: &mut [u8; 413]) -> i32
 {
     let bytes = *client;
     let answer = client::change_of_cipher(saved_client::restore(bytes));
-    keep(answer.said, answer.next, client)
+    code::keep(answer.said, &saved_client::save(answer.next), client)
 }
 
 // A received alert.
@@ -82,7 +66,7 @@ pub fn tn_client_alert(client: &mut [u8; 413], level: u8, description: u8) -> i3
 {
     let bytes = *client;
     let answer = client::alert(saved_client::restore(bytes), level, description);
-    keep(answer.said, answer.next, client)
+    code::keep(answer.said, &saved_client::save(answer.next), client)
 }
 
 // What the connection awaits: 0 closed, 1 ServerHello, 2 ServerKeyExchange or ServerHelloDone, 3

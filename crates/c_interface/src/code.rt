@@ -3,6 +3,7 @@ ghost use Rattle.std.specs.Prelude.{◌≡◌, ◌<◌, ◌^◌, pos, neg_ℤ};
 ghost use Rattle.c_interface.specs.Codes.{coded, refusal_code};
 ghost use Rattle.c_interface.specs.Inner as Inner;
 ghost use Rattle.c_interface.specs.Inner.{count};
+ghost use Rattle.c_interface.specs.Kept.{kept_bytes};
 
 use refusal::Refusal;
 
@@ -16,8 +17,8 @@ fn below_zero(n: u16) -> i32
 pub(crate) fn of_refusal(r: Refusal) -> i32
     ensures { result ≡ refusal_code r }
 {
-    let n = refusal::number(r) as u16;
-    if refusal::for_peer(r) {
+    let n = u16::from(u8::from(r));
+    if r.for_peer() {
         return below_zero(1000 + n);
     }
     below_zero(n)
@@ -35,11 +36,27 @@ pub(crate) fn of_answer(said: Result<usize, Refusal>) -> i32
 }
 
 // Whether the bytes of a connection change with this answer: not with an R number.
-pub(crate) fn changes(said: Result<usize, Refusal>) -> bool
+fn changes(said: Result<usize, Refusal>) -> bool
     ensures { result ≡ Inner.changes said }
 {
     match said {
         Ok(_) => true,
-        Err(r) => refusal::for_peer(r),
+        Err(r) => r.for_peer(),
     }
+}
+
+// The code of what was said; the connection's bytes become those of the next one unless it is an R number.
+pub(crate) fn keep<const N: usize>(
+    said: Result<usize, Refusal>,
+    next: &[u8; N],
+    connection: &mut [u8; N],
+) -> i32
+    requires { count said < 2 ^ 31 }
+    ensures value { result ≡ coded said }
+    ensures kept { connection.new ≡ kept_bytes said next.now connection.old }
+{
+    if changes(said) {
+        *connection = *next;
+    }
+    of_answer(said)
 }

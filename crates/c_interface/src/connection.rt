@@ -1,31 +1,18 @@
 // The server's calls, on a connection that the host keeps as 388 bytes. Cleared bytes, and
 // those whose first three name no phase, rule or flag, stand for a closed connection. An R number
 // leaves the bytes as they were, an alert makes them those of a closed connection.
-ghost use Rattle.std.specs.Prelude.{◌≡◌, ◌<◌, ◌^◌, pos};
+ghost use Rattle.std.specs.Prelude.{◌≡◌, pos};
 ghost use Rattle.server.specs.KeyExchange.{view_of};
 ghost use Rattle.server.specs.Message.{message_call};
 ghost use Rattle.server.specs.Change.{change_call};
 ghost use Rattle.server.specs.Alert.{alert_call};
 ghost use Rattle.saved.specs.Saved.{restored, phase_byte};
-ghost use Rattle.c_interface.specs.Codes.{coded};
 ghost use Rattle.c_interface.specs.Connections.{Keeps, Starts, Replies, start_call, named_of};
-ghost use Rattle.c_interface.specs.Inner.{count, Kept};
 
 use crate::code;
+use keytable::Table;
 use refusal::Refusal;
-use server::{Connection, Rule};
-
-// The code of what was said; the connection's bytes change unless it is an R number.
-fn keep(said: Result<usize, Refusal>, next: Connection, connection: &mut [u8; 388]) -> i32
-    requires { count said < 2 ^ 31 }
-    ensures value { result ≡ coded said }
-    ensures kept { Kept said next connection.old connection.new }
-{
-    if code::changes(said) {
-        *connection = saved::save(next);
-    }
-    code::of_answer(said)
-}
+use server::Rule;
 
 // The rule of a number below 3.
 pub(crate) fn named(rule: u8) -> Option<Rule>
@@ -52,7 +39,7 @@ pub fn tn_start(
         return code::of_refusal(Refusal::BadSetting);
     }
     let answer = server::start(random, hint, stand_in, named(rule));
-    keep(answer.said, answer.next, connection)
+    code::keep(answer.said, &saved::save(answer.next), connection)
 }
 
 // A handshake message. The master secret, and how many blocks were hashed for it, are written where a
@@ -73,13 +60,18 @@ pub fn tn_message(
         out.old out.new master.old master.new blocks.old blocks.new }
 {
     let bytes = *connection;
-    let reply = server::message(saved::restore(bytes), table, starts, count, message, out);
+    let table = Table {
+        bytes: table,
+        starts,
+        count,
+    };
+    let reply = server::message(saved::restore(bytes), table, message, out);
     if let Some(derived) = reply.handed {
         let secret = derived.master;
         *master = secret;
         *blocks = derived.blocks;
     }
-    keep(reply.said, reply.next, connection)
+    code::keep(reply.said, &saved::save(reply.next), connection)
 }
 
 // A change of cipher.
@@ -88,7 +80,7 @@ pub fn tn_change_of_cipher(connection: &mut [u8; 388]) -> i32
 {
     let bytes = *connection;
     let answer = server::change_of_cipher(saved::restore(bytes));
-    keep(answer.said, answer.next, connection)
+    code::keep(answer.said, &saved::save(answer.next), connection)
 }
 
 // A received alert.
@@ -97,7 +89,7 @@ pub fn tn_alert(connection: &mut [u8; 388], level: u8, description: u8) -> i32
 {
     let bytes = *connection;
     let answer = server::alert(saved::restore(bytes), level, description);
-    keep(answer.said, answer.next, connection)
+    code::keep(answer.said, &saved::save(answer.next), connection)
 }
 
 // What the connection awaits: 0 closed, 1 ClientHello, 2 ClientKeyExchange, 3 a change of cipher, 4

@@ -1,6 +1,6 @@
 // Record connections, on 576 bytes that the host keeps. Cleared bytes stand for a closed connection. An R number leaves the
 // bytes as they were, an alert makes them those of a closed connection.
-ghost use Rattle.std.specs.Prelude.{◌≡◌, cond, ◌∷◌, ◌<◌, ◌^◌, pos};
+ghost use Rattle.std.specs.Prelude.{◌≡◌, cond, ◌∷◌, pos};
 ghost use Rattle.refusal.specs.Lent.{gives};
 ghost use Rattle.server.specs.KeyExchange.{view_of};
 ghost use Rattle.record_server.specs.Connection.{alert_of};
@@ -8,26 +8,15 @@ ghost use Rattle.record_server.specs.Taking.{take_call};
 ghost use Rattle.record_server.specs.Sending.{send_call, close_call};
 ghost use Rattle.saved.specs.Saved.{phase_byte};
 ghost use Rattle.saved_records.specs.Saved.{restored};
-ghost use Rattle.c_interface.specs.Codes.{coded, Codes};
+ghost use Rattle.c_interface.specs.Codes.{Codes};
 ghost use Rattle.c_interface.specs.Records.{KeepsRecord, StartsRecord, TakesRecord, record_start_call, data_fields};
-ghost use Rattle.c_interface.specs.Inner.{count, KeptRecord, DataFits};
+ghost use Rattle.c_interface.specs.Inner.{DataFits};
 
 use crate::code;
 use crate::connection::named;
+use keytable::Table;
 use record_server::RecordConnection;
 use refusal::Refusal;
-
-// The code of what was said; the connection's bytes change unless it is an R number.
-fn keep(said: Result<usize, Refusal>, next: RecordConnection, connection: &mut [u8; 576]) -> i32
-    requires { count said < 2 ^ 31 }
-    ensures value { result ≡ coded said }
-    ensures kept_record { KeptRecord said next connection.old connection.new }
-{
-    if code::changes(said) {
-        *connection = saved_records::save(next);
-    }
-    code::of_answer(said)
-}
 
 // A new record connection; rule 0 names none, 1 is tell, 2 hide, and R3 any other.
 pub fn tn_record_start(
@@ -44,7 +33,7 @@ pub fn tn_record_start(
         return code::of_refusal(Refusal::BadSetting);
     }
     let answer = record_server::start(random, hint, stand_in, named(rule));
-    keep(answer.said, answer.next, connection)
+    code::keep(answer.said, &saved_records::save(answer.next), connection)
 }
 
 // The four numbers of a record that was accepted.
@@ -91,15 +80,12 @@ pub fn tn_take_record(
         received.now memory.old out.old)
         out.new memory.new master.old master.new told.old told.new blocks.old blocks.new }
 {
-    let taken = record_server::take(
-        connection_of(connection),
-        table,
+    let table = Table {
+        bytes: table,
         starts,
         count,
-        received,
-        memory,
-        out,
-    );
+    };
+    let taken = record_server::take(connection_of(connection), table, received, memory, out);
     let said = taken.said;
     let holds = taken.holds;
     let next = taken.next;
@@ -111,7 +97,7 @@ pub fn tn_take_record(
     if said.is_ok() {
         *told = told_of(taken.handed.is_some(), holds);
     }
-    keep(said, next, connection)
+    code::keep(said, &saved_records::save(next), connection)
 }
 
 // Application data to the client.
@@ -123,7 +109,7 @@ pub fn tn_send_data(connection: &mut [u8; 576], content: &[u8], out: &mut [u8]) 
 {
     let bytes = *connection;
     let answer = record_server::send(saved_records::restore(bytes), content, out);
-    keep(answer.said, answer.next, connection)
+    code::keep(answer.said, &saved_records::save(answer.next), connection)
 }
 
 // A close_notify, and the connection closed.
@@ -134,7 +120,7 @@ pub fn tn_send_close(connection: &mut [u8; 576], out: &mut [u8]) -> i32
 {
     let bytes = *connection;
     let answer = record_server::close(saved_records::restore(bytes), out);
-    keep(answer.said, answer.next, connection)
+    code::keep(answer.said, &saved_records::save(answer.next), connection)
 }
 
 // The record of the alert that closed the connection.

@@ -64,12 +64,13 @@ pub fn tn_master(
         (master_blocks premaster.now client.now server.now)
         out.old blocks.old result out.new blocks.new }
 {
-    let done = keys::master(premaster, client, server, out);
-    let said = done.said;
-    if said.is_ok() {
-        *blocks = done.blocks;
+    match keys::master(premaster, client, server, out) {
+        Ok(done) => {
+            *blocks = done.blocks;
+            code::of_answer(Ok(done.len))
+        }
+        Err(r) => code::of_refusal(r),
     }
-    code::of_answer(said)
 }
 
 pub fn tn_key_block(master: &[u8], server: &[u8], client: &[u8], suite: u16, out: &mut [u8]) -> i32

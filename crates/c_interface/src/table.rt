@@ -8,6 +8,7 @@ ghost use Rattle.utf8.specs.Utf8.{valid_utf8};
 ghost use Rattle.c_interface.specs.Codes.{Codes, CodesBoth, refusal_code};
 
 use crate::code;
+use keytable::Table;
 use refusal::Refusal;
 
 // 0 for a table that is well formed, R2 for another.
@@ -38,7 +39,12 @@ pub fn tn_table_lookup(
 ) -> i32
     ensures { Codes (looked_up table.now starts.now count identity.now) out.old result out.new }
 {
-    code::of_answer(keytable::lookup(table, starts, count, identity, out))
+    let table = Table {
+        bytes: table,
+        starts,
+        count,
+    };
+    code::of_answer(table.lookup(identity, out))
 }
 
 // The table in the memory's first `length` bytes with the line of the identity and the key, as its last; its list with it.

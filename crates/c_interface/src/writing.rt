@@ -8,6 +8,7 @@ ghost use Rattle.messages.specs.Fixed.{server_hello_done, finished};
 ghost use Rattle.messages.specs.NewSessionTicket.{new_session_ticket};
 ghost use Rattle.extensions.specs.Extensions.{extension_written, ticket_extension};
 ghost use Rattle.c_interface.specs.Codes.{Codes};
+ghost use Rattle.c_interface.specs.Fields.{block_given};
 
 use crate::code;
 use hellos::{client_hello, server_hello};
@@ -25,7 +26,7 @@ pub fn tn_write_client_hello(
     out: &mut [u8],
 ) -> i32
     ensures { Codes (written client_hello (client_given version random.now session_id.now suites.now
-        methods.now present block.now)) out.old result out.new }
+        methods.now (block_given present block.now))) out.old result out.new }
 {
     code::of_answer(client_hello::write(
         version as usize,
@@ -33,8 +34,7 @@ pub fn tn_write_client_hello(
         session_id,
         suites,
         methods,
-        present,
-        block,
+        present.then_some(block),
         out,
     ))
 }
@@ -51,7 +51,7 @@ pub fn tn_write_server_hello(
     out: &mut [u8],
 ) -> i32
     ensures { Codes (written server_hello (server_given version random.now session_id.now suite compression
-        present block.now)) out.old result out.new }
+        (block_given present block.now))) out.old result out.new }
 {
     code::of_answer(server_hello::write(
         version as usize,
@@ -59,8 +59,7 @@ pub fn tn_write_server_hello(
         session_id,
         suite as usize,
         compression,
-        present,
-        block,
+        present.then_some(block),
         out,
     ))
 }

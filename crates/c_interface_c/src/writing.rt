@@ -8,6 +8,7 @@ ghost use Rattle.messages.specs.Fixed.{server_hello_done, finished};
 ghost use Rattle.messages.specs.NewSessionTicket.{new_session_ticket};
 ghost use Rattle.extensions.specs.Extensions.{extension_written, ticket_extension};
 ghost use Rattle.c_interface.specs.Codes.{Codes};
+ghost use Rattle.c_interface.specs.Fields.{block_given};
 
 #[unsafe(no_mangle)]
 pub extern "C" fn tn_write_client_hello(
@@ -21,7 +22,7 @@ pub extern "C" fn tn_write_client_hello(
     out: &mut [u8],
 ) -> i32
     ensures { Codes (written client_hello (client_given version random.now session_id.now suites.now
-        methods.now present block.now)) out.old result out.new }
+        methods.now (block_given present block.now))) out.old result out.new }
 {
     c_interface::writing::tn_write_client_hello(
         version, random, session_id, suites, methods, present, block, out,
@@ -40,7 +41,7 @@ pub extern "C" fn tn_write_server_hello(
     out: &mut [u8],
 ) -> i32
     ensures { Codes (written server_hello (server_given version random.now session_id.now suite compression
-        present block.now)) out.old result out.new }
+        (block_given present block.now))) out.old result out.new }
 {
     c_interface::writing::tn_write_server_hello(
         version,

@@ -4,22 +4,17 @@ use mathlib.Core.Path.{◌≡◌, refl, sym, ap, ◌∙◌}
 use Prim.Native.Nat.{ℕ, ◌+◌, ◌≤◌}
 use native.Mathlib.Omega.{arith}
 use mathlib.Core.List.{List, [], ◌∷◌, ◌++◌, append_assoc}
-use lib.ListN.{length, take, drop}
+use lib.ListN.{length, drop}
 use lib.Seq.{drop_at}
-use Rattle.std.specs.Prelude.{Result}
 use Rattle.refusal.specs.declared.Refusal.{Refusal}
 use Rattle.refusal.specs.declared.Refusal.TheVariants.{DecryptError}
-use Rattle.refusal.specs.Lent.{gives, refuses, Answers}
-use Rattle.refusal.proofs.Laws.{answer-first, answer-fills}
+use Rattle.refusal.specs.Lent.{gives, refuses}
 use Rattle.sha256.specs.declared.Sha256.{Sha256}
 use Rattle.sha256.specs.State.{absorb}
 use Rattle.keys.specs.declared.Side.TheVariants.{Client}
 use Rattle.keys.specs.Secrets.{finished_of}
-use Rattle.layout.specs.Layout.{bytes, written}
-use Rattle.messages.specs.KeyExchange.{client_key_exchange}
+use Rattle.layout.specs.Layout.{bytes}
 use Rattle.messages.specs.Fixed.{finished}
-use Rattle.messages.proofs.KeyExchanges.{vector-valid}
-use Rattle.messages.proofs.FixedMessages.{fixed-valid}
 use Rattle.handshake.specs.Flight.{Flight}
 use Rattle.handshake.specs.Outgoing.{cut, Sends}
 use Rattle.handshake.specs.Step.{refuse, accept}
@@ -27,18 +22,6 @@ use Rattle.handshake.proofs.Flights.{cut-first}
 use Rattle.client.specs.declared.Connection.{Connection}
 use Rattle.client.specs.Exchange.{exchange_of, before_finished, finished_with}
 use Rattle.client.specs.Inner.{after_done_with}
-
--- a ClientKeyExchange that was written to an output with room for it
-pub exchange-put : (identity : List ℕ) {out left : List ℕ} {said : Result ℕ Refusal} → length identity ≤ 128 → length out ≡ 134
-    → Answers (written client_key_exchange identity) out said left → take (6 + length identity) left ≡ bytes client_key_exchange identity
-exchange-put identity {left = left} few room a =
-    let size : 6 + length identity ≡ length (bytes client_key_exchange identity) = omega arith in
-    ap (λ (n : ℕ). take n left) size ∙ answer-first (rw (vector-valid 16 identity (omega arith)) at a) (omega arith)
-
--- a Finished that was written to one of its length
-pub finished-put : (value : List ℕ) {out left : List ℕ} {said : Result ℕ Refusal} → length value ≡ 12 → length out ≡ 16
-    → Answers (written finished value) out said left → left ≡ bytes finished value
-finished-put value size room a = answer-fills (rw (fixed-valid 20 12 value size (omega arith)) at a) (omega arith)
 
 abbrev flight_with : List (List ℕ) → List (List ℕ) → Flight
 flight_with plain protected = record { plain = plain; protected = protected }

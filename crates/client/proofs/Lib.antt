@@ -1,4 +1,3 @@
-pub mod Decisions
 pub mod Exchanges
 pub mod Hellos
 pub mod Starts

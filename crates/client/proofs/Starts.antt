@@ -1,22 +1,20 @@
--- The laws of start: what accepted settings are, and what the call gives back, by its tests.
+-- The laws of start: what accepted settings are, and what the call gives back where the hello was sent.
 -- Assumes nothing.
 use mathlib.Core.Path.{◌≡◌}
 use Prim.Native.Nat.{ℕ, ◌≤◌}
-use mathlib.Core.Bool.{true, false, ◌&&◌, and-eq-true_iff}
+use mathlib.Core.Bool.{true, ◌&&◌, and-eq-true_iff}
 use mathlib.Core.List.{List}
 use lib.ListN.{length}
 use lib.Dec.{leb, eqb}
-use borrow.Author.Tests.{le-leb, lt-leb, leb-true, eqb-true}
-use Rattle.std.specs.Prelude.{Result, Ok, Err}
+use borrow.Author.Tests.{le-leb, leb-true, eqb-true}
+use Rattle.std.specs.Prelude.{Result, Ok}
 use Rattle.lists.specs.Lists.{each}
 use Rattle.utf8.specs.Utf8.{valid_utf8}
 use Rattle.refusal.specs.declared.Refusal.{Refusal}
-use Rattle.refusal.specs.declared.Refusal.TheVariants.{BadSetting}
 use Rattle.refusal.specs.Lent.{gives, Answers}
-use Rattle.refusal.proofs.Laws.{wrote-all, refused-short}
+use Rattle.refusal.proofs.Laws.{wrote-all}
 use Rattle.keytable.specs.Table.{plain, between, valid_identity, valid_secret}
-use Rattle.client.specs.declared.Phase.{Phase}
-use Rattle.client.specs.Connection.{Settings, acceptable, hello, started, ended, start_call}
+use Rattle.client.specs.Connection.{Settings, acceptable, hello, started, start_call}
 
 -- what accepted settings are
 pub record Allowed (s : Settings) : Type 0 where
@@ -40,15 +38,7 @@ allowed s h =
       some_key = leb-true _ _ keyed.0;
     }
 
-module _ (s : Settings) {out : List ℕ} where
-  -- R3
-  pub not-started : acceptable s ≡ false → start_call s out ≡ record { said = Err BadSetting; out = out; next = ended Phase.Closed }
-  not-started bad = rw bad
-
-  module _ (ok : acceptable s ≡ true) {left : List ℕ} {said : Result ℕ Refusal} (a : Answers (gives (hello s.random)) out said left) where
-    pub hello-sent : {n : ℕ} → said ≡ Ok n → start_call s out ≡ record { said = said; out = left; next = started s }
-    hello-sent e = rw (ok, a.told, a.left, le-leb (length (hello s.random)) (length out) (wrote-all a e).0)
-
-    -- R1
-    pub hello-short : {r : Refusal} → said ≡ Err r → start_call s out ≡ record { said = said; out = left; next = ended Phase.Closed }
-    hello-short e = rw (ok, a.told, a.left, lt-leb (length (hello s.random)) (length out) (refused-short a e))
+-- a hello that was sent
+pub hello-sent : (s : Settings) {out left : List ℕ} {said : Result ℕ Refusal} {n : ℕ} → acceptable s ≡ true → Answers (gives (hello s.random)) out said left
+    → said ≡ Ok n → start_call s out ≡ record { said = said; out = left; next = started s }
+hello-sent s {out} ok a e = rw (ok, a.told, a.left, le-leb (length (hello s.random)) (length out) (wrote-all a e).0)

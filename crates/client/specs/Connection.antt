@@ -1,5 +1,6 @@
 -- A client's connection, and start (document 02, P7; RFC 5246, section 7.4.1.2).
-use Rattle.std.specs.Prelude.{ℕ, ◌-◌, Bool, true, false, cond, ◌&&◌, List, [], ◌∷◌, ◌++◌, map, length, take, replicate, eqb, None}
+use Rattle.std.specs.Prelude.{ℕ, Bool, true, false, cond, ◌&&◌, List, [], ◌∷◌, map, length, take, replicate, eqb, None}
+use Rattle.lists.specs.Lists.{field}
 use Rattle.endian.specs.Number.{be}
 use Rattle.refusal.specs.Lent.{Outcome, gives, refuses, within, answer, after}
 use Rattle.refusal.specs.declared.Refusal.TheVariants.{BadSetting}
@@ -47,10 +48,6 @@ identity_limit = 128
 
 abbrev pub key_limit : ℕ
 key_limit = 64
-
--- bytes at the front of a field of n, with zeros behind them
-abbrev pub field : ℕ → List ℕ → List ℕ
-field n bytes = bytes ++ replicate (n - length bytes) 0
 
 -- what start was given, as a connection keeps it
 abbrev pub setup_of : Settings → Setup

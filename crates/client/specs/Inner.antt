@@ -1,20 +1,9 @@
 -- What the contracts of private functions cite: results as the code's own types have them, and parts of a step. Nothing that a public contract says stands here.
-use Rattle.std.specs.Prelude.{ℕ, ◌≤◌, ◌≡◌, List, take, drop}
+use Rattle.std.specs.Prelude.{ℕ, List, take, drop}
 use Rattle.sha256.specs.declared.Sha256.{Sha256}
 use Rattle.sha256.specs.State.{absorb}
-use Rattle.handshake.specs.Flight.{counted, longest}
 use Rattle.client.specs.declared.Phase.{Phase}
 use Rattle.client.specs.declared.Connection.{Connection}
-use Rattle.client.specs.declared.Answer.{Answer}
-use Rattle.client.specs.Step.{Step, settled, answered}
-
--- what a call gives back for a step, and what it leaves in the lent output
-pub record Does (c : Connection) (out : List ℕ) (step : Step) (given : Answer) (left : List ℕ) : Type 0 where
-  pub answers : given ≡ answered (settled c out step)
-  pub leaves : left ≡ (settled c out step).out
-  pub brief : counted given.said ≤ longest
-
--- ---- parts of the steps
 
 -- after the hello m, whose random stands at 6
 abbrev pub after_hello_with : Connection → List ℕ → ℕ → Connection

@@ -7,13 +7,12 @@ use Rattle.layout.specs.Types.{server_hello_type, server_key_exchange_type, serv
 use Rattle.layout.specs.Place.{last_at, filled_by, contents}
 use Rattle.hellos.specs.ServerHello.{server_body, server_fields}
 use Rattle.handshake.specs.Finished.{verify_data_length}
-use Rattle.handshake.specs.Handed.{derived}
-use Rattle.handshake.specs.declared.Derived.{Derived}
+use Rattle.handshake.specs.Handed.{derived, with_master}
+use Rattle.handshake.specs.declared.Reply.{Reply}
 use Rattle.handshake.specs.Header.{header_test}
-use Rattle.handshake.specs.Step.{refuse, after_tests}
+use Rattle.handshake.specs.Step.{refuse, after_tests, answered}
 use Rattle.client.specs.declared.Phase.{Phase}
 use Rattle.client.specs.declared.Connection.{Connection}
-use Rattle.client.specs.declared.Reply.{Reply}
 use Rattle.client.specs.Connection.{is_over}
 use Rattle.client.specs.Exchange.{hint_step, blocks_under, done_step}
 use Rattle.client.specs.Finished.{finished_step}
@@ -79,8 +78,5 @@ blocks_in c m Phase.Complete = 0
 blocks_in c m Phase.Closed = 0
 
 -- what a message is answered with
-abbrev pub with_master : Result ℕ Refusal → Connection → Option Derived → Reply
-with_master said next o = record { said = said; handed = o; next = next }
-
-abbrev pub replied : Connection → List ℕ → Settled → Reply
-replied c m s = with_master s.said s.next (derived (handed_over s.said s.next) (blocks_in c m c.phase))
+abbrev pub replied : Connection → List ℕ → Settled → Reply Connection
+replied c m s = with_master (answered s) (derived (handed_over s.said s.next) (blocks_in c m c.phase))

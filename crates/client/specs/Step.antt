@@ -3,7 +3,6 @@ use Rattle.std.specs.Prelude.{ℕ, List}
 use Rattle.handshake.specs.Step as Shared
 use Rattle.client.specs.declared.Phase.{Phase}
 use Rattle.client.specs.declared.Connection.{Connection}
-use Rattle.client.specs.declared.Answer.{Answer}
 use Rattle.client.specs.Connection.{ended}
 
 abbrev pub Step : Type 0
@@ -14,7 +13,3 @@ Settled = Shared.Settled Connection
 
 abbrev pub settled : Connection → List ℕ → Step → Settled
 settled = Shared.settled (ended Phase.Closed)
-
--- of a call that is lent no output
-abbrev pub answered : Settled → Answer
-answered s = record { said = s.said; next = s.next }

@@ -3,24 +3,16 @@ ghost use Rattle.std.specs.Prelude.{◌≡◌, ◌≤◌};
 ghost use Rattle.handshake.specs.Decision.{Decides, blocks_in};
 ghost use Rattle.handshake.specs.Flight.{longest, counted};
 ghost use Rattle.handshake.specs.Handed.{derived};
-ghost use Rattle.client.specs.Connection.{is_over};
-ghost use Rattle.client.specs.Step.{answered};
+ghost use Rattle.handshake.specs.Step.{answered};
 ghost use Rattle.client.specs.Message as Message;
 ghost use Rattle.client.specs.Message.{brings_hint, body_step, message_step, message_call, handed_over, replied};
 ghost use Rattle.client.specs.Change.{after_change, change_call};
 ghost use Rattle.client.specs.Alert.{alert_call};
 
-use crate::{Answer, Connection, Phase, Reply, ended, exchange, finished, hello, step};
-use handshake::{Decision, Derived, Heard};
+use crate::{Answer, Connection, Phase, Reply, ended, exchange, finished, hello};
+use handshake::{Decision, Derived};
 use layout::types;
 use refusal::Refusal;
-
-// Whether a connection is complete or closed.
-fn is_over(phase: Phase) -> bool
-    ensures { result ≡ is_over phase }
-{
-    matches!(phase, Phase::Complete | Phase::Closed)
-}
 
 // ---- a message
 
@@ -77,7 +69,7 @@ fn decide(c: Connection, m: &[u8]) -> Result<Decision<Connection>, Refusal>
     ensures { Decides result (message_step c m.now c.phase) (Message.blocks_in c m.now c.phase) }
 {
     let phase = c.phase;
-    if is_over(phase) {
+    if phase.is_over() {
         return Err(Refusal::ConnectionOver);
     }
     handshake::test_header(awaited_in(phase, m), m)?;
@@ -109,13 +101,13 @@ fn blocks_in(d: Result<Decision<Connection>, Refusal>) -> u64
 }
 
 // A handshake message. No answer is longer than the longest flight.
-pub fn message(c: Connection, m: &[u8], out: &mut [u8]) -> Reply
+pub fn message(c: Connection, m: &[u8], out: &mut [u8]) -> Reply<Connection>
     ensures value { (result ≡ replied c m.now (message_call c m.now out.old))
         × (out.new ≡ (message_call c m.now out.old).out) }
     ensures said_bound { counted result.said ≤ longest }
 {
     let d = decide(c, m);
-    let answer = step::settle(c, d, out);
+    let answer = handshake::settle(c, ended(Phase::Closed), d, out);
     Reply {
         said: answer.said,
         handed: handed(answer.said, answer.next, blocks_in(d)),
@@ -143,39 +135,33 @@ fn after_change(c: Connection) -> Connection
 }
 
 // The server's change of cipher.
-pub fn change_of_cipher(c: Connection) -> Answer
+pub fn change_of_cipher(c: Connection) -> Answer<Connection>
     ensures { result ≡ answered (change_call c) }
 {
-    match c.phase {
-        Phase::Hello | Phase::KeyExchange | Phase::Done | Phase::Finished => {
-            step::refuse(c, Refusal::UnexpectedMessage)
+    let r = match c.phase {
+        Phase::Change => {
+            return Answer {
+                said: Ok(0),
+                next: after_change(c),
+            };
         }
-        Phase::Change => Answer {
-            said: Ok(0),
-            next: after_change(c),
-        },
-        Phase::Complete | Phase::Closed => step::refuse(c, Refusal::ConnectionOver),
-    }
+        Phase::Hello | Phase::KeyExchange | Phase::Done | Phase::Finished => {
+            Refusal::UnexpectedMessage
+        }
+        Phase::Complete | Phase::Closed => Refusal::ConnectionOver,
+    };
+    handshake::refuse(c, ended(Phase::Closed), r)
 }
 
 // ---- a received alert
 
 // An alert from the server.
-pub fn alert(c: Connection, level: u8, description: u8) -> Answer
+pub fn alert(c: Connection, level: u8, description: u8) -> Answer<Connection>
     ensures { result ≡ answered (alert_call c level description) }
 {
-    if is_over(c.phase) {
-        return step::refuse(c, Refusal::ConnectionOver);
+    let closed = ended(Phase::Closed);
+    if c.phase.is_over() {
+        return handshake::refuse(c, closed, Refusal::ConnectionOver);
     }
-    match handshake::hear(level, description) {
-        Heard::Illegal => step::refuse(c, Refusal::IllegalParameter),
-        Heard::Ends => Answer {
-            said: Ok(0),
-            next: ended(Phase::Closed),
-        },
-        Heard::Ignored => Answer {
-            said: Ok(0),
-            next: c,
-        },
-    }
+    handshake::alert(c, closed, level, description)
 }

@@ -1,6 +1,6 @@
 // A ServerKeyExchange, whose hint is ignored, and a ServerHelloDone, which is answered with ClientKeyExchange
 // and Finished.
-ghost use Rattle.std.specs.Prelude.{◌≡◌, List, [], ◌∷◌, ℕ, ◌+◌, ◌≤◌, length, take};
+ghost use Rattle.std.specs.Prelude.{◌≡◌, [], ◌∷◌, ◌+◌, ◌≤◌, length, take};
 ghost use Rattle.layout.specs.Layout.{bytes};
 ghost use Rattle.layout.specs.Place.{last_at, filled_by, contents};
 ghost use Rattle.messages.specs.KeyExchange.{client_key_exchange};
@@ -51,25 +51,14 @@ pub(crate) fn hint(c: Connection, m: &[u8]) -> Result<Decision<Connection>, Refu
 
 // ---- the answer
 
-// How many bytes of a field are what it holds.
-fn in_field(count: u8, size: usize) -> usize
-    ensures { (result ≤ size) × ((field : List ℕ) → length field ≡ size → take result field ≡ take count field) }
-{
-    let n = count as usize;
-    if size < n {
-        return size;
-    }
-    n
-}
-
 // The ClientKeyExchange at the front of an array, and its length.
 fn put_exchange(setup: Setup, out: &mut [u8; 134]) -> usize
     ensures { (result ≤ 134) × (result ≡ 6 + length (identity_of setup)) × (take result out.new ≡ bytes client_key_exchange (identity_of setup)) }
 {
-    let identity = setup.identity;
-    let n = in_field(setup.identity_length, 128);
-    let _ = messages::key_exchange::write_identity(&identity[..n], out);
-    6 + n
+    let field = setup.identity;
+    let identity = lists::front(&field, usize::from(setup.identity_length));
+    let _ = messages::key_exchange::write_identity(identity, out);
+    6 + identity.len()
 }
 
 // The Finished.
@@ -146,15 +135,13 @@ fn exchanged(c: Connection, m: &[u8]) -> Result<Decision<Connection>, Refusal>
 {
     let setup = c.setup;
     let server = c.server;
-    let key = setup.key;
+    let field = setup.key;
+    let key = lists::front(&field, usize::from(setup.key_length));
     let own = setup.random;
     let random = server.random;
-    let n = in_field(setup.key_length, 64);
     let mut master = [0u8; 48];
-    let told = keys::master_under(&key[..n], &own, &random, &mut master);
-    let said = told.said;
-    match said {
-        Ok(_) => answer(c, m, master, told.blocks),
+    match keys::master_under(key, &own, &random, &mut master) {
+        Ok(told) => answer(c, m, master, told.blocks),
         Err(_) => Err(Refusal::DecryptError),
     }
 }

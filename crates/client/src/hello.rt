@@ -8,7 +8,7 @@ ghost use Rattle.client.specs.Hello as Hello;
 ghost use Rattle.client.specs.Hello.{among, bare, hello_step};
 ghost use Rattle.client.specs.Inner.{after_hello_with};
 
-use crate::{Connection, Negotiated, Phase, bytes32};
+use crate::{Connection, Negotiated, Phase};
 use handshake::Decision;
 use layout::Part;
 use refusal::Refusal;
@@ -46,7 +46,7 @@ fn after_hello(c: Connection, m: &[u8], suite: u16) -> Connection
     ensures { result ≡ after_hello_with c m.now suite }
 {
     let setup = c.setup;
-    let random = bytes32(&m[6..38]);
+    let random = lists::field::<32>(&m[6..38]);
     let secrets = c.secrets;
     let transcript = transcript::with_message(c.transcript, m);
     Connection {

@@ -2,22 +2,21 @@
 //
 // specs/Connection.antt has the connection and start, specs/Message.antt the order of a message's tests, and
 // the files named after the steps (Hello, Exchange, Change, Finished, Alert) what each comes to. A step
-// decides and writes nothing; crates/handshake/specs/Step.antt says what a call makes of its decision.
+// decides and writes nothing; `handshake::settle` makes a call's answer of it.
 #![tactic(auto)]
 
+mod bytes;
 mod calls;
 mod exchange;
 mod finished;
 mod hello;
 mod starting;
-mod step;
 
-ghost use Rattle.std.specs.Prelude.{◌≡◌, length};
+ghost use Rattle.std.specs.Prelude.{◌≡◌};
 ghost use Rattle.client.specs.Connection as Conn;
 
 pub use calls::{alert, change_of_cipher, message};
-use handshake::Derived;
-use refusal::Refusal;
+pub use handshake::{Answer, Reply};
 use sha256::Sha256;
 pub use starting::start;
 
@@ -32,6 +31,15 @@ pub enum Phase {
     Finished,
     Complete,
     Closed,
+}
+
+impl Phase {
+    // Whether a connection is complete or closed.
+    pub(crate) fn is_over(self) -> bool
+        ensures { result ≡ Conn.is_over self }
+    {
+        matches!(self, Phase::Complete | Phase::Closed)
+    }
 }
 
 // What start was given. No call changes it.
@@ -68,23 +76,6 @@ pub struct Connection {
     pub secrets: Secrets,
     // Every handshake message so far.
     pub transcript: Sha256,
-}
-
-// What start and the calls that write nothing give back: how many bytes were written or a refusal, and the
-// connection.
-#[derive(Drop)]
-pub struct Answer {
-    pub said: Result<usize, Refusal>,
-    pub next: Connection,
-}
-
-// What a message is answered with: how many bytes were written or a refusal, the master secret where
-// one is handed over with how many blocks were hashed for it, and the connection.
-#[derive(Drop)]
-pub struct Reply {
-    pub said: Result<usize, Refusal>,
-    pub handed: Option<Derived>,
-    pub next: Connection,
 }
 
 // Before the server has said anything.
@@ -124,14 +115,4 @@ pub fn ended(phase: Phase) -> Connection
         secrets: Secrets { master: [0u8; 48] },
         transcript,
     }
-}
-
-// The 32 bytes as an array.
-fn bytes32(bytes: &[u8]) -> [u8; 32]
-    requires { length bytes.now ≡ 32 }
-    ensures { result ≡ bytes.now }
-{
-    let mut kept = [0u8; 32];
-    lists::copy(bytes, &mut kept);
-    kept
 }

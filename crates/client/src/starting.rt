@@ -2,9 +2,9 @@
 ghost use Rattle.std.specs.Prelude.{◌≡◌, ◌≤◌, length};
 ghost use Rattle.client.specs.Connection as Conn;
 ghost use Rattle.client.specs.Connection.{setup_of, begun, start_call};
-ghost use Rattle.client.specs.Step.{answered};
+ghost use Rattle.handshake.specs.Step.{answered};
 
-use crate::{Answer, Connection, Phase, Secrets, Setup, bytes32, ended, nothing_said};
+use crate::{Answer, Connection, Phase, Secrets, Setup, ended, nothing_said};
 use refusal::Refusal;
 use sha256::Sha256;
 
@@ -36,30 +36,8 @@ fn hello(random: &[u8]) -> [u8; 49]
     let suites = OFFERED;
     let methods = [0u8];
     let mut bytes = [0u8; 49];
-    let _ = hellos::client_hello::write(
-        VERSION, random, none, &suites, &methods, false, none, &mut bytes,
-    );
+    let _ = hellos::client_hello::write(VERSION, random, none, &suites, &methods, None, &mut bytes);
     bytes
-}
-
-// The identity with zeros behind it.
-fn identity_field(identity: &[u8]) -> [u8; 128]
-    requires { length identity.now ≤ 128 }
-    ensures { result ≡ Conn.field Conn.identity_limit identity.now }
-{
-    let mut field = [0u8; 128];
-    lists::copy(identity, &mut field);
-    field
-}
-
-// The key with zeros behind it.
-fn key_field(key: &[u8]) -> [u8; 64]
-    requires { length key.now ≤ 64 }
-    ensures { result ≡ Conn.field Conn.key_limit key.now }
-{
-    let mut field = [0u8; 64];
-    lists::copy(key, &mut field);
-    field
 }
 
 // What an accepted start was given.
@@ -69,9 +47,9 @@ fn setup(random: &[u8], identity: &[u8], key: &[u8]) -> Setup
     requires key_len_bound { length key.now ≤ 64 }
     ensures { result ≡ setup_of (record { random = random.now; identity = identity.now; key = key.now }) }
 {
-    let named = identity_field(identity);
-    let secret = key_field(key);
-    let own = bytes32(random);
+    let named = lists::field::<128>(identity);
+    let secret = lists::field::<64>(key);
+    let own = lists::field::<32>(random);
     Setup {
         identity_length: identity.len() as u8,
         identity: named,
@@ -99,7 +77,7 @@ fn started(setup: Setup, hello: &[u8; 49]) -> Connection
 
 // A connection that has a ClientHello to send and awaits the server's, or R3, or R1 where the output is
 // shorter than the hello.
-pub fn start(random: &[u8], identity: &[u8], key: &[u8], out: &mut [u8]) -> Answer
+pub fn start(random: &[u8], identity: &[u8], key: &[u8], out: &mut [u8]) -> Answer<Connection>
     ensures { (result ≡ answered (start_call (record { random = random.now; identity = identity.now; key = key.now }) out.old))
         × (out.new ≡ (start_call (record { random = random.now; identity = identity.now; key = key.now }) out.old).out) }
 {

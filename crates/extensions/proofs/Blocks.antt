@@ -135,11 +135,6 @@ step-found b at t s n =
     })
     (λ more long e. absurd (zero-not-one (cc e)))
 
-pub step-ended : (b : List ℕ) (at : ℕ) → step_at b at ≡ End → extensions_in (drop at b) ≡ Some []
-step-ended b at =
-    by-step b at (λ p. p ≡ End → extensions_in (drop at b) ≡ Some []) (λ over e. at-end b at over) (λ more fits e. absurd (zero-not-one (cc e)))
-    (λ more long e. absurd (zero-not-one (cc e)))
-
 pub step-refused : (b : List ℕ) (at : ℕ) → step_at b at ≡ Refused → extensions_in (drop at b) ≡ None
 step-refused b at =
     by-step b at (λ p. p ≡ Refused → extensions_in (drop at b) ≡ None) (λ over e. absurd (zero-not-one (cc e)))

@@ -59,13 +59,11 @@ fn with_bit(word: usize, bit: usize) -> usize
 fn nearer(part: usize, other: usize, nearest: usize) -> usize
     ensures { result ≡ nearer part other nearest }
 {
-    if other <= part {
-        return nearest;
+    if part < other && other < nearest {
+        other
+    } else {
+        nearest
     }
-    if nearest <= other {
-        return nearest;
-    }
-    other
 }
 
 // What a pass over a block says of the extensions whose types are in one part.
@@ -130,10 +128,7 @@ pub fn test(block: &[u8]) -> bool
 pub fn write(kind: usize, contents: &[u8], out: &mut [u8]) -> Result<usize, Refusal>
     ensures { Answers (extension_written (record { kind = kind; contents = contents.now })) out.old result out.new }
 {
-    if 65535 < kind {
-        return Err(Refusal::BadValue);
-    }
-    if 65535 < contents.len() {
+    if 65535 < kind || 65535 < contents.len() {
         return Err(Refusal::BadValue);
     }
     let number = endian::bytes::<2>(kind as u64);

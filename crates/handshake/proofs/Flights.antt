@@ -64,12 +64,6 @@ size-taken o array = elim (dec_le (total o.lengths) longest) [
       (take_all longest o.bytes (omega arith) ∙ sym (take_all (total o.lengths) o.bytes (omega arith)))
 ]
 
-pub size-most : (o : Outgoing) → size_of o ≤ longest
-size-most o = elim (dec_le (total o.lengths) longest) [
-  | yes few ↦ rw (le-leb (total o.lengths) longest few) few
-  | no many ↦ rw (lt-leb (total o.lengths) longest (omega arith)) (omega arith)
-]
-
 -- no flight is longer than the array
 pub flight-most : (o : Outgoing) → length o.bytes ≡ longest → length (flight_bytes (flight_of o)) ≤ longest
 flight-most o array = rw (flight-bytes o, length-take (total o.lengths) o.bytes) (omega arith)

@@ -1,3 +1,4 @@
+pub mod Decisions
 pub mod Fates
 pub mod Flights
 pub mod Refusals

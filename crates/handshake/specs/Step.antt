@@ -1,10 +1,11 @@
 -- What a step comes to, whatever the room, and what a call makes of it: `settled` adds R1, which stands last, and what a refusal does to the connection.
 -- Both sides share this, so it is said of any type C of connections; `over` is the closed one.
-use Rattle.std.specs.Prelude.{ℕ, List, length, Result, Ok, Err, Option, None, Some}
+use Rattle.std.specs.Prelude.{ℕ, ◌≤◌, ◌≡◌, List, length, Result, Ok, Err, Option, None, Some}
 use Rattle.refusal.specs.Lent.{Outcome, gives, refuses, within, answer, after}
 use Rattle.refusal.specs.Table.{Effect, unchanged, closed, noneMade, noneInvolved, row}
 use Rattle.refusal.specs.declared.Refusal.{Refusal}
-use Rattle.handshake.specs.Flight.{Flight, flight_bytes}
+use Rattle.handshake.specs.declared.Answer.{Answer}
+use Rattle.handshake.specs.Flight.{Flight, flight_bytes, longest, counted}
 
 -- a refusal, or messages for the peer and the connection as it is then
 pub data Step (C : Type 0) : Type 0 where
@@ -58,3 +59,13 @@ settled over c out step =
       out = after (within (length out) (outcome step)) out;
       next = next_after over c step (within (length out) (outcome step));
     }
+
+-- of a call that is lent no output
+abbrev pub answered : {C : Type 0} → Settled C → Answer C
+answered s = record { said = s.said; next = s.next }
+
+-- what a call gives back for a step, and what it leaves in the lent output
+pub record Does {C : Type 0} (over c : C) (out : List ℕ) (step : Step C) (given : Answer C) (left : List ℕ) : Type 0 where
+  pub answers : given ≡ answered (settled over c out step)
+  pub leaves : left ≡ (settled over c out step).out
+  pub brief : counted given.said ≤ longest

@@ -1,20 +1,21 @@
 // What the two sides of a handshake share: the tests on the header of an awaited message, what a received
-// alert comes to, a Finished value judged, and the messages that a step has for the peer.
+// alert comes to, a Finished value judged, the messages that a step has for the peer, and what a call gives back.
 //
 // A side has its own connection and its own steps. specs/Step.antt says what a call makes of a step, on
-// either side: R1 last, and what a refusal does to the connection.
+// either side: R1 last, and what a refusal does to the connection. `settle` alone writes and changes a connection.
 #![tactic(auto)]
 
-ghost use Rattle.std.specs.Prelude.{◌≡◌, Ok};
+ghost use Rattle.std.specs.Prelude.{◌≡◌, [], Ok};
 ghost use Rattle.refusal.specs.Lent.{Answers, gives};
 ghost use Rattle.keys.specs.Secrets.{finished_of};
-ghost use Rattle.handshake.specs.Alert.{heard};
-ghost use Rattle.handshake.specs.Decision.{Decides};
+ghost use Rattle.handshake.specs.Alert.{heard, heard_step};
+ghost use Rattle.handshake.specs.Decision.{Decides, decided};
 ghost use Rattle.handshake.specs.Finished.{is_value};
 ghost use Rattle.handshake.specs.Flight.{flight_bytes, silence};
 ghost use Rattle.handshake.specs.Header.{early_test, header_test};
 ghost use Rattle.handshake.specs.Outgoing.{Sends, flight_of, size_of};
-ghost use Rattle.handshake.specs.Step.{accept};
+ghost use Rattle.handshake.specs.Step as Step;
+ghost use Rattle.handshake.specs.Step.{Does, accept, answered, settled};
 
 use keys::Side;
 use layout::types;
@@ -44,6 +45,22 @@ pub struct Decision<C> {
     pub outgoing: Outgoing,
     pub next: C,
     pub blocks: u64,
+}
+
+// What a call gives back that hands over nothing but bytes: how many were written or a refusal, and the connection.
+#[derive(Drop)]
+pub struct Answer<C> {
+    pub said: Result<usize, Refusal>,
+    pub next: C,
+}
+
+// What a message is answered with: how many bytes were written or a refusal, the master secret where
+// one is handed over with how many blocks were hashed for it, and the connection.
+#[derive(Drop)]
+pub struct Reply<C> {
+    pub said: Result<usize, Refusal>,
+    pub handed: Option<Derived>,
+    pub next: C,
 }
 
 // Messages for the peer, one behind the other: the longest are a ServerHello of 42 bytes, a
@@ -182,4 +199,53 @@ pub fn send(outgoing: Outgoing, out: &mut [u8]) -> Result<usize, Refusal>
     let bytes = outgoing.bytes;
     let n = size(outgoing);
     refusal::put(&bytes[..n], out)
+}
+
+// ---- what a call gives back, by what a closed connection is on that side
+
+// A refusal: an alert closes the connection, an R number leaves it as it was.
+pub fn refuse<C: Copy>(c: C, closed: C, r: Refusal) -> Answer<C>
+    ensures { result ≡ answered (settled closed c [] (Step.refuse r)) }
+{
+    let next = if r.for_peer() { closed } else { c };
+    Answer { said: Err(r), next }
+}
+
+// The answer that a decision comes to: its messages go to the lent output and the next connection is handed back, or R1
+// and the connection as it was.
+pub fn settle<C: Copy>(
+    c: C,
+    closed: C,
+    d: Result<Decision<C>, Refusal>,
+    out: &mut [u8],
+) -> Answer<C>
+    ensures { Does closed c out.old (decided d) result out.new }
+{
+    match d {
+        Ok(d) => {
+            let said = send(d.outgoing, out);
+            match said {
+                Ok(_) => Answer { said, next: d.next },
+                Err(_) => Answer { said, next: c },
+            }
+        }
+        Err(r) => refuse(c, closed, r),
+    }
+}
+
+// A received alert, where the connection is not over.
+pub fn alert<C: Copy>(c: C, closed: C, level: u8, description: u8) -> Answer<C>
+    ensures { result ≡ answered (settled closed c [] (heard_step closed c (heard level description))) }
+{
+    match hear(level, description) {
+        Heard::Illegal => refuse(c, closed, Refusal::IllegalParameter),
+        Heard::Ends => Answer {
+            said: Ok(0),
+            next: closed,
+        },
+        Heard::Ignored => Answer {
+            said: Ok(0),
+            next: c,
+        },
+    }
 }

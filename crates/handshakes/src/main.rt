@@ -12,6 +12,7 @@
 // another one the list stays.
 #![tactic(auto)]
 
+use keytable::Table;
 use refusal::Refusal;
 use server::{Answer, Connection, Reply, Rule};
 use std::io;
@@ -45,7 +46,7 @@ fn print_said(output: &mut impl Write, said: Result<usize, Refusal>) -> io::Resu
             lines::number(output, n)?;
         }
         Err(r) => {
-            if refusal::for_peer(r) {
+            if r.for_peer() {
                 lines::text(output, b"alert ")?;
             }
             lines::refused(output, r)?;
@@ -68,7 +69,7 @@ fn named(byte: u8) -> Option<Rule> {
 }
 
 // The end of a call's line, and what is kept from then on.
-fn answered(output: &mut impl Write, kept: Kept, answer: Answer) -> io::Result<Kept> {
+fn answered(output: &mut impl Write, kept: Kept, answer: Answer<Connection>) -> io::Result<Kept> {
     let said = answer.said;
     let connection = answer.next;
     let master = kept.master;
@@ -99,7 +100,7 @@ fn start(input: &mut impl Read, output: &mut impl Write, kept: Kept) -> io::Resu
 }
 
 // The end of a message's line, with the master secret where one was handed over and how many blocks were hashed for it.
-fn replied(output: &mut impl Write, kept: Kept, reply: Reply) -> io::Result<Kept> {
+fn replied(output: &mut impl Write, kept: Kept, reply: Reply<Connection>) -> io::Result<Kept> {
     let connection = reply.next;
     let mut master = kept.master;
     if let Some(derived) = reply.handed {
@@ -117,28 +118,23 @@ fn replied(output: &mut impl Write, kept: Kept, reply: Reply) -> io::Result<Kept
 fn deliver(
     output: &mut impl Write,
     kept: Kept,
-    table: &[u8],
-    starts: &[u32],
-    count: usize,
+    table: Table,
     bytes: &[u8],
     out: &mut [u8],
 ) -> io::Result<Kept> {
     let connection = kept.connection;
-    let reply = server::message(connection, table, starts, count, bytes, out);
+    let reply = server::message(connection, table, bytes, out);
     lines::text(output, b"message ")?;
     print_said(output, reply.said)?;
     print_bytes(output, out)?;
     replied(output, kept, reply)
 }
 
-// The table is the front of its buffer.
 fn message(
     input: &mut impl Read,
     output: &mut impl Write,
     kept: Kept,
-    table: &[u8],
-    starts: &[u32],
-    sizes: Sizes,
+    table: Table,
 ) -> io::Result<Kept> {
     let mut bytes = [0u8; 16400];
     let mut lent = [0xeeu8; 255];
@@ -148,9 +144,7 @@ fn message(
     deliver(
         output,
         kept,
-        lines::part(table, 0, sizes.table),
-        starts,
-        sizes.count,
+        table,
         lines::part(&bytes, 0, size),
         &mut lent[255 - room..],
     )
@@ -193,13 +187,11 @@ fn once(
     output: &mut impl Write,
     call: u8,
     kept: Kept,
-    table: &[u8],
-    starts: &[u32],
-    sizes: Sizes,
+    table: Table,
 ) -> io::Result<Kept> {
     match call {
         1 => start(input, output, kept),
-        3 => message(input, output, kept, table, starts, sizes),
+        3 => message(input, output, kept, table),
         4 => change(output, kept),
         5 => alert(input, output, kept),
         6 => key_block(input, output, kept),
@@ -271,7 +263,13 @@ fn main(rt: HostRuntime) -> io::Result<()> {
             break;
         }
         sizes = next_table(&mut input, call, &mut table, &mut starts, sizes)?;
-        kept = once(&mut input, &mut output, call, kept, &table, &starts, sizes)?;
+        // The table is the front of its buffer.
+        let lent = Table {
+            bytes: lines::part(&table, 0, sizes.table),
+            starts: &starts,
+            count: sizes.count,
+        };
+        kept = once(&mut input, &mut output, call, kept, lent)?;
     }
     Ok(())
 }

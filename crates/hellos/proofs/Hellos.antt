@@ -15,14 +15,11 @@ use Rattle.std.specs.Prelude.{Option, None, Some}
 use Rattle.endian.specs.Number.{Bytes, be, number}
 use Rattle.endian.specs.Vector.{vector, writable, stated}
 use Rattle.endian.proofs.Numbers.{number-be-lt, number_lt, be-number-at, bytes_take, bytes_drop}
-use Rattle.refusal.specs.declared.Refusal.TheVariants.{BadValue}
-use Rattle.refusal.specs.Lent.{Outcome, gives, refuses}
 use Rattle.layout.specs.declared.Part.{Part}
 use Rattle.extensions.specs.Extensions.{block_rule}
 use Rattle.layout.specs.Place.{standing, end_at, part_at, last_at}
-use Rattle.layout.specs.Types.{message_limit}
-use Rattle.layout.specs.Layout.{Layout, message, written}
-use Rattle.hellos.specs.Hello.{front_rules, front_bytes, session_at, block_rules, tail_bytes, block_in, block_at, block_contents, given, between}
+use Rattle.layout.specs.Layout.{message}
+use Rattle.hellos.specs.Hello.{front_rules, front_bytes, session_at, block_rules, tail_bytes, block_in, block_at, block_contents, between}
 use Rattle.layout.proofs.Places.{part-there, ruled-there, last-there, vector-at, vector-last, part-written}
 use Rattle.layout.proofs.Puts.{front, copy-behind-front}
 
@@ -146,20 +143,7 @@ front-put kind size version random id out left h e =
     e ∙ ap (paste out 0 (fronted kind size version random id)) (sym (length_front kind size version random id h))
     ∙ copy-behind-front [] (fronted kind size version random id) out out 0 refl refl
 
--- the block takes at most two bytes more than its contents
-pub tail-bound : (present : Bool) (b : List ℕ) → length (tail_bytes (given present b)) ≤ 2 + length b
-tail-bound true b = omega arith
-tail-bound false b = omega arith
-
 -- ---- what stands between
 
 pub length-between : (a b c d : List ℕ) → length (between a b c d) ≡ length a + length b + length c + length d
 length-between a b c d = simp length-append (omega arith)
-
--- two layouts that have the same type, and fields with the same rules and bytes: their writers write the same
-pub same-written : {F G : Type 0} (l : Layout F) (f : F) (k : Layout G) (g : G) → l.kind ≡ k.kind → l.rules f ≡ k.rules g → l.body f ≡ k.body g
-    → written l f ≡ written k g
-same-written l f k g kind rules body = λ i. all (kind i) (rules i) (body i)
-  where
-    all : ℕ → Bool → List ℕ → Outcome
-    all t r b = cond (r && leb (length (message t b)) message_limit) (gives (message t b)) (refuses BadValue)

@@ -9,7 +9,7 @@ use Rattle.layout.specs.Types.{client_hello_type}
 use Rattle.layout.specs.Layout.{Layout}
 use Rattle.layout.specs.Header.{header}
 use Rattle.layout.specs.Place.{part_at, ruled}
-use Rattle.hellos.specs.Hello.{front_rules, front_bytes, session_at, block_rules, tail_bytes, block_at, block_contents, given}
+use Rattle.hellos.specs.Hello.{front_rules, front_bytes, session_at, block_rules, tail_bytes, block_at, block_contents}
 
 -- the suites are two bytes each, the compression methods one
 pub record ClientHello : Type 0 where
@@ -37,15 +37,15 @@ client_hello = record {
   body = λ f. front_bytes f.version f.random f.session_id (vector 2 f.suites ++ (vector 1 f.methods ++ tail_bytes f.extensions));
 }
 
--- the fields that a writer is given; the block is there or not
-abbrev pub client_given : ℕ → List ℕ → List ℕ → List ℕ → List ℕ → Bool → List ℕ → ClientHello
-client_given version random session_id suites methods present b = record {
+-- the fields that a writer is given
+abbrev pub client_given : ℕ → List ℕ → List ℕ → List ℕ → List ℕ → Option (List ℕ) → ClientHello
+client_given version random session_id suites methods block = record {
   version = version;
   random = random;
   session_id = session_id;
   suites = suites;
   methods = methods;
-  extensions = given present b;
+  extensions = block;
 }
 
 -- ---- where the fields stand: the random at 6, the session id at 39, and each of the others behind the one before

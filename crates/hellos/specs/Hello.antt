@@ -44,10 +44,6 @@ block_at m at = cond (eqb at (length m)) (Some None) (block_in m (last_at 2 m at
 abbrev pub block_contents : List ℕ → Option Part → Option (List ℕ)
 block_contents = contents
 
--- the block that a writer is given: present or not
-abbrev pub given : Bool → List ℕ → Option (List ℕ)
-given present b = cond present (Some b) None
-
 -- ---- a hello with its front, what stands between and the block
 
 pub record Front : Type 0 where
@@ -67,5 +63,5 @@ hello_with kind middle = record {
 abbrev pub between : List ℕ → List ℕ → List ℕ → List ℕ → List ℕ
 between a b c d = ((a ++ b) ++ c) ++ d
 
-abbrev pub front_given : ℕ → List ℕ → List ℕ → Bool → List ℕ → Front
-front_given version random session_id present b = record { version = version; random = random; session_id = session_id; extensions = given present b }
+abbrev pub front_given : ℕ → List ℕ → List ℕ → Option (List ℕ) → Front
+front_given version random session_id block = record { version = version; random = random; session_id = session_id; extensions = block }

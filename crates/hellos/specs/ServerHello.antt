@@ -1,5 +1,5 @@
 -- ServerHello (RFC 5246, section 7.4.1.3).
-use Rattle.std.specs.Prelude.{ℕ, ◌+◌, Bool, ◌&&◌, cond, List, ◌∷◌, ◌++◌, length, get_or, take, drop, leb, ltb, Result, Ok, Err, Option, None, Some}
+use Rattle.std.specs.Prelude.{ℕ, ◌+◌, ◌&&◌, cond, List, ◌∷◌, ◌++◌, length, get_or, take, drop, leb, ltb, Result, Ok, Err, Option, None, Some}
 use Rattle.refusal.specs.declared.Refusal.{Refusal}
 use Rattle.endian.specs.Number.{be, number}
 use Rattle.layout.specs.declared.Part.{Part}
@@ -7,7 +7,7 @@ use Rattle.hellos.specs.declared.server_hello.Server.{Server}
 use Rattle.layout.specs.Types.{server_hello_type}
 use Rattle.layout.specs.Layout.{Layout}
 use Rattle.layout.specs.Header.{header}
-use Rattle.hellos.specs.Hello.{front_rules, front_bytes, session_at, block_rules, tail_bytes, block_at, block_contents, given}
+use Rattle.hellos.specs.Hello.{front_rules, front_bytes, session_at, block_rules, tail_bytes, block_at, block_contents}
 
 pub record ServerHello : Type 0 where
   pub version : ℕ
@@ -24,15 +24,15 @@ server_hello = record {
   body = λ f. front_bytes f.version f.random f.session_id (be 2 f.suite ++ (f.compression ∷ tail_bytes f.extensions));
 }
 
--- the fields that a writer is given; the block is there or not
-abbrev pub server_given : ℕ → List ℕ → List ℕ → ℕ → ℕ → Bool → List ℕ → ServerHello
-server_given version random session_id suite compression present b = record {
+-- the fields that a writer is given
+abbrev pub server_given : ℕ → List ℕ → List ℕ → ℕ → ℕ → Option (List ℕ) → ServerHello
+server_given version random session_id suite compression block = record {
   version = version;
   random = random;
   session_id = session_id;
   suite = suite;
   compression = compression;
-  extensions = given present b;
+  extensions = block;
 }
 
 -- ---- where the fields stand: the random at 6, the session id at 39, suite and compression behind it, then the block

@@ -1,5 +1,6 @@
 // ClientHello.
 ghost use Rattle.std.specs.Prelude.{◌≡◌, ◌&&◌, length};
+ghost use Rattle.std.specs.Option.{option_copied};
 ghost use Rattle.endian.specs.Vector.{writable};
 ghost use Rattle.refusal.specs.Lent.{Answers};
 ghost use Rattle.layout.specs.Layout.{written};
@@ -26,25 +27,14 @@ pub struct Client {
 fn suites(message: &[u8], at: usize) -> Option<Part>
     ensures { result ≡ ruled suites_length (part_at 2 message.now at) }
 {
-    let part = place::part16(message, at)?;
-    if part.len < 2 {
-        return None;
-    }
-    if part.len % 2 != 0 {
-        return None;
-    }
-    Some(part)
+    place::part16(message, at).filter(|part| 2 <= part.len && part.len % 2 == 0)
 }
 
 // Where the compression methods stand that start at `at`.
 fn methods(message: &[u8], at: usize) -> Option<Part>
     ensures { result ≡ ruled methods_length (part_at 1 message.now at) }
 {
-    let part = place::part8(message, at)?;
-    if part.len < 1 {
-        return None;
-    }
-    Some(part)
+    place::part8(message, at).filter(|part| 1 <= part.len)
 }
 
 // The tests on the body of a message whose header is tested already.
@@ -68,9 +58,7 @@ pub fn read_body(message: &[u8]) -> Option<Client>
 pub fn read(message: &[u8]) -> Option<Client>
     ensures { result ≡ client_place message.now }
 {
-    if header::test(types::CLIENT_HELLO, message).is_err() {
-        return None;
-    }
+    header::test(types::CLIENT_HELLO, message).ok()?;
     read_body(message)
 }
 
@@ -81,33 +69,22 @@ fn lists_valid(suites: &[u8], methods: &[u8]) -> bool
     ensures { result ≡ (writable 2 suites.now && suites_length (length suites.now)
         && (writable 1 methods.now && methods_length (length methods.now))) }
 {
-    if 65535 < suites.len() {
-        return false;
-    }
-    if suites.len() < 2 {
-        return false;
-    }
-    if suites.len() % 2 != 0 {
-        return false;
-    }
-    if 255 < methods.len() {
-        return false;
-    }
-    1 <= methods.len()
+    (2..=65535).contains(&suites.len())
+        && suites.len() % 2 == 0
+        && (1..=255).contains(&methods.len())
 }
 
-// A ClientHello. The block's bytes count only where it is present.
+// A ClientHello.
 pub fn write(
     version: usize,
     random: &[u8],
     session_id: &[u8],
     suites: &[u8],
     methods: &[u8],
-    present: bool,
-    block: &[u8],
+    block: Option<&[u8]>,
     out: &mut [u8],
 ) -> Result<usize, Refusal>
-    ensures { Answers (written client_hello (client_given version random.now session_id.now suites.now methods.now present block.now))
+    ensures { Answers (written client_hello (client_given version random.now session_id.now suites.now methods.now (option_copied block.entry)))
         out.old result out.new }
 {
     if !lists_valid(suites, methods) {
@@ -124,7 +101,6 @@ pub fn write(
         suites,
         &methods_size,
         methods,
-        present,
         block,
         out,
     )

@@ -1,5 +1,6 @@
 // ServerHello.
 ghost use Rattle.std.specs.Prelude.{◌≡◌};
+ghost use Rattle.std.specs.Option.{option_copied};
 ghost use Rattle.refusal.specs.Lent.{Answers};
 ghost use Rattle.layout.specs.Layout.{written};
 ghost use Rattle.hellos.specs.ServerHello.{server_hello, server_place, server_body, server_given};
@@ -43,24 +44,21 @@ pub fn read_body(message: &[u8]) -> Option<Server>
 pub fn read(message: &[u8]) -> Option<Server>
     ensures { result ≡ server_place message.now }
 {
-    if header::test(types::SERVER_HELLO, message).is_err() {
-        return None;
-    }
+    header::test(types::SERVER_HELLO, message).ok()?;
     read_body(message)
 }
 
-// A ServerHello. The block's bytes count only where it is present.
+// A ServerHello.
 pub fn write(
     version: usize,
     random: &[u8],
     session_id: &[u8],
     suite: usize,
     compression: u8,
-    present: bool,
-    block: &[u8],
+    block: Option<&[u8]>,
     out: &mut [u8],
 ) -> Result<usize, Refusal>
-    ensures { Answers (written server_hello (server_given version random.now session_id.now suite compression present block.now))
+    ensures { Answers (written server_hello (server_given version random.now session_id.now suite compression (option_copied block.entry)))
         out.old result out.new }
 {
     if 65535 < suite {
@@ -78,7 +76,6 @@ pub fn write(
         &method,
         none,
         none,
-        present,
         block,
         out,
     )

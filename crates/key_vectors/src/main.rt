@@ -12,15 +12,23 @@ use sha256::Reported;
 use std::io;
 use std::io::{Read, Write};
 
-// The bytes that were written, or the number of the refusal.
-fn print_said(output: &mut impl Write, said: Result<usize, Refusal>, out: &[u8]) -> io::Result<()> {
-    match said {
-        Ok(n) => {
-            lines::hex(output, lines::part(out, 0, n))?;
+// The bytes that were written, with the number of blocks where there is one, or the number of the refusal.
+fn print_told(
+    output: &mut impl Write,
+    told: Result<Reported, Refusal>,
+    out: &[u8],
+) -> io::Result<()> {
+    match told {
+        Ok(told) => {
+            lines::hex(output, lines::part(out, 0, told.len))?;
+            if 0 < told.blocks {
+                lines::text(output, b" blocks ")?;
+                lines::number(output, told.blocks as usize)?;
+            }
         }
         Err(r) => {
             lines::text(output, b"refused ")?;
-            lines::number(output, refusal::number(r) as usize)?;
+            lines::number(output, usize::from(u8::from(r)))?;
         }
     }
     Ok(())
@@ -68,11 +76,21 @@ fn uncounted(
 }
 
 // What a call comes to, with the number of blocks of a master secret and 0 for anything else.
-fn answer(kind: u8, n: u16, a: &[u8], b: &[u8], c: &[u8], out: &mut [u8]) -> Reported {
+fn answer(
+    kind: u8,
+    n: u16,
+    a: &[u8],
+    b: &[u8],
+    c: &[u8],
+    out: &mut [u8],
+) -> Result<Reported, Refusal> {
     match kind {
         7 => keys::master(a, b, c, out),
         11 => keys::master_under(a, b, c, out),
-        _ => sha256::report(uncounted(kind, n, a, b, c, out), 0),
+        _ => {
+            let len = uncounted(kind, n, a, b, c, out)?;
+            Ok(Reported { len, blocks: 0 })
+        }
     }
 }
 
@@ -87,11 +105,7 @@ fn print_line(
 ) -> io::Result<()> {
     print_name(output, kind)?;
     let told = answer(kind, n, a, b, c, out);
-    print_said(output, told.said, out)?;
-    if 0 < told.blocks {
-        lines::text(output, b" blocks ")?;
-        lines::number(output, told.blocks as usize)?;
-    }
+    print_told(output, told, out)?;
     lines::text(output, b"\n")?;
     Ok(())
 }

@@ -1,7 +1,7 @@
 -- HMAC in its steps: the key's block, and the two digests, with the blocks that they take.
 -- Assumes nothing.
 use mathlib.Core.Path.{◌≡◌, sym, ap, ◌∙◌}
-use Prim.Native.Nat.{ℕ, ◌+◌, ◌-◌, ◌≤◌, ◌<◌}
+use Prim.Native.Nat.{ℕ, ◌+◌, ◌-◌, ◌^◌, ◌≤◌, ◌<◌}
 use native.Mathlib.Decide.{dec_le}
 use native.Mathlib.Omega.{arith}
 use mathlib.Core.List.{List, ◌++◌}
@@ -9,14 +9,15 @@ use lib.ListN.{length, take, drop, replicate, length-append, length-map, length-
 use lib.Seq.{take-length}
 use lib.Bits.{bit_xor}
 use borrow.Author.Tests.{le-leb, lt-leb}
-use Rattle.std.specs.Prelude.{Result, Ok}
+use Rattle.std.specs.Prelude.{Result, Ok, Err, IfOk, MatchResult}
 use Rattle.refusal.specs.declared.Refusal.{Refusal}
-use Rattle.refusal.specs.Lent.{Answers, gives, within, answer}
+use Rattle.refusal.specs.Lent.{Answers}
 use Rattle.refusal.proofs.Laws.{answer-fills}
 use Rattle.sha256.specs.declared.Sha256.{Sha256}
 use Rattle.sha256.specs.Hash.{digest, limit}
 use Rattle.sha256.specs.State.{absorb, fresh, finished}
-use Rattle.sha256.specs.Report.{blocks_of, compressed, reported}
+use Rattle.sha256.specs.declared.Reported.{Reported}
+use Rattle.sha256.specs.Report.{blocks_of, compressed, said}
 use Rattle.sha256.proofs.Absorb.{absorb-append}
 use Rattle.sha256.proofs.Finish.{length-digest, finished-within}
 use Rattle.sha256.proofs.Counting.{compressed-absorbed}
@@ -39,17 +40,25 @@ long-key key block h e = rw (e, drop-replicate 64 (length (digest key)) 0, lt-le
 
 -- ---- a finished hash: it wrote the digest of what it absorbed, and counted its blocks
 
-module _ (s : Sha256) (m : List ℕ) {out out' : List ℕ} {said : Result ℕ Refusal} (e : s ≡ absorb fresh m) (h : length m ≤ limit)
-    (answered : Answers (finished s) out said out') where
+-- the number of a finished hash, 0 where it is refused
+abbrev pub Counts : Sha256 → Result Reported Refusal → ℕ → Type 0
+Counts s given n = IfOk given (λ r. (r.blocks ≡ compressed s) × (r.blocks ≤ 2 ^ 55 + 1)) × MatchResult given (λ r. n ≡ r.blocks) (λ _. n ≡ 0)
+
+module _ (s : Sha256) (m : List ℕ) {out out' : List ℕ} (given : Result Reported Refusal) (e : s ≡ absorb fresh m) (h : length m ≤ limit)
+    (answered : Answers (finished s) out (said given) out') where
   pub digest-of : length out ≡ 32 → out' ≡ digest m
   digest-of l = answer-fills (rw (finished-within s m e h) at answered) (length-digest m ∙ rw l)
 
-  pub counted_of : {blocks : ℕ} → 32 ≤ length out → blocks ≡ reported said (compressed s) → blocks ≡ blocks_of m
-  counted_of room counts =
-      let given : said ≡ answer (within (length out) (gives (digest m))) = (rw (finished-within s m e h) at answered).told in
+  pub counted_of : {n : ℕ} → 32 ≤ length out → Counts s given n → n ≡ blocks_of m
+  counted_of {n} room counts =
       let fits : length (digest m) ≤ length out = rw (length-digest m) room in
-      let told : said ≡ Ok (length (digest m)) = given ∙ simp (le-leb (length (digest m)) (length out) fits) in
-      counts ∙ rw told (compressed-absorbed s m e h)
+      let told : said given ≡ Ok (length (digest m)) =
+      (rw (finished-within s m e h) at answered).told ∙ simp (le-leb (length (digest m)) (length out) fits) in
+      of-given given told counts ∙ compressed-absorbed s m e h
+    where
+      of-given : (g : Result Reported Refusal) {k : ℕ} → said g ≡ Ok k → Counts s g n → n ≡ compressed s
+      of-given (Ok r) f c = c.1 ∙ c.0.0
+      of-given (Err r) f c = cc
 
 -- a key that fits a block does without its digest
 pub short-blocks : (key : List ℕ) → length key ≤ 64 → 0 ≡ key_blocks key
@@ -72,11 +81,11 @@ length-padded key pad = rw (length-xored (key_block key) pad) (elim (dec_le (len
   | no h ↦ simp (lt-leb (length key) 64 (omega arith), length-append, length-replicate, length-digest) (omega arith)
 ])
 
-module _ (key text : List ℕ) (few : length text ≤ limit - 64) {s outer : Sha256} {out inner out₂ value : List ℕ} {said said₂ : Result ℕ Refusal} {n n₂ : ℕ}
-    (es : s ≡ absorb (absorb fresh (xored (key_block key) ipad)) text) (first : Answers (finished s) out said inner) (room : length out ≡ 32)
-    (counts : n ≡ reported said (compressed s))
-    (eo : outer ≡ absorb (absorb fresh (xored (key_block key) opad)) inner) (second : Answers (finished outer) out₂ said₂ value) (room₂ : length out₂ ≡ 32)
-    (counts₂ : n₂ ≡ reported said₂ (compressed outer)) where
+module _ (key text : List ℕ) (few : length text ≤ limit - 64) {s outer : Sha256} {out inner out₂ value : List ℕ} (given given₂ : Result Reported Refusal) (n n₂ : ℕ)
+    (es : s ≡ absorb (absorb fresh (xored (key_block key) ipad)) text) (first : Answers (finished s) out (said given) inner) (room : length out ≡ 32)
+    (counts : Counts s given n)
+    (eo : outer ≡ absorb (absorb fresh (xored (key_block key) opad)) inner) (second : Answers (finished outer) out₂ (said given₂) value) (room₂ : length out₂ ≡ 32)
+    (counts₂ : Counts outer given₂ n₂) where
   abbrev message : List ℕ
   message = xored (key_block key) ipad ++ text
 
@@ -94,17 +103,17 @@ module _ (key text : List ℕ) (few : length text ≤ limit - 64) {s outer : Sha
 
   absorbed₂ : outer ≡ absorb fresh message₂
   absorbed₂ =
-      eo ∙ ap (absorb (absorb fresh (xored (key_block key) opad))) (digest-of s message absorbed size first room)
+      eo ∙ ap (absorb (absorb fresh (xored (key_block key) opad))) (digest-of s message given absorbed size first room)
       ∙ sym (absorb-append fresh (xored (key_block key) opad) (digest message))
 
   pub two-digests : value ≡ mac key text
   unfolding mac keyed
-  two-digests = digest-of outer message₂ absorbed₂ size₂ second room₂
+  two-digests = digest-of outer message₂ given₂ absorbed₂ size₂ second room₂
 
   pub two-counts : key_blocks key + n + n₂ ≡ mac_blocks key text
   unfolding mac_blocks keyed_blocks
   two-counts =
-      rw (counted_of s message absorbed size first (omega arith) counts, counted_of outer message₂ absorbed₂ size₂ second (omega arith) counts₂)
+      rw (counted_of s message given absorbed size first (omega arith) counts, counted_of outer message₂ given₂ absorbed₂ size₂ second (omega arith) counts₂)
       (omega arith)
 
 -- what `mac::end` promises of an inner hash and of the other hash under one key

@@ -1,5 +1,5 @@
 -- What the contracts of private functions cite: HMAC's two hashes under a key. Nothing that a public contract says stands here.
-use Rattle.std.specs.Prelude.{ℕ, ◌≡◌, List}
+use Rattle.std.specs.Prelude.{ℕ, ◌^◌, ◌≤◌, ◌≡◌, List}
 use Rattle.sha256.specs.State.{absorb, fresh}
 use Rattle.keys.specs.declared.mac.Keyed.{Keyed}
 use Rattle.keys.specs.declared.mac.Mac.{Mac}
@@ -10,6 +10,11 @@ use Rattle.keys.specs.Counts.{key_blocks, mac_blocks}
 abbrev pub keyed_by : List ℕ → Keyed
 keyed_by key =
     record { inner = absorb fresh (xored (key_block key) ipad); outer = absorb fresh (xored (key_block key) opad); blocks = key_blocks key }
+
+-- the two hashes under a secret, whose count of blocks is within its bound
+pub record Keys (secret : List ℕ) (k : Keyed) : Type 0 where
+  pub hashes : k ≡ keyed_by secret
+  pub few : k.blocks ≤ 2 ^ 56
 
 -- the HMAC of a text under a key, and its blocks
 pub record Macs (key text : List ℕ) (m : Mac) : Type 0 where

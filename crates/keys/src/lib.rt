@@ -8,17 +8,17 @@ mod mac;
 mod p_sha256;
 
 ghost use Rattle.refusal.specs.Lent.{Answers};
-ghost use Rattle.std.specs.Prelude.{◌≡◌, ◌++◌, ◌+◌, ◌*◌, ◌≤◌, length, take};
+ghost use Rattle.std.specs.Prelude.{◌≡◌, ◌++◌, ◌+◌, ◌*◌, ◌≤◌, length, take, IfOk};
 ghost use Rattle.keys.specs.Hmac as Hmac;
 ghost use Rattle.keys.specs.Prf as Prf;
 ghost use Rattle.keys.specs.Secrets as Secrets;
-ghost use Rattle.sha256.specs.Report.{reported};
+ghost use Rattle.sha256.specs.Report.{said};
 ghost use Rattle.keys.specs.Counts.{prf_blocks, master_blocks, master_under_blocks};
 
 use buffer::append;
 use p_sha256::{expand, expand_afresh};
 use refusal::Refusal;
-use sha256::{Reported, Sha256, report};
+use sha256::{Reported, Sha256};
 
 // The four labels of the PRF. No other can be handed in.
 #[derive(Clone, Copy)]
@@ -34,6 +34,18 @@ pub enum Label {
 pub enum Side {
     Client,
     Server,
+}
+
+// The label of a side's Finished.
+impl From<Side> for Label {
+    ghost from_gives = { λ side label. label ≡ Secrets.finished_label side };
+
+    fn from(side: Side) -> Label {
+        match side {
+            Side::Client => Label::ClientFinished,
+            Side::Server => Label::ServerFinished,
+        }
+    }
 }
 
 // The most bytes of a key: what the hash takes, 2^61 - 1.
@@ -52,13 +64,10 @@ pub fn hmac_of_two(
 ) -> Result<usize, Refusal>
     ensures { Answers (Hmac.hmac key.now (first.now ++ second.now)) out.old result out.new }
 {
-    if MESSAGE_LIMIT < first.len() {
-        return Err(Refusal::BadValue);
-    }
-    if MESSAGE_LIMIT - first.len() < second.len() {
-        return Err(Refusal::BadValue);
-    }
-    if KEY_LIMIT < key.len() {
+    if MESSAGE_LIMIT < first.len()
+        || MESSAGE_LIMIT - first.len() < second.len()
+        || KEY_LIMIT < key.len()
+    {
         return Err(Refusal::BadValue);
     }
     let k = mac::under(key);
@@ -86,13 +95,7 @@ pub fn prf(
 ) -> Result<usize, Refusal>
     ensures { Answers (Prf.prf secret.now label seed.now n) out.old result out.new }
 {
-    if 65536 < secret.len() {
-        return Err(Refusal::BadValue);
-    }
-    if 65536 < seed.len() {
-        return Err(Refusal::BadValue);
-    }
-    if 256 < n {
+    if 65536 < secret.len() || 65536 < seed.len() || 256 < n {
         return Err(Refusal::BadValue);
     }
     let mut bytes = [0u8; 256];
@@ -102,19 +105,17 @@ pub fn prf(
 
 // A master secret's 48 bytes of the PRF, with the number of blocks that were compressed, every HMAC starting afresh
 // (document 02, P8): R5 as above, then R1.
-fn derive(secret: &[u8], label: Label, seed: &[u8], out: &mut [u8]) -> Reported
-    ensures answers { Answers (Prf.prf secret.now label seed.now 48) out.old result.said out.new }
-    ensures blocks_value { result.blocks ≡ reported result.said (prf_blocks secret.now label seed.now 48) }
+fn derive(secret: &[u8], label: Label, seed: &[u8], out: &mut [u8]) -> Result<Reported, Refusal>
+    ensures answers { Answers (Prf.prf secret.now label seed.now 48) out.old (said result) out.new }
+    ensures blocks_value { IfOk result (λ r. r.blocks ≡ prf_blocks secret.now label seed.now 48) }
 {
-    if 65536 < secret.len() {
-        return report(Err(Refusal::BadValue), 0);
-    }
-    if 65536 < seed.len() {
-        return report(Err(Refusal::BadValue), 0);
+    if 65536 < secret.len() || 65536 < seed.len() {
+        return Err(Refusal::BadValue);
     }
     let mut bytes = [0u8; 64];
     let blocks = expand_afresh(secret, label, seed, 48, &mut bytes);
-    report(refusal::put(&bytes[..48], out), blocks)
+    let len = refusal::put(&bytes[..48], out)?;
+    Ok(Reported { len, blocks })
 }
 
 // The premaster secret of a PSK of 1 to 64 bytes at the front of the lent output: R5 for another
@@ -123,10 +124,7 @@ pub fn premaster(psk: &[u8], out: &mut [u8]) -> Result<usize, Refusal>
     ensures { Answers (Secrets.premaster psk.now) out.old result out.new }
 {
     let n = psk.len();
-    if n < 1 {
-        return Err(Refusal::BadValue);
-    }
-    if 64 < n {
+    if n < 1 || 64 < n {
         return Err(Refusal::BadValue);
     }
     let bytes = premaster_bytes(psk);
@@ -135,15 +133,17 @@ pub fn premaster(psk: &[u8], out: &mut [u8]) -> Result<usize, Refusal>
 
 // The master secret, 48 bytes at the front of the lent output, with the number of blocks that were compressed: R5
 // where a random is not of 32 bytes or the premaster secret is over 65,536, then R1.
-pub fn master(premaster: &[u8], client: &[u8], server: &[u8], out: &mut [u8]) -> Reported
-    ensures answers { Answers (Secrets.master premaster.now client.now server.now) out.old result.said out.new }
-    ensures blocks_value { result.blocks ≡ reported result.said (master_blocks premaster.now client.now server.now) }
+pub fn master(
+    premaster: &[u8],
+    client: &[u8],
+    server: &[u8],
+    out: &mut [u8],
+) -> Result<Reported, Refusal>
+    ensures answers { Answers (Secrets.master premaster.now client.now server.now) out.old (said result) out.new }
+    ensures blocks_value { IfOk result (λ r. r.blocks ≡ master_blocks premaster.now client.now server.now) }
 {
-    if client.len() != 32 {
-        return report(Err(Refusal::BadValue), 0);
-    }
-    if server.len() != 32 {
-        return report(Err(Refusal::BadValue), 0);
+    if client.len() != 32 || server.len() != 32 {
+        return Err(Refusal::BadValue);
     }
     let seed = joined(client, server);
     derive(premaster, Label::MasterSecret, &seed, out)
@@ -151,31 +151,30 @@ pub fn master(premaster: &[u8], client: &[u8], server: &[u8], out: &mut [u8]) ->
 
 // The master secret under a key, 48 bytes at the front of the lent output, with the number of blocks that were
 // compressed: R5 where the key is not of 1 to 64 bytes or a random not of 32, then R1.
-pub fn master_under(key: &[u8], client: &[u8], server: &[u8], out: &mut [u8]) -> Reported
-    ensures answers { Answers (Secrets.master_under key.now client.now server.now) out.old result.said out.new }
-    ensures blocks_value { result.blocks ≡ reported result.said (master_under_blocks key.now client.now server.now) }
+pub fn master_under(
+    key: &[u8],
+    client: &[u8],
+    server: &[u8],
+    out: &mut [u8],
+) -> Result<Reported, Refusal>
+    ensures answers { Answers (Secrets.master_under key.now client.now server.now) out.old (said result) out.new }
+    ensures blocks_value { IfOk result (λ r. r.blocks ≡ master_under_blocks key.now client.now server.now) }
 {
     let mut secret = [0u8; 132];
-    match premaster(key, &mut secret) {
-        Ok(n) => master(&secret[..n], client, server, out),
-        Err(r) => report(Err(r), 0),
-    }
+    let n = premaster(key, &mut secret)?;
+    master(&secret[..n], client, server, out)
 }
 
 // The bytes that the suite takes of its key block, or 0 for a suite that is none of ours.
 pub fn key_block_length(suite: u16) -> usize
     ensures { result ≡ Secrets.key_block_length suite }
 {
-    if suite == 0x00ae {
-        return 96;
+    match suite {
+        0x00ae => 96,
+        0x008c => 72,
+        0x00b0 => 64,
+        _ => 0,
     }
-    if suite == 0x008c {
-        return 72;
-    }
-    if suite == 0x00b0 {
-        return 64;
-    }
-    0
 }
 
 // The key block without IVs at the front of the lent output: R5 where the master secret is not of 48
@@ -189,17 +188,8 @@ pub fn key_block(
 ) -> Result<usize, Refusal>
     ensures { Answers (Secrets.keys master.now server.now client.now suite) out.old result out.new }
 {
-    if master.len() != 48 {
-        return Err(Refusal::BadValue);
-    }
     let n = key_block_length(suite);
-    if n < 1 {
-        return Err(Refusal::BadValue);
-    }
-    if server.len() != 32 {
-        return Err(Refusal::BadValue);
-    }
-    if client.len() != 32 {
+    if master.len() != 48 || n < 1 || server.len() != 32 || client.len() != 32 {
         return Err(Refusal::BadValue);
     }
     let seed = joined(server, client);
@@ -211,14 +201,10 @@ pub fn key_block(
 pub fn finished(side: Side, master: &[u8], hash: &[u8], out: &mut [u8]) -> Result<usize, Refusal>
     ensures { Answers (Secrets.verify_data side master.now hash.now) out.old result out.new }
 {
-    if master.len() != 48 {
+    if master.len() != 48 || hash.len() != 32 {
         return Err(Refusal::BadValue);
     }
-    if hash.len() != 32 {
-        return Err(Refusal::BadValue);
-    }
-    let label = finished_label(side);
-    prf(master, label, hash, 12, out)
+    prf(master, Label::from(side), hash, 12, out)
 }
 
 // The same over all messages of a transcript: R5 too past the hash's limit.
@@ -231,19 +217,8 @@ pub fn finished_of(
     ensures { Answers (Secrets.finished_of side master.now transcript) out.old result out.new }
 {
     let mut hash = [0u8; 32];
-    match transcript::hash_of(transcript, &mut hash) {
-        Ok(_) => finished(side, master, &hash, out),
-        Err(r) => Err(r),
-    }
-}
-
-fn finished_label(side: Side) -> Label
-    ensures { result ≡ Secrets.finished_label side }
-{
-    match side {
-        Side::Client => Label::ClientFinished,
-        Side::Server => Label::ServerFinished,
-    }
+    transcript::hash_of(transcript, &mut hash)?;
+    finished(side, master, &hash, out)
 }
 
 // N, N zero bytes, N and the PSK, at the front of a buffer.

@@ -18,7 +18,7 @@ pub struct Block {
 
 // The inner and the outer hash under one key, each with its padded block absorbed, and how many blocks were
 // compressed for the key's digest.
-#[derive(Drop)]
+#[derive(Clone, Copy)]
 pub struct Keyed {
     pub inner: Sha256,
     pub outer: Sha256,
@@ -46,7 +46,7 @@ fn block_of(key: &[u8]) -> Block
     let done = Sha256::new().update(key).finish_counted(&mut bytes);
     Block {
         bytes,
-        blocks: done.blocks,
+        blocks: done.map_or(0, |done| done.blocks),
     }
 }
 
@@ -87,11 +87,16 @@ pub(crate) fn end(inner: Sha256, outer: Sha256, blocks: u64) -> Mac
     ensures blocks_bound { result.blocks ≤ 2 ^ 58 }
 {
     let mut digest = [0u8; 32];
-    let first = inner.finish_counted(&mut digest);
+    let first = inner
+        .finish_counted(&mut digest)
+        .map_or(0, |done| done.blocks);
     let mut value = [0u8; 32];
-    let second = outer.update(&digest).finish_counted(&mut value);
+    let second = outer
+        .update(&digest)
+        .finish_counted(&mut value)
+        .map_or(0, |done| done.blocks);
     Mac {
         value,
-        blocks: blocks + first.blocks + second.blocks,
+        blocks: blocks + first + second,
     }
 }

@@ -1,13 +1,15 @@
 // P_SHA256 (RFC 5246, section 5), with the label hashed before the seed and never copied next to it.
-ghost use Rattle.std.specs.Prelude.{◌≡◌, List, ◌++◌, ℕ, ◌≤◌, ◌<◌, length, take};
+ghost use Rattle.std.specs.Prelude.{◌≡◌, List, ◌++◌, ℕ, ◌+◌, ◌*◌, ◌/◌, ◌≤◌, ◌<◌, length, take};
 ghost use Rattle.sha256.specs.State.{absorb};
 ghost use Rattle.keys.specs.Prf as Prf;
 ghost use Rattle.keys.specs.Prf.{text, expanded};
 ghost use Rattle.keys.specs.Counts.{prf_blocks};
+ghost use Rattle.keys.specs.declared.mac.Keyed.{Keyed};
+ghost use Rattle.keys.specs.Inner.{Keys};
 
 use super::Label;
 use super::buffer::append;
-use super::mac::{end, under};
+use super::mac::{Keyed, end, under};
 use sha256::Sha256;
 
 // The hash when the label has come.
@@ -40,8 +42,38 @@ fn with_a(hash: Sha256, label: Label, seed: &[u8], i: usize, a: &[u8; 32]) -> Sh
     hash.update(a)
 }
 
-// The first n bytes of P_SHA256, at the front of a lent buffer. Every HMAC starts from the two hashes of one secret,
-// which are made once.
+// The first n bytes of P_SHA256, at the front of a lent buffer, with the number of blocks that are compressed where every HMAC
+// starts afresh. Each HMAC starts from the two hashes of the secret that `keyed` gives.
+fn expand_by<F: Fn(&[u8]) -> Keyed>(
+    keyed: F,
+    secret: &[u8],
+    label: Label,
+    seed: &[u8],
+    n: usize,
+    buffer: &mut [u8],
+) -> u64
+    requires callable { F.pre keyed secret }
+    requires keys { (k : Keyed) → F.post keyed secret k → Keys secret.now k }
+    requires seed_len_bound { length seed.now ≤ 65536 }
+    requires n_bound { (n ≤ 256) × (32 * ((n + 31) / 32) ≤ length buffer.old) }
+    ensures buffer_after { take n buffer.new ≡ expanded secret.now (text label ++ seed.now) n }
+    ensures value { result ≡ prf_blocks secret.now label seed.now n }
+{
+    let mut blocks: u64 = 0;
+    let mut a = [0u8; 32];
+    for i in 0..n.div_ceil(32) {
+        let k = keyed(secret);
+        let next = end(with_a(k.inner, label, seed, i, &a), k.outer, k.blocks);
+        a = next.value;
+        let j = keyed(secret);
+        let part = end(labelled(j.inner, &a, label, seed), j.outer, j.blocks);
+        append(buffer, 32 * i, &part.value);
+        blocks += next.blocks + part.blocks;
+    }
+    blocks
+}
+
+// The same from the two hashes of one secret, which are made once.
 pub(crate) fn expand(secret: &[u8], label: Label, seed: &[u8], n: usize, buffer: &mut [u8])
     requires secret_len_bound { length secret.now ≤ 65536 }
     requires seed_len_bound { length seed.now ≤ 65536 }
@@ -49,13 +81,7 @@ pub(crate) fn expand(secret: &[u8], label: Label, seed: &[u8], n: usize, buffer:
     ensures { take n buffer.new ≡ expanded secret.now (text label ++ seed.now) n }
 {
     let k = under(secret);
-    let mut a = [0u8; 32];
-    for i in 0..n.div_ceil(32) {
-        let next = end(with_a(k.inner, label, seed, i, &a), k.outer, k.blocks);
-        a = next.value;
-        let part = end(labelled(k.inner, &a, label, seed), k.outer, k.blocks);
-        append(buffer, 32 * i, &part.value);
-    }
+    expand_by(|_| k, secret, label, seed, n, buffer);
 }
 
 // The same where every HMAC starts afresh from the secret, with the number of blocks that were compressed
@@ -73,16 +99,5 @@ pub(crate) fn expand_afresh(
     ensures buffer_after { take n buffer.new ≡ expanded secret.now (text label ++ seed.now) n }
     ensures value { result ≡ prf_blocks secret.now label seed.now n }
 {
-    let mut blocks: u64 = 0;
-    let mut a = [0u8; 32];
-    for i in 0..n.div_ceil(32) {
-        let k = under(secret);
-        let next = end(with_a(k.inner, label, seed, i, &a), k.outer, k.blocks);
-        a = next.value;
-        let j = under(secret);
-        let part = end(labelled(j.inner, &a, label, seed), j.outer, j.blocks);
-        append(buffer, 32 * i, &part.value);
-        blocks += next.blocks + part.blocks;
-    }
-    blocks
+    expand_by(|s| under(s), secret, label, seed, n, buffer)
 }

@@ -11,6 +11,7 @@ use lib.Dec.{eqb}
 use borrow.Author.Tests.{eqb-true, le-leb, lt-leb}
 use Rattle.std.proofs.lemmas.Option.{none-some, same_Some}
 use Rattle.std.specs.Prelude.{Option, None, Some}
+use Rattle.std.specs.List.{slice_range}
 use Rattle.lists.specs.Lists.{part}
 use Rattle.lists.proofs.Parts.{part-there}
 use Rattle.refusal.specs.Lent.{refuses}
@@ -119,6 +120,10 @@ key-listed t i starts from to f = ap key_of_text f.text
 pub key-unlisted : (t i starts : List ℕ) → placed 0 i t starts ≡ None → key_at t starts i ≡ None
 unfolding key_at
 key-unlisted t i starts e = ap key_of_text (nowhere t i 0 starts e)
+
+-- the first n of s, as the code lends them
+pub front-is : {front : List ℕ} (s : List ℕ) (n : ℕ) → front ≡ slice_range s 0 n → front ≡ take n s
+front-is s n e = let size : n - 0 ≡ n = omega arith in rw size at e
 
 -- what a lookup makes of the count
 module _ (t starts : List ℕ) (count : ℕ) (i : List ℕ) where

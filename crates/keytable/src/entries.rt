@@ -4,6 +4,7 @@ ghost use Rattle.keytable.specs.Table.{line_end, upto};
 ghost use Rattle.keytable.specs.Starts.{placed, looked_up};
 ghost use Rattle.refusal.specs.Lent.{Answers};
 
+use crate::Table;
 use crate::hex::key_into;
 use refusal::Refusal;
 
@@ -59,22 +60,14 @@ pub fn first_line(table: &[u8], starts: &[u32], identity: &[u8]) -> Option<Hit>
     hit
 }
 
-// The key that the table has for the identity, by the first `count` starts, at the front of out; R10 where there are
-// fewer, 115 where the identity isn't listed.
-pub fn lookup(
-    table: &[u8],
-    starts: &[u32],
-    count: usize,
-    identity: &[u8],
-    out: &mut [u8],
-) -> Result<usize, Refusal>
-    ensures { Answers (looked_up table.now starts.now count identity.now) out.old result out.new }
-{
-    if starts.len() < count {
-        return Err(Refusal::BadList);
-    }
-    match first_line(table, &starts[..count], identity) {
-        Some(hit) => key_into(&table[hit.from..hit.to], out),
-        None => Err(Refusal::UnknownPskIdentity),
+impl Table<'_> {
+    // The key that the table has for the identity, by the list, at the front of out; R10 where there are fewer starts than
+    // their count, 115 where the identity isn't listed.
+    pub fn lookup(self, identity: &[u8], out: &mut [u8]) -> Result<usize, Refusal>
+        ensures { Answers (looked_up self.entry.bytes.now self.entry.starts.now self.entry.count identity.now) out.old result out.new }
+    {
+        let list = self.starts.get(..self.count).ok_or(Refusal::BadList)?;
+        let hit = first_line(self.bytes, list, identity).ok_or(Refusal::UnknownPskIdentity)?;
+        key_into(&self.bytes[hit.from..hit.to], out)
     }
 }

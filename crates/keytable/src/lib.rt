@@ -11,5 +11,14 @@ mod list;
 mod scan;
 
 pub use checks::{valid_identity, valid_secret};
-pub use entries::{Hit, first_line, lookup};
-pub use list::{judge, make_list, well_formed};
+pub use entries::{Hit, first_line};
+pub use list::{make_list, well_formed};
+
+// A key table as a caller lends it, with the list of its line starts, which is the first `count` of `starts`. Any three
+// are allowed: what is no table, or not its list, is refused.
+#[derive(Clone, Copy)]
+pub struct Table<'a> {
+    pub bytes: &'a [u8],
+    pub starts: &'a [u32],
+    pub count: usize,
+}

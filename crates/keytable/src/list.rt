@@ -5,6 +5,7 @@ ghost use Rattle.refusal.specs.Lent.{Answers, gives};
 ghost use Rattle.keytable.specs.Table.{well_formed, judged};
 ghost use Rattle.keytable.specs.Starts.{list_made, list_refusal};
 
+use crate::Table;
 use crate::scan::scan;
 use refusal::Refusal;
 
@@ -53,16 +54,17 @@ fn same_list(starts: &[u32], count: usize, own: &[u16]) -> bool
             .all(|(&start, &at)| start == at as u32)
 }
 
-// What the table and the first `count` of the starts come to: R2 where the table is not well formed, R10 where they are
-// not its list.
-pub fn judge(table: &[u8], starts: &[u32], count: usize) -> Result<(), Refusal>
-    ensures { result ≡ judged (list_refusal table.now starts.now count) }
-{
-    let mut own = [0u16; 256];
-    let lines = scan(table, &mut own).ok_or(Refusal::BadTable)?;
-    if same_list(starts, count, &own[..lines]) {
-        Ok(())
-    } else {
-        Err(Refusal::BadList)
+impl Table<'_> {
+    // What table and list come to: R2 where the table is not well formed, R10 where the list is not its own.
+    pub fn judge(self) -> Result<(), Refusal>
+        ensures { result ≡ judged (list_refusal self.entry.bytes.now self.entry.starts.now self.entry.count) }
+    {
+        let mut own = [0u16; 256];
+        let lines = scan(self.bytes, &mut own).ok_or(Refusal::BadTable)?;
+        if same_list(self.starts, self.count, &own[..lines]) {
+            Ok(())
+        } else {
+            Err(Refusal::BadList)
+        }
     }
 }

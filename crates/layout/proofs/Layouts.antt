@@ -1,29 +1,22 @@
 -- The laws that hold of every layout: when fields are valid, how a writer shows its answer, and where a caller finds it.
 -- Assumes nothing.
 use mathlib.Core.Path.{◌≡◌}
-use Prim.Native.Nat.{ℕ, ◌≤◌, ◌<◌}
+use Prim.Native.Nat.{ℕ, ◌≤◌}
 use native.Mathlib.Omega.{arith}
-use mathlib.Core.Bool.{true, false, and-false, and-eq-true_iff}
+use mathlib.Core.Bool.{true, and-eq-true_iff}
 use mathlib.Core.List.{List, ◌++◌}
 use lib.ListN.{length, drop}
 use lib.Dec.{leb}
-use borrow.Author.Tests.{le-leb, lt-leb, leb-true}
-use Rattle.std.specs.Prelude.{Result, Err}
+use borrow.Author.Tests.{le-leb, leb-true}
+use Rattle.std.specs.Prelude.{Result}
 use Rattle.refusal.specs.declared.Refusal.{Refusal}
-use Rattle.refusal.specs.declared.Refusal.TheVariants.{BadValue}
 use Rattle.refusal.specs.Lent.{gives, Answers}
-use Rattle.refusal.proofs.Laws.{refuses-answers, answer-in-front}
+use Rattle.refusal.proofs.Laws.{answer-in-front}
 use Rattle.layout.specs.Layout.{Layout, bytes, valid, written}
 
 module _ {F : Type 0} (l : Layout F) (f : F) where
   pub valid-within : l.rules f ≡ true → length (l.body f) ≤ 16380 → valid l f ≡ true
   valid-within h n = rw (h, le-leb (length (bytes l f)) 16384 (omega arith))
-
-  pub valid-long : 16380 < length (l.body f) → valid l f ≡ false
-  valid-long n = rw (lt-leb (length (bytes l f)) 16384 (omega arith)) (and-false (l.rules f))
-
-  pub valid-rules : l.rules f ≡ false → valid l f ≡ false
-  valid-rules h = rw h
 
   pub valid-parts : valid l f ≡ true → (l.rules f ≡ true) × (length (l.body f) ≤ 16380)
   valid-parts h =
@@ -35,9 +28,6 @@ module _ {F : Type 0} (l : Layout F) (f : F) where
   pub writes : (out left : List ℕ) (said : Result ℕ Refusal) → valid l f ≡ true → Answers (gives (bytes l f)) out said left
       → Answers (written l f) out said left
   writes out left said h a = rw h a
-
-  pub writes-none : (out : List ℕ) → valid l f ≡ false → Answers (written l f) out (Err BadValue) out
-  writes-none out h = rw h (refuses-answers BadValue out)
 
   -- ---- for a caller
 

@@ -2,4 +2,3 @@ pub mod Headers
 pub mod Layouts
 pub mod Places
 pub mod Puts
-pub mod Windows

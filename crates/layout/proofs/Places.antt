@@ -18,7 +18,6 @@ use Rattle.endian.specs.Vector.{vector, writable, stated, split, Split}
 use Rattle.endian.proofs.Numbers.{bytes_drop, length-be}
 use Rattle.endian.proofs.Vectors.{vector-split, stated-vector, length-vector}
 use Rattle.layout.specs.declared.Part.{Part}
-use Rattle.layout.specs.Header.{header}
 use Rattle.layout.specs.Place.{standing, end_at, part_at, ruled, last_at, after_header, contents}
 
 -- a place is no refusal
@@ -48,12 +47,6 @@ part-there w m at s n e = elim (dec_le (end_at w m at) (length m)) [
       absurd (at-refused (part_at w m at) s n e (simp (lt-leb _ _ over)))
 ]
 
-pub part_cut : (w : ℕ) (m : List ℕ) (at : ℕ) → part_at w m at ≡ None → length m < end_at w m at
-part_cut w m at e = elim (dec_le (end_at w m at) (length m)) [
-  | yes fits ↦ absurd (at-refused (part_at w m at) (at + w) (stated w (drop at m)) (simp (le-leb _ _ fits)) e)
-  | no cut ↦ omega arith
-]
-
 -- the same with a rule on its length
 pub ruled-there : (rule : ℕ → Bool) (p : Option Part) (s n : ℕ) → ruled rule p ≡ standing s n → (p ≡ standing s n) × (rule n ≡ true)
 ruled-there rule (Some p) s n e = go (rule p.len) refl
@@ -81,9 +74,6 @@ last-there w m at s n e = elim (ℕ_discrete (end_at w m at) (length m)) [
       (fills, same.0, same.1)
   | no off ↦ absurd (at-refused (last_at w m at) s n e (simp (ne_eqb _ _ off)))
 ]
-
-pub last_off : (w : ℕ) (m : List ℕ) (at : ℕ) → last_at w m at ≡ None → ¬ (end_at w m at ≡ length m)
-last_off w m at e fills = at-refused (last_at w m at) (at + w) (stated w (drop at m)) (simp (eq-eqb _ _ fills)) e
 
 -- the vector that starts at `at`, where the message does not end before it does
 pub vector-at : (w : ℕ) (m : List ℕ) (at : ℕ) → Bytes m → end_at w m at ≤ length m
@@ -127,8 +117,3 @@ vector-last w m at b fills =
 pub after-header : (v : Result Unit Refusal) (p : Option Part) (s n : ℕ) → after_header v p ≡ standing s n → (v ≡ Ok tt) × (p ≡ standing s n)
 after-header (Ok tt) p s n e = (refl, e)
 after-header (Err r) p s n e = absurd (at-refused None s n e refl)
-
-pub last-inside : (kind : ℕ) (m : List ℕ) (at s n : ℕ) → after_header (header kind m) (last_at 2 m at) ≡ standing s n → (s ≡ at + 2) × (s + n ≡ length m)
-last-inside kind m at s n e =
-    let there = last-there 2 m at s n (after-header (header kind m) (last_at 2 m at) s n e).1 in
-    (there.1, omega arith)

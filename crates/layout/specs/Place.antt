@@ -12,9 +12,13 @@ end_at w m at = at + w + stated w (drop at m)
 abbrev pub standing : (s n : ℕ) → Option Part
 standing s n = Some (record { start = s; len = n })
 
+-- the part of n bytes from s on, where m has them all
+abbrev pub whole_at : List ℕ → (s n : ℕ) → Option Part
+whole_at m s n = cond (leb (s + n) (length m)) (standing s n) None
+
 -- the vector that starts at `at`
 abbrev pub part_at : ℕ → List ℕ → ℕ → Option Part
-part_at w m at = cond (leb (end_at w m at) (length m)) (standing (at + w) (stated w (drop at m))) None
+part_at w m at = whole_at m (at + w) (stated w (drop at m))
 
 -- the same with a rule on its length
 abbrev pub ruled : (ℕ → Bool) → Option Part → Option Part

@@ -47,10 +47,10 @@ fn digit_count(n: usize) -> usize
 pub fn refused(output: &mut impl Write, r: Refusal) -> io::Result<u8>
     ensures { IfOk result (λ n. n ≡ number_of r) }
 {
-    if !refusal::for_peer(r) {
+    if !r.for_peer() {
         text(output, b"R")?;
     }
-    let n = refusal::number(r);
-    number(output, n as usize)?;
+    let n = u8::from(r);
+    number(output, usize::from(n))?;
     Ok(n)
 }

@@ -1,7 +1,7 @@
 // Reading from a reader: numbers, bytes to the front of lent memory, and fields. At the input's end
 // every byte is 0. A read that fails leaves of lent memory its length and what stands behind the bytes that were to
 // be read.
-ghost use Rattle.std.specs.Prelude.{◌≡◌, ◌<◌, ◌≤◌, IfOk, OnErr, length, min};
+ghost use Rattle.std.specs.Prelude.{◌≡◌, ◌<◌, IfOk, OnErr, length, min};
 ghost use Rattle.lines.specs.Front.{Front};
 
 use std::io;

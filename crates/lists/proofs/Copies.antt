@@ -1,12 +1,12 @@
 -- What `lists::copy` leaves, into a part of an array or into an array of the part's size, and a list that is filled from the front.
 -- Assumes nothing.
-use mathlib.Core.Path.{◌≡◌, refl, sym, ◌∙◌}
+use mathlib.Core.Path.{◌≡◌, sym, ◌∙◌}
 use Prim.Native.Nat.{ℕ, suc, ◌+◌, ◌-◌, ◌≤◌, ◌<◌}
 use native.Mathlib.Omega.{arith}
 use native.Mathlib.Numerals.{add-one}
-use mathlib.Core.List.{List, ◌++◌, append-nil, append_assoc}
-use lib.ListN.{length, get_or, set, take, drop, replicate, length-append, length-replicate, drop_of_length-le}
-use lib.Seq.{take_at, take-length, drop-length, take-suc, drop-cons, append_snoc, set_at, length-take-le}
+use mathlib.Core.List.{List, ◌++◌, append-nil}
+use lib.ListN.{length, get_or, set, take, drop, replicate, length-replicate, drop_of_length-le}
+use lib.Seq.{take-length, drop-length, take-suc, drop-cons, append_snoc, set_at, length-take-le}
 use borrow.Rule.Slice.PartMut.{mid_of, put_mid, mid_len, Post-is}
 use Rattle.lists.specs.Lists.{part}
 use Rattle.lists.proofs.Parts.{length_part}
@@ -20,20 +20,6 @@ copied-in whole src last at end e h copied =
     let size : length (mid_of at (end - at) whole) ≡ end - at = mid_len at end whole h in
     let full = drop_of_length-le (mid_of at (end - at) whole) {i = length src} (omega arith) in
     rw (copied, Post-is at end whole (omega arith), full, take-length src, append-nil src)
-
--- a copy behind a known front makes the front longer by what was copied
-pub copied_behind : (whole src last : List ℕ) (at : ℕ) → at + length src ≤ length whole
-    → last ≡ take (length src) src ++ drop (length src) (mid_of at (at + length src - at) whole)
-    → take (at + length src) (put_mid at (at + length src - at) whole last) ≡ take at whole ++ src
-copied_behind whole src last at h copied =
-    let size : length (take at whole ++ src) ≡ at + length src = rw (length-append (take at whole) src, length-take-le at whole (omega arith)) in
-    rw (copied-in whole src last at (at + length src) refl h copied, ← append_assoc (take at whole) src (drop (at + length src) whole))
-    (take_at (take at whole ++ src) (drop (at + length src) whole) (at + length src) size)
-
--- a part that was put behind a known front, as the next part finds them
-pub copy-behind : {front bytes : List ℕ} (whole added next : List ℕ) (at n : ℕ) → take (at + length added) next ≡ take at whole ++ added
-    → take at whole ≡ front → added ≡ bytes → length bytes ≡ n → take (at + n) next ≡ front ++ bytes
-copy-behind whole added next at n appended before same size = rw (same, before, size) at appended
 
 -- ---- a copy into an array
 

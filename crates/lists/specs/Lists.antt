@@ -1,5 +1,5 @@
 -- Definitions on lists that no topic owns: tests of the elements, equal bytes, parts. Nothing here speaks of TLS.
-use Rattle.std.specs.Prelude.{◌≡◌, ℕ, Bool, true, false, not, ◌&&◌, ◌||◌, List, [], ◌∷◌, take, drop, eqb}
+use Rattle.std.specs.Prelude.{◌≡◌, ℕ, ◌-◌, Bool, true, false, not, ◌&&◌, ◌||◌, List, [], ◌∷◌, ◌++◌, length, take, drop, replicate, cond, eqb, Option, None, Some}
 
 module _ {A : Type 0} where
   -- every element passes the test
@@ -37,3 +37,11 @@ same (a ∷ s) (b ∷ t) = eqb a b && same s t
 -- the n numbers from `at` on, as far as there are any
 abbrev pub part : ℕ → ℕ → List ℕ → List ℕ
 part at n s = take n (drop at s)
+
+-- numbers at the front of a field of n, with zeros behind them
+abbrev pub field : ℕ → List ℕ → List ℕ
+field n s = s ++ replicate (n - length s) 0
+
+-- the truth value of a byte, 0 or 1, if it is that of one
+abbrev pub flag_of : ℕ → Option Bool
+flag_of n = cond (eqb n 0) (Some false) (cond (eqb n 1) (Some true) None)

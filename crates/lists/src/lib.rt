@@ -2,8 +2,13 @@
 // proofs of the other crates cite.
 #![tactic(auto)]
 
+mod places;
+
 ghost use Rattle.std.specs.Prelude.{◌≡◌, ◌≤◌, ◌++◌, length, take, drop};
-ghost use Rattle.lists.specs.Lists.{same};
+ghost use Rattle.lists.specs.Lists.{field, same};
+
+pub use places::{array_at, flag, joined};
+use std::cmp::min;
 
 // Whether two byte strings are equal. Of two of one length all bytes are read, whatever they are, so that the
 // time does not tell where a secret value differs from a guess.
@@ -30,4 +35,22 @@ pub fn copy(src: &[u8], dst: &mut [u8]) -> usize
     let n = src.len();
     dst[..n].copy_from_slice(src);
     n
+}
+
+// A byte string at the front of a field of N bytes, with zeros behind it; of a longer one, the first N bytes.
+pub fn field<const N: usize>(bytes: &[u8]) -> [u8; N]
+    ensures fits { length bytes.now ≤ N → result ≡ field N bytes.now }
+    ensures longer { N ≤ length bytes.now → result ≡ take N bytes.now }
+{
+    let n = min(bytes.len(), N);
+    let mut field = [0u8; N];
+    field[..n].copy_from_slice(&bytes[..n]);
+    field
+}
+
+// The n bytes at the front of a field; of a shorter one, all of it.
+pub fn front(field: &[u8], n: usize) -> &[u8]
+    ensures { result.now ≡ take n field.now }
+{
+    field.get(..n).unwrap_or(field)
 }

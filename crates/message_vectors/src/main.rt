@@ -21,7 +21,7 @@ fn print_number(output: &mut impl Write, n: usize) -> io::Result<()> {
 }
 
 fn print_refusal(output: &mut impl Write, r: Refusal) -> io::Result<()> {
-    print_number(output, refusal::number(r) as usize)
+    print_number(output, usize::from(u8::from(r)))
 }
 
 // Where a part starts, and how long it is.
@@ -86,8 +86,7 @@ fn show_client(output: &mut impl Write, message: &[u8], out: &mut [u8]) -> io::R
         lines::part(message, 39, client.session_len),
         client.suites.of(message),
         client.methods.of(message),
-        block.is_some(),
-        block.unwrap_or_default(),
+        block,
         out,
     );
     print_again(output, said, out, message)
@@ -110,8 +109,7 @@ fn show_server(output: &mut impl Write, message: &[u8], out: &mut [u8]) -> io::R
         lines::part(message, 39, server.session_len),
         server.suite,
         server.compression,
-        block.is_some(),
-        block.unwrap_or_default(),
+        block,
         out,
     );
     print_again(output, said, out, message)
@@ -243,8 +241,7 @@ fn try_client(
         lines::part(&bytes, 0, session_id),
         lines::part(&bytes, 0, suites),
         lines::part(&bytes, 0, methods),
-        present,
-        block,
+        present.then_some(block),
         out,
     ))
 }
@@ -257,7 +254,15 @@ fn try_server(
 ) -> io::Result<Result<usize, Refusal>> {
     let suite = lines::number24(input)?;
     let present = lines::byte(input)? == 1;
-    Ok(hellos::server_hello::write(771, &[7u8; 32], &[], suite, 0, present, block, out))
+    Ok(hellos::server_hello::write(
+        771,
+        &[7u8; 32],
+        &[],
+        suite,
+        0,
+        present.then_some(block),
+        out,
+    ))
 }
 
 // What a writer answers, for one field, or a block and what else a hello takes: 2 and 3 stand for the

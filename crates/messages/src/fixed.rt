@@ -15,10 +15,7 @@ fn body(size: usize, message: &[u8]) -> Option<Part>
     requires { size ≤ verify_data_size }
     ensures { result ≡ filled_by size message.now }
 {
-    if message.len() != 4 + size {
-        return None;
-    }
-    Some(Part {
+    (message.len() == 4 + size).then_some(Part {
         start: 4,
         len: size,
     })
@@ -28,9 +25,7 @@ fn read(kind: u8, size: usize, message: &[u8]) -> Option<Part>
     requires { size ≤ verify_data_size }
     ensures { result ≡ fixed_place kind size message.now }
 {
-    if header::test(kind, message).is_err() {
-        return None;
-    }
+    header::test(kind, message).ok()?;
     body(size, message)
 }
 

@@ -32,9 +32,6 @@ module _ (s : State) (number : ℕ) {out : List ℕ} {said : Result ℕ Refusal}
   short : length (sealed s ContentType.Alert (fatal ∷ number ∷ [])) ≤ 39
   short = omega (arith, length-sealed s ContentType.Alert (fatal ∷ number ∷ []), few-added s)
 
-  pub alert-wrote : {n : ℕ} → said ≡ Ok n → n ≤ 39
-  alert-wrote e = omega (arith, short, (wrote-all a e).1)
-
   pub alert-room : {r : Refusal} → said ≡ Err r → ⊥
   alert-room e = omega (arith, short, refused-short a e)
 

@@ -13,7 +13,8 @@ use Rattle.refusal.specs.declared.Refusal.TheVariants.{DecodeError}
 use Rattle.server.specs.declared.Phase.{Phase}
 use Rattle.server.specs.declared.Phase.TheVariants.{Hello, KeyExchange, Change, Finished, Complete, Closed}
 use Rattle.server.specs.declared.Connection.{Connection}
-use Rattle.server.specs.declared.Answer.{Answer}
+use Rattle.handshake.specs.declared.Answer.{Answer}
+use Rattle.handshake.specs.Step as Shared
 use Rattle.server.specs.Step as Server
 use Rattle.server.specs.Change.{change_step}
 use Rattle.records.specs.declared.ContentType.{ContentType}
@@ -23,8 +24,12 @@ use Rattle.record_server.specs.Taking.{Step, refuse, silently, changed, changed_
 use Rattle.record_server.specs.InnerTaking.{Decides}
 
 -- what is decided for one step is decided for the same step
-pub same_step : {d : Decided} {memory held bytes : List ℕ} {s t : Step} → s ≡ t → Decides d memory held bytes t → Decides d memory held bytes s
+pub same_step : {d : Result Decided Refusal} {memory held bytes : List ℕ} {s t : Step} → s ≡ t → Decides d memory held bytes t → Decides d memory held bytes s
 same_step e h = rw e h
+
+-- a refusal leaves nothing to be sent or held
+pub refused-decides : {d : Result Decided Refusal} {memory held bytes : List ℕ} {r : Refusal} {s : Step} → d ≡ Err r → s ≡ refuse r → Decides d memory held bytes s
+refused-decides e f = rw (e, f) (record { means = refl; keeps = tt })
 
 -- ---- a change of cipher, by what the server's call said of it
 
@@ -32,8 +37,8 @@ abbrev change_said : RecordConnection → List ℕ → Result ℕ Refusal → Co
 change_said c held (Ok n) next = silently (changed c next) held None
 change_said c held (Err r) next = refuse r
 
-pub change-said : (c : RecordConnection) (held : List ℕ) (h : Connection) (p : Phase) {a : Answer}
-    → a ≡ Server.answered (Server.settled h [] (change_step h p)) → changed_by c held (change_step h p) ≡ change_said c held a.said a.next
+pub change-said : (c : RecordConnection) (held : List ℕ) (h : Connection) (p : Phase) {a : Answer Connection}
+    → a ≡ Shared.answered (Server.settled h [] (change_step h p)) → changed_by c held (change_step h p) ≡ change_said c held a.said a.next
 change-said c held h Hello e = rw e
 change-said c held h KeyExchange e = rw e
 change-said c held h Change e = rw e

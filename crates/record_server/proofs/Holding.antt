@@ -1,15 +1,14 @@
 -- What lent memory holds of a message: where it stands, and whether there is room for it.
 -- Assumes nothing.
 use mathlib.Core.Path.{◌≡◌, refl, sym, ap}
-use Prim.Native.Nat.{ℕ, zero, suc, ◌+◌, ◌-◌, ◌≤◌}
+use Prim.Native.Nat.{ℕ, zero, suc, ◌≤◌}
 use native.Mathlib.Omega.{arith}
-use native.Mathlib.Decide.{dec_le}
 use mathlib.Core.Bool.{Bool, true, false, cond}
 use mathlib.Core.List.{List, [], ◌∷◌, ◌++◌}
 use lib.ListN.{length, take, drop, length-append, length-take}
 use lib.Seq.{length-take-le}
 use lib.Dec.{leb}
-use borrow.Author.Tests.{le-leb, lt-leb}
+use borrow.Author.Tests.{le-leb}
 use Rattle.std.specs.Prelude.{Option, None, Some}
 use Rattle.lists.specs.Lists.{part}
 use Rattle.lists.proofs.Parts.{length_part}
@@ -48,13 +47,6 @@ module _ (memory : List ℕ) (n : ℕ) where
       go false e = refl
 
 -- ---- room for what is to be held
-
--- room behind a place
-pub room-behind : (at len room : ℕ) → at ≤ room → leb len (room - at) ≡ leb (at + len) room
-room-behind at len room inside = elim (dec_le (at + len) room) [
-  | yes h ↦ rw (le-leb (at + len) room h, le-leb len (room - at) (omega arith))
-  | no h ↦ rw (lt-leb (at + len) room (omega arith), lt-leb len (room - at) (omega arith))
-]
 
 pub held-room : (keep : Option Put) (memory held bytes : List ℕ) → Within keep memory bytes → held ++ drop (length held) memory ≡ memory
     → room_for keep (length memory) ≡ leb (length (held_by keep memory held bytes)) (length memory)

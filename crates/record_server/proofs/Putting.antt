@@ -8,15 +8,14 @@ use mathlib.Core.Bool.{Bool, true, false, cond, not, ◌||◌, true≢false}
 use mathlib.Core.List.{List, [], ◌∷◌, ◌++◌, append_assoc, append-nil}
 use lib.ListN.{length, take, drop, length-append, length-take, length-drop, take-append-drop, drop_of_length-le}
 use lib.Seq.{length-take-le, take_at, drop_at, drop-drop}
-use lib.Dec.{leb, eqb}
+use lib.Dec.{eqb}
 use Rattle.std.specs.List.{list_any}
-use borrow.Author.Tests.{eq-eqb, ne_eqb, le-leb, leb-true}
+use borrow.Author.Tests.{eq-eqb, ne_eqb, le-leb}
 use Rattle.std.specs.Prelude.{Result}
 use Rattle.refusal.specs.declared.Refusal.{Refusal}
 use Rattle.lists.specs.Lists.{part}
 use Rattle.lists.proofs.Parts.{rest, length_part}
-use Rattle.refusal.specs.declared.Refusal.TheVariants.{ShortOutput}
-use Rattle.refusal.specs.Lent.{Outcome, gives, refuses, within, answer, Answers}
+use Rattle.refusal.specs.Lent.{gives, Answers}
 use Rattle.refusal.proofs.Laws.{answer-in-front}
 use Rattle.layout.proofs.Puts.{front, put-behind}
 use Rattle.handshake.specs.Flight as Flight
@@ -80,19 +79,6 @@ records-short s (n ∷ ns) b = go (eqb n 0) (records-short s ns b) (records-shor
         rw (length-append (sealed s ContentType.Handshake m) tail, length-sealed s ContentType.Handshake m) (omega (arith, few-added s))
 
 -- ---- a record that is put behind others
-
--- no more is written than there is room
-pub counted-within : (o : Outcome) {out left : List ℕ} {said : Result ℕ Refusal} → Answers o out said left → Flight.counted said ≤ length out
-counted-within o {out} a = rw a.told (go o)
-  where
-    tested : (bytes : List ℕ) (t : Bool) → leb (length bytes) (length out) ≡ t
-        → Flight.counted (answer (cond t (gives bytes) (refuses ShortOutput))) ≤ length out
-    tested bytes true e = leb-true _ _ e
-    tested bytes false e = omega arith
-
-    go : (o : Outcome) → Flight.counted (answer (within (length out) o)) ≤ length out
-    go (gives bytes) = tested bytes (leb (length bytes) (length out)) refl
-    go (refuses r) = omega arith
 
 -- bytes at the front leave the length as it was
 pub front_long : (bs out : List ℕ) → length bs ≤ length out → length (front bs out) ≡ length out

@@ -3,18 +3,20 @@
 use mathlib.Core.Path.{◌≡◌, refl, sym, ap, ◌∙◌}
 use Prim.Native.Nat.{ℕ, zero, suc, ◌+◌, ◌-◌, ◌≤◌, ◌<◌}
 use native.Mathlib.Omega.{arith}
-use mathlib.Core.Bool.{Bool, not, true≢false}
+use mathlib.Core.Bool.{Bool, not}
 use mathlib.Core.List.{List, [], ◌∷◌, ◌++◌}
 use mathlib.Core.Logic.{⊎_elim}
 use lib.ListN.{length, take, drop, length-append, length-drop}
 use lib.Seq.{length-take-le, take-add, drop_at, drop-drop, drop-append-add}
 use lib.Dec.{eqb}
 use borrow.Author.Tests.{ne_eqb}
-use Rattle.std.specs.Prelude.{Option}
+use Rattle.std.specs.Prelude.{Option, Result, Ok}
 use Rattle.lists.specs.Lists.{part}
 use Rattle.lists.proofs.Parts.{length_part}
 use Rattle.refusal.specs.declared.Refusal.{Refusal}
 use Rattle.server.specs.declared.Phase.{Phase}
+use Rattle.server.specs.declared.Connection.{Connection}
+use Rattle.server.specs.KeyExchange.{View}
 use Rattle.records.specs.declared.ContentType.{ContentType}
 use Rattle.record_server.specs.declared.RecordConnection.{RecordConnection}
 use Rattle.record_server.specs.declared.progress.Progress as Code
@@ -22,8 +24,8 @@ use Rattle.record_server.specs.declared.progress.Course.{Course}
 use Rattle.record_server.specs.declared.taking.Put.{Put}
 use Rattle.record_server.specs.declared.taking.Decided.{Decided}
 use Rattle.record_server.specs.Connection.{is_complete}
-use Rattle.record_server.specs.Joining.{Judged, goes_on, is_empty}
-use Rattle.record_server.specs.Taking.{refuse, content_test, handshake_step}
+use Rattle.record_server.specs.Joining.{Judged, goes_on, is_empty, judged}
+use Rattle.record_server.specs.Taking.{refuse, content_test, content_step, content_decided, after_test, handshake_step}
 use Rattle.record_server.specs.InnerProgress.{Ends, progress_of}
 use Rattle.record_server.specs.InnerTaking.{put_at, held_by, Within, Decides, Holds, Progresses}
 
@@ -44,6 +46,16 @@ pub same_test : {memory bytes : List ℕ} {kept : ℕ} {complete : Bool} (kind :
     ≡ content_test kind (is_complete phase) (not (is_empty (take kept memory))) (part 5 n bytes)
 same_test {memory} {kept = kept} kind phase n holds e = rw (e, as_lent n, held-some memory kept holds.kept-inside)
 
+-- behind the tests, by the type
+pub behind-tests : (v : View) (c : RecordConnection) {memory bytes : List ℕ} {kept n : ℕ} {complete : Bool} {kind kind' : ContentType} {told verdict : Result Unit Refusal}
+    → Holds memory kept bytes n → complete ≡ is_complete c.handshake.phase → told ≡ content_test kind complete (not (eqb kept 0)) (part 5 (5 + n - 5) bytes)
+    → told ≡ verdict → kind ≡ kind'
+    → content_decided v c (take kept memory) (part 5 n bytes) kind ≡ after_test verdict (content_step v c (take kept memory) (part 5 n bytes) kind')
+behind-tests v c {memory} {bytes} {kept} {n} {kind = kind} {verdict = verdict} holds whole tested e k =
+    let step = content_step v c (take kept memory) (part 5 n bytes) in
+    ap (λ (t : Result Unit Refusal). after_test t (step kind)) (sym (tested ∙ same_test kind c.handshake.phase n holds whole) ∙ e)
+    ∙ ap (λ (t : ContentType). after_test verdict (step t)) k
+
 -- what is left behind the seam is the record's
 left_behind : (held bytes : List ℕ) (n from : ℕ) → from ≤ n → 5 + n ≤ length bytes
     → drop (length held + from) (held ++ part 5 n bytes) ≡ part (5 + from) (n - from) bytes
@@ -59,12 +71,11 @@ left_behind held bytes n from few inside =
 -- a decision that keeps what is left
 kept-decides : {c : RecordConnection} {p : Code.Progress} {keep : Option Put} {left : ℕ} {d : Decided} {memory held bytes : List ℕ} {wanted : Judged}
     (all : List ℕ) → Progresses c p keep left d → wanted ≡ goes_on (progress_of all p) → length (drop p.at all) ≡ left
-    → held_by keep memory held bytes ≡ drop p.at all → Within keep memory bytes → Decides d memory held bytes (handshake_step c wanted)
+    → held_by keep memory held bytes ≡ drop p.at all → Within keep memory bytes → Decides (Ok d) memory held bytes (handshake_step c wanted)
 kept-decides {c} {p} {memory = memory} {held = held} {bytes = bytes} all goes e size kept within =
     record {
       means = goes.is (progress_of all p) refl refl refl size memory held bytes kept ∙ ap (handshake_step c) (sym e);
-      fits = goes.fits;
-      within = rw goes.keeps within;
+      keeps = (goes.fits, rw goes.keeps within);
     }
 
 module _ {memory : List ℕ} {kept : ℕ} {bytes : List ℕ} {n : ℕ} (h : Holds memory kept bytes n) where
@@ -77,10 +88,13 @@ module _ {memory : List ℕ} {kept : ℕ} {bytes : List ℕ} {n : ℕ} (h : Hold
   length-all : length (take kept memory ++ part 5 n bytes) ≡ kept + n
   length-all = length-append (take kept memory) (part 5 n bytes) ∙ rw (length-held, length-content)
 
-  module _ {p : Code.Progress} {wanted : Judged} (e : Ends kept (take kept memory ++ part 5 n bytes) wanted p) where
-    pub not_going : p.course ≡ Course.Going → ⊥
-    not_going g = true≢false (rw g at e.over)
+  -- what was judged of the bytes as they are lent
+  pub ends-held : (v : View) (c : Connection) {p : Code.Progress} → Ends (length (take kept memory)) (take kept memory ++ part 5 (5 + n - 5) bytes)
+      (judged v c (take kept memory ++ part 5 (5 + n - 5) bytes)) p
+      → Ends kept (take kept memory ++ part 5 n bytes) (judged v c (take kept memory ++ part 5 n bytes)) p
+  ends-held v c ends = rw (length-held, as_lent n) at ends
 
+  module _ {p : Code.Progress} {wanted : Judged} (e : Ends kept (take kept memory ++ part 5 n bytes) wanted p) where
     pub refused-means : (c : RecordConnection) {r : Refusal} → p.course ≡ Course.Refused r → handshake_step c wanted ≡ refuse r
     refused-means c g = rw (e.means, g)
 
@@ -92,11 +106,8 @@ module _ {memory : List ℕ} {kept : ℕ} {bytes : List ℕ} {n : ℕ} (h : Hold
       all_left : drop p.at (take kept memory ++ part 5 n bytes) ≡ take kept memory ++ part 5 n bytes
       all_left = let none : p.at ≡ 0 = ⊎_elim (λ z. z) (λ k. absurd (omega arith)) e.sound.apart in rw none
 
-      pub all-few : kept + n ≤ 16383
-      all-few = rw (w, all_left, length-all) at e.few
-
       pub all-decides : {c : RecordConnection} {d : Decided} → Progresses c p (put_at kept 5 n) (kept + n) d
-          → Decides d memory (take kept memory) bytes (handshake_step c wanted)
+          → Decides (Ok d) memory (take kept memory) bytes (handshake_step c wanted)
       all-decides goes = kept-decides _ goes (means w) (rw all_left length-all) (sym all_left) (h.kept-inside, h.inside)
 
     -- a message was judged: what is left is the record's
@@ -111,7 +122,7 @@ module _ {memory : List ℕ} {kept : ℕ} {bytes : List ℕ} {n : ℕ} (h : Hold
 
       pub rest-decides : {c : RecordConnection} {d : Decided} → p.course ≡ Course.Waits
           → Progresses c p (put_at 0 (5 + (p.at - kept)) (n - (p.at - kept))) (n - (p.at - kept)) d
-          → Decides d memory (take kept memory) bytes (handshake_step c wanted)
+          → Decides (Ok d) memory (take kept memory) bytes (handshake_step c wanted)
       rest-decides w goes =
           let inside : 5 + (p.at - kept) + (n - (p.at - kept)) ≤ length bytes = omega (arith, from-few, h.inside) in
           let size = length_part bytes (5 + (p.at - kept)) (n - (p.at - kept)) inside in

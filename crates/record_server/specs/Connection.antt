@@ -4,10 +4,12 @@ use Rattle.std.specs.Prelude.{ℕ, ◌-◌, Bool, true, false, cond, List, [], �
 use Rattle.lists.specs.Lists.{part}
 use Rattle.refusal.specs.declared.Refusal.{Refusal}
 use Rattle.refusal.specs.declared.Refusal.TheVariants.{ConnectionOver, SequenceSpent}
-use Rattle.refusal.specs.Table.{Effect, unchanged, closed, noneMade, noneInvolved, row, number_of}
+use Rattle.refusal.specs.Table.{number_of}
 use Rattle.refusal.specs.Lent.{bytes_of}
 use Rattle.keys.specs.Secrets.{keys}
+use Rattle.handshake.specs.declared.Answer.{Answer}
 use Rattle.handshake.specs.Alert.{fatal}
+use Rattle.handshake.specs.Step as Shared
 use Rattle.server.specs.declared.Phase.{Phase}
 use Rattle.server.specs.declared.Connection.{Connection}
 use Rattle.server.specs.Connection.{Settings, ended, start_answer}
@@ -17,7 +19,6 @@ use Rattle.records.specs.Protection.{initial_state, last_sequence, sealed}
 use Rattle.record_server.specs.declared.Pending.{Pending}
 use Rattle.record_server.specs.declared.ClosingAlert.{ClosingAlert}
 use Rattle.record_server.specs.declared.RecordConnection.{RecordConnection}
-use Rattle.record_server.specs.declared.Answer.{Answer}
 
 -- ---- the suite
 
@@ -57,7 +58,7 @@ around c alert =
     }
 
 -- what start was given, with the one suite; R3 as for the server's own start
-abbrev pub record_start : Settings → Answer
+abbrev pub record_start : Settings → Answer RecordConnection
 record_start s = record { said = (start_answer s).said; next = around (start_answer s).next no_alert }
 
 -- ---- complete and closed
@@ -102,11 +103,5 @@ alert_of c = take c.alert.length c.alert.bytes
 
 -- ---- what a refusal does to a connection: the table's last column
 
-abbrev pub after_effect : Effect → RecordConnection → ℕ → RecordConnection
-after_effect unchanged c number = c
-after_effect closed c number = closed_with (closing_alert c.writing number)
-after_effect noneMade c number = c
-after_effect noneInvolved c number = c
-
 abbrev pub after_refusal : Refusal → RecordConnection → RecordConnection
-after_refusal r c = after_effect (row r).connection c (number_of r)
+after_refusal r c = Shared.after_refusal (closed_with (closing_alert c.writing (number_of r))) r c

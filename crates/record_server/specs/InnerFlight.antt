@@ -1,11 +1,11 @@
 -- What the contracts of private functions of src/flight.rt and src/sending.rt cite. Nothing that a public contract says stands here.
 use Rattle.std.specs.Prelude.{ℕ, ◌≤◌, ◌≡◌, Bool, true, false, cond, List, [], ◌∷◌, ◌++◌, length, drop, eqb, Result, Ok, Err}
 use Rattle.refusal.specs.declared.Refusal.{Refusal}
+use Rattle.handshake.specs.declared.Answer.{Answer}
 use Rattle.handshake.specs.Flight.{Flight}
 use Rattle.records.specs.declared.State.{State}
 use Rattle.record_server.specs.declared.Pending.{Pending}
 use Rattle.record_server.specs.declared.RecordConnection.{RecordConnection}
-use Rattle.record_server.specs.declared.Answer.{Answer}
 use Rattle.record_server.specs.declared.flight.Put.{Put}
 use Rattle.record_server.specs.declared.flight.Sent.{Sent}
 use Rattle.record_server.specs.Taking.{pending_after}
@@ -15,7 +15,7 @@ use Rattle.record_server.specs.Answering.{flight_records, writing_after}
 -- ---- sending
 
 -- what a call gives back that said this and was to lead to `next`
-abbrev pub settled_by : RecordConnection → RecordConnection → Result ℕ Refusal → Answer
+abbrev pub settled_by : RecordConnection → RecordConnection → Result ℕ Refusal → Answer RecordConnection
 settled_by c next (Ok n) = record { said = Ok n; next = next }
 settled_by c next (Err r) = record { said = Err r; next = c }
 

@@ -14,7 +14,7 @@ use Rattle.record_server.specs.declared.taking.Put.{Put}
 use Rattle.record_server.specs.declared.taking.Decided.{Decided}
 use Rattle.record_server.specs.Joining.{Progress, goes_on}
 use Rattle.record_server.specs.Taking as Taking
-use Rattle.record_server.specs.Taking.{handshake_step, settled, Takes}
+use Rattle.record_server.specs.Taking.{handshake_step}
 
 -- ---- a record's decision
 
@@ -27,8 +27,8 @@ abbrev pub held_by : Option Put → (memory held bytes : List ℕ) → List ℕ
 held_by None memory held bytes = held
 held_by (Some k) memory held bytes = take k.at memory ++ part k.from k.len bytes
 
-abbrev pub decided_by : Result Unit Refusal → Decided → (memory held bytes : List ℕ) → Taking.Step
-decided_by (Ok tt) d memory held bytes =
+abbrev pub decided : Result Decided Refusal → (memory held bytes : List ℕ) → Taking.Step
+decided (Ok d) memory held bytes =
     Taking.accept (record {
       answer = take d.len d.records;
       next = d.next;
@@ -36,17 +36,21 @@ decided_by (Ok tt) d memory held bytes =
       master = d.handed;
       holds = d.holds;
     })
-decided_by (Err r) d memory held bytes = Taking.refuse r
+decided (Err r) memory held bytes = Taking.refuse r
 
 -- a place in lent memory, and bytes of the record that are to go there
 abbrev pub Within : Option Put → (memory bytes : List ℕ) → Type 0
 Within None memory bytes = Unit
 Within (Some k) memory bytes = (k.at ≤ length memory) × (k.from + k.len ≤ length bytes)
 
-pub record Decides (d : Decided) (memory held bytes : List ℕ) (step : Taking.Step) : Type 0 where
-  pub means : decided_by d.verdict d memory held bytes ≡ step
-  pub fits : d.len ≤ 336
-  pub within : Within d.keep memory bytes
+-- its records stand in their array, and what is to be held in the memory
+abbrev pub Keeps : Result Decided Refusal → (memory bytes : List ℕ) → Type 0
+Keeps (Ok d) memory bytes = (d.len ≤ 336) × Within d.keep memory bytes
+Keeps (Err r) memory bytes = Unit
+
+pub record Decides (given : Result Decided Refusal) (memory held bytes : List ℕ) (step : Taking.Step) : Type 0 where
+  pub means : decided given memory held bytes ≡ step
+  pub keeps : Keeps given memory bytes
 
 -- ---- what a record holds
 
@@ -62,7 +66,7 @@ pub record Holds (memory : List ℕ) (kept : ℕ) (bytes : List ℕ) (n : ℕ) :
 pub record Progresses (c : RecordConnection) (p : Code.Progress) (keep : Option Put) (left : ℕ) (d : Decided) : Type 0 where
   pub is : (q : Progress) → q.connection ≡ p.connection → q.flight ≡ flight_of p.outgoing → q.master ≡ p.handed
       → length q.left ≡ left → (memory held bytes : List ℕ) → held_by keep memory held bytes ≡ q.left
-      → decided_by d.verdict d memory held bytes ≡ handshake_step c (goes_on q)
+      → decided (Ok d) memory held bytes ≡ handshake_step c (goes_on q)
   pub keeps : d.keep ≡ keep
   pub fits : d.len ≤ 336
 
@@ -83,6 +87,3 @@ answered_by d said =
       handed = d.handed;
       next = d.next;
     }
-
-pub record Does (c : RecordConnection) (d : Decided) (held bytes out memory : List ℕ) (t : Taken) (out' memory' : List ℕ) : Type 0 where
-  pub takes : Takes (settled c out memory (decided_by d.verdict d memory held bytes)) t out' memory'

@@ -1,13 +1,13 @@
 -- What a record connection sends by itself (document 02, P5): application data after completion, and close_notify.
-use Rattle.std.specs.Prelude.{ℕ, cond, List, [], ◌∷◌, length, Result, Ok, Err}
+use Rattle.std.specs.Prelude.{cond, List, [], ◌∷◌, ℕ, length, Result, Ok, Err}
 use Rattle.refusal.specs.declared.Refusal.{Refusal}
 use Rattle.refusal.specs.declared.Refusal.TheVariants.{BadValue}
 use Rattle.refusal.specs.Lent.{Outcome, gives, refuses, within, answer, after}
 use Rattle.handshake.specs.Alert.{warning, close_notify}
+use Rattle.handshake.specs.Step.{Settled}
 use Rattle.records.specs.declared.ContentType.{ContentType}
 use Rattle.records.specs.Protection.{counted, sealing}
 use Rattle.record_server.specs.declared.RecordConnection.{RecordConnection}
-use Rattle.record_server.specs.declared.Answer.{Answer}
 use Rattle.record_server.specs.Connection.{no_alert, is_complete, over_test, closed_with, after_refusal}
 
 -- R4, then R9
@@ -44,12 +44,7 @@ abbrev pub next_after : RecordConnection → RecordConnection → Outcome → Re
 next_after c next (gives bytes) = next
 next_after c next (refuses r) = after_refusal r c
 
-pub record Settled : Type 0 where
-  pub said : Result ℕ Refusal
-  pub next : RecordConnection
-  pub out : List ℕ
-
-abbrev pub settled : RecordConnection → RecordConnection → List ℕ → Outcome → Settled
+abbrev pub settled : RecordConnection → RecordConnection → List ℕ → Outcome → Settled RecordConnection
 settled c next out wanted =
     record {
       said = answer (within (length out) wanted);
@@ -57,11 +52,8 @@ settled c next out wanted =
       out = after (within (length out) wanted) out;
     }
 
-abbrev pub send_call : RecordConnection → (content out : List ℕ) → Settled
+abbrev pub send_call : RecordConnection → (content out : List ℕ) → Settled RecordConnection
 send_call c content out = settled c (after_sending c) out (data_record c content)
 
-abbrev pub close_call : RecordConnection → (out : List ℕ) → Settled
+abbrev pub close_call : RecordConnection → (out : List ℕ) → Settled RecordConnection
 close_call c out = settled c (closed_with no_alert) out (close_record c)
-
-abbrev pub answered : Settled → Answer
-answered s = record { said = s.said; next = s.next }

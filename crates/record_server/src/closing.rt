@@ -3,7 +3,8 @@ ghost use Rattle.std.specs.Prelude.{◌≡◌};
 ghost use Rattle.refusal.specs.Lent.{Answers, gives};
 ghost use Rattle.record_server.specs.Connection as Conn;
 ghost use Rattle.record_server.specs.Connection.{alert_of, after_refusal};
-ghost use Rattle.record_server.specs.Sending.{close_call, answered};
+ghost use Rattle.handshake.specs.Step.{answered};
+ghost use Rattle.record_server.specs.Sending.{close_call};
 
 use crate::{Answer, ClosingAlert, RecordConnection, sending, starting};
 use records::{ContentType, State, protection};
@@ -14,28 +15,14 @@ use server::Phase;
 pub(crate) fn is_closed(phase: Phase) -> bool
     ensures { result ≡ Conn.is_closed phase }
 {
-    match phase {
-        Phase::Hello => false,
-        Phase::KeyExchange => false,
-        Phase::Change => false,
-        Phase::Finished => false,
-        Phase::Complete => false,
-        Phase::Closed => true,
-    }
+    matches!(phase, Phase::Closed)
 }
 
 // Whether it is complete.
 pub(crate) fn is_complete(phase: Phase) -> bool
     ensures { result ≡ Conn.is_complete phase }
 {
-    match phase {
-        Phase::Hello => false,
-        Phase::KeyExchange => false,
-        Phase::Change => false,
-        Phase::Finished => false,
-        Phase::Complete => true,
-        Phase::Closed => false,
-    }
+    matches!(phase, Phase::Complete)
 }
 
 // R4 on a closed connection, R9 under the last sequence number.
@@ -72,9 +59,9 @@ fn closing_alert(writing: State, number: u8) -> ClosingAlert
 pub(crate) fn after_refusal(c: RecordConnection, r: Refusal) -> RecordConnection
     ensures { result ≡ after_refusal r c }
 {
-    if refusal::for_peer(r) {
+    if r.for_peer() {
         let writing = c.writing;
-        return starting::closed_with(closing_alert(writing, refusal::number(r)));
+        return starting::closed_with(closing_alert(writing, u8::from(r)));
     }
     c
 }
@@ -94,7 +81,7 @@ pub fn alert(c: RecordConnection, out: &mut [u8]) -> Result<usize, Refusal>
 }
 
 // A close_notify, and the connection closed: R4, R9, R1.
-pub fn close(c: RecordConnection, out: &mut [u8]) -> Answer
+pub fn close(c: RecordConnection, out: &mut [u8]) -> Answer<RecordConnection>
     ensures { (result ≡ answered (close_call c out.old)) × (out.new ≡ (close_call c out.old).out) }
 {
     let handshake = c.handshake;

@@ -65,10 +65,7 @@ fn some_message(lengths: &[usize]) -> bool
 fn plain_of(plain: usize) -> usize
     ensures { (result ≤ 3) × ((ns : List ℕ) → length ns ≡ 3 → (take result ns ≡ take plain ns) × (drop result ns ≡ drop plain ns)) }
 {
-    if 3 < plain {
-        return 3;
-    }
-    plain
+    plain.min(3)
 }
 
 // A flight that was put at the front of an output: how many bytes it is, whether the server's change of cipher is in it,

@@ -14,6 +14,7 @@ mod starting;
 mod taking;
 
 pub use closing::{alert, close};
+pub use handshake::Answer;
 use handshake::Derived;
 use records::State;
 use refusal::Refusal;
@@ -48,13 +49,6 @@ pub struct RecordConnection {
     // How many bytes of an unfinished message stand at the front of the memory that is lent beside the connection.
     pub held: u16,
     pub alert: ClosingAlert,
-}
-
-// What a call gives back that hands over nothing but bytes.
-#[derive(Drop)]
-pub struct Answer {
-    pub said: Result<usize, Refusal>,
-    pub next: RecordConnection,
 }
 
 // What a record is answered with: how many bytes were written or a refusal, how many bytes of application data it holds

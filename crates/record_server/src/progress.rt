@@ -1,10 +1,10 @@
 // Handshake bytes: what is held of a message in lent memory, and the content of a record behind it. Each message that
 // they finish goes through the server's step; one that came whole is read where it stands.
-ghost use Rattle.std.specs.Prelude.{◌≡◌, ◌⊎◌, true, false, ◌++◌, ◌+◌, ◌-◌, ◌≤◌, ◌<◌, length, get_or, take, drop, None};
+ghost use Rattle.std.specs.Prelude.{◌≡◌, ◌⊎◌, true, ◌++◌, ◌+◌, ◌-◌, ◌≤◌, ◌<◌, length, get_or, take, drop, None};
 ghost use Rattle.lists.specs.Lists.{part};
 ghost use Rattle.handshake.specs.Flight.{silence};
 ghost use Rattle.handshake.specs.Outgoing.{flight_of, total};
-ghost use Rattle.server.specs.KeyExchange.{view_of};
+ghost use Rattle.server.specs.KeyExchange.{view};
 ghost use Rattle.server.specs.Message.{message_step, blocks_in};
 ghost use Rattle.handshake.specs.Decision as Server;
 ghost use Rattle.records.specs.Joining.{unfinished};
@@ -14,6 +14,7 @@ ghost use Rattle.record_server.specs.InnerProgress.{Sound, Goes, Ends, progress_
 
 use crate::closing;
 use handshake::{Decision, Derived, Outgoing};
+use keytable::Table;
 use records::joining;
 use refusal::Refusal;
 use server::{Connection, Phase};
@@ -64,9 +65,7 @@ fn header_at(held: &[u8], content: &[u8], at: usize) -> [u8; 4]
 // The step of the message from `at` to `end`; one that is spread over records is joined in one array.
 fn decide_at(
     c: Connection,
-    table: &[u8],
-    starts: &[u32],
-    count: usize,
+    table: Table,
     held: &[u8],
     content: &[u8],
     at: usize,
@@ -74,17 +73,17 @@ fn decide_at(
 ) -> Result<Decision<Connection>, Refusal>
     requires at_le_end { (at ≤ end) × (end ≤ length held.now + length content.now) × (end ≤ at + 16384) }
     requires fact { ((at ≡ 0) × (length held.now ≤ end)) ⊎ (length held.now ≤ at) }
-    ensures { Server.Decides result (message_step (view_of table.now starts.now count) c (take (end - at) (drop at (held.now ++ content.now))) c.phase)
-        (blocks_in (view_of table.now starts.now count) c (take (end - at) (drop at (held.now ++ content.now))) c.phase) }
+    ensures { Server.Decides result (message_step (view table.entry) c (take (end - at) (drop at (held.now ++ content.now))) c.phase)
+        (blocks_in (view table.entry) c (take (end - at) (drop at (held.now ++ content.now))) c.phase) }
 {
     let kept = held.len();
     if kept <= at {
-        return server::decide(c, table, starts, count, &content[at - kept..end - kept]);
+        return server::decide(c, table, &content[at - kept..end - kept]);
     }
     let mut message = [0u8; 16384];
     lists::copy(held, &mut message);
     lists::copy(&content[..end - kept], &mut message[kept..]);
-    server::decide(c, table, starts, count, &message[..end])
+    server::decide(c, table, &message[..end])
 }
 
 // The same progress, on another course.
@@ -136,45 +135,30 @@ fn advance(phase: Phase, p: Progress, d: Decision<Connection>, at: usize) -> Pro
 }
 
 // What the message of `size` bytes at the place that was come to leads to, where all of it is there.
-fn judge_whole(
-    p: Progress,
-    table: &[u8],
-    starts: &[u32],
-    count: usize,
-    held: &[u8],
-    content: &[u8],
-    size: usize,
-) -> Progress
+fn judge_whole(p: Progress, table: Table, held: &[u8], content: &[u8], size: usize) -> Progress
     requires sound { Sound (length held.now) (held.now ++ content.now) p }
     requires le_size { (4 ≤ size) × (size ≤ 16384) × ((p.at ≡ 0) → length held.now ≤ size) }
-    ensures { Goes (view_of table.now starts.now count) (length held.now) (held.now ++ content.now)
-        (where_whole (view_of table.now starts.now count) (judge_left (view_of table.now starts.now count)) (progress_of (held.now ++ content.now) p) size) p.at result }
+    ensures { Goes (view table.entry) (length held.now) (held.now ++ content.now)
+        (where_whole (view table.entry) (judge_left (view table.entry)) (progress_of (held.now ++ content.now) p) size) p.at result }
 {
     let at = p.at;
     if held.len() + content.len() - at < size {
         return on_course(p, Course::Waits);
     }
     let c = p.connection;
-    match decide_at(c, table, starts, count, held, content, at, at + size) {
+    match decide_at(c, table, held, content, at, at + size) {
         Ok(d) => advance(c.phase, p, d, at + size),
         Err(r) => on_course(p, Course::Refused(r)),
     }
 }
 
 // What the bytes from the place that was come to lead to, as far as one message.
-fn judge_first(
-    p: Progress,
-    table: &[u8],
-    starts: &[u32],
-    count: usize,
-    held: &[u8],
-    content: &[u8],
-) -> Progress
+fn judge_first(p: Progress, table: Table, held: &[u8], content: &[u8]) -> Progress
     requires sound { Sound (length held.now) (held.now ++ content.now) p }
     requires held_value { unfinished held.now ≡ true }
     requires content_len_bound { length held.now + length content.now ≤ 81919 }
-    ensures { Goes (view_of table.now starts.now count) (length held.now) (held.now ++ content.now)
-        (judge_left (view_of table.now starts.now count) (progress_of (held.now ++ content.now) p)) p.at result }
+    ensures { Goes (view table.entry) (length held.now) (held.now ++ content.now)
+        (judge_left (view table.entry) (progress_of (held.now ++ content.now) p)) p.at result }
 {
     let at = p.at;
     let c = p.connection;
@@ -190,17 +174,7 @@ fn judge_first(
     }
     let header = header_at(held, content, at);
     match server::judge_header(phase, header) {
-        Ok(()) => {
-            judge_whole(
-                p,
-                table,
-                starts,
-                count,
-                held,
-                content,
-                joining::message_end(header),
-            )
-        }
+        Ok(()) => { judge_whole(p, table, held, content, joining::message_end(header)) }
         Err(r) => on_course(p, Course::Refused(r)),
     }
 }
@@ -223,30 +197,19 @@ fn begin(c: Connection) -> Progress
 fn is_going(course: Course) -> bool
     ensures { result ≡ is_going course }
 {
-    match course {
-        Course::Going => true,
-        Course::Waits => false,
-        Course::Refused(_) => false,
-    }
+    matches!(course, Course::Going)
 }
 
 // What the held bytes and the content behind them come to.
-pub(crate) fn judge(
-    c: Connection,
-    table: &[u8],
-    starts: &[u32],
-    count: usize,
-    held: &[u8],
-    content: &[u8],
-) -> Progress
+pub(crate) fn judge(c: Connection, table: Table, held: &[u8], content: &[u8]) -> Progress
     requires held_value { unfinished held.now ≡ true }
     requires content_len_bound { length held.now + length content.now ≤ 81919 }
     ensures { Ends (length held.now) (held.now ++ content.now)
-        (judged (view_of table.now starts.now count) c (held.now ++ content.now)) result }
+        (judged (view table.entry) c (held.now ++ content.now)) result }
 {
     let mut p = begin(c);
     while is_going(p.course) {
-        p = judge_first(p, table, starts, count, held, content);
+        p = judge_first(p, table, held, content);
     }
     p
 }

@@ -1,6 +1,7 @@
 // Application data to the client.
 ghost use Rattle.std.specs.Prelude.{◌≡◌};
-ghost use Rattle.record_server.specs.Sending.{send_call, after_sending, answered};
+ghost use Rattle.handshake.specs.Step.{answered};
+ghost use Rattle.record_server.specs.Sending.{send_call, after_sending};
 ghost use Rattle.record_server.specs.InnerFlight.{settled_by};
 
 use crate::{Answer, RecordConnection, closing};
@@ -32,7 +33,7 @@ pub(crate) fn settle(
     c: RecordConnection,
     next: RecordConnection,
     said: Result<usize, Refusal>,
-) -> Answer
+) -> Answer<RecordConnection>
     ensures { result ≡ settled_by c next said }
 {
     match said {
@@ -42,7 +43,7 @@ pub(crate) fn settle(
 }
 
 // Application data in a record: R4, R9, R5 over 16,384 bytes or before completion, R1.
-pub fn send(c: RecordConnection, content: &[u8], out: &mut [u8]) -> Answer
+pub fn send(c: RecordConnection, content: &[u8], out: &mut [u8]) -> Answer<RecordConnection>
     ensures { (result ≡ answered (send_call c content.now out.old)) × (out.new ≡ (send_call c content.now out.old).out) }
 {
     let handshake = c.handshake;

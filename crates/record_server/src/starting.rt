@@ -46,7 +46,12 @@ pub(crate) fn closed_with(alert: ClosingAlert) -> RecordConnection
 }
 
 // A record connection that awaits a ClientHello, or R3.
-pub fn start(random: &[u8], hint: &[u8], stand_in: &[u8], named: Option<Rule>) -> Answer
+pub fn start(
+    random: &[u8],
+    hint: &[u8],
+    stand_in: &[u8],
+    named: Option<Rule>,
+) -> Answer<RecordConnection>
     ensures { result ≡ record_start (record { random = random.now; hint = hint.now; stand_in = stand_in.now; named = named; suites = offered }) }
 {
     let begun = server::start_with(random, hint, stand_in, named, SUITES);

@@ -1,16 +1,16 @@
 // Taking a record: its tests in their order, what is in it, and the one place where lent memory is written.
-ghost use Rattle.std.specs.Prelude.{◌≡◌, true, List, ◌++◌, ℕ, ◌≤◌, length, get_or, take, drop};
+ghost use Rattle.std.specs.Prelude.{◌≡◌, true, List, ◌++◌, ℕ, ◌≤◌, length, get_or, take, drop, Ok};
 ghost use Rattle.lists.specs.Lists.{part};
 ghost use Rattle.handshake.specs.Alert.{heard};
 ghost use Rattle.handshake.specs.Flight.{counted};
 ghost use Rattle.handshake.specs.Outgoing.{total};
-ghost use Rattle.server.specs.KeyExchange.{view_of};
+ghost use Rattle.server.specs.KeyExchange.{view};
 ghost use Rattle.records.specs.Joining.{unfinished, held_in};
 ghost use Rattle.record_server.specs.Connection.{keys_of};
 ghost use Rattle.record_server.specs.Taking as Taking;
-ghost use Rattle.record_server.specs.Taking.{Takes, data_in, taken, take_call, take_step, content_step, content_test, content_decided, opened_step, one_more, changed};
+ghost use Rattle.record_server.specs.Taking.{Takes, data_in, taken, settled, take_call, take_step, content_step, content_test, content_decided, opened_step, one_more, changed};
 ghost use Rattle.record_server.specs.InnerFlight.{pending_if};
-ghost use Rattle.record_server.specs.InnerTaking.{Decides, Does, Holds, Progresses, Within, held_by, refused_first, room_for, answered_by};
+ghost use Rattle.record_server.specs.InnerTaking.{Decides, Holds, Keeps, Progresses, Within, decided, held_by, refused_first, room_for, answered_by};
 ghost use Rattle.server.specs.Change.{change_step};
 ghost use Rattle.records.specs.Protection.{opened};
 ghost use Rattle.records.specs.declared.ContentType.{ContentType};
@@ -18,6 +18,7 @@ ghost use Rattle.records.specs.declared.ContentType.{ContentType};
 use crate::progress::{Course, Progress};
 use crate::{Pending, RecordConnection, Taken, closing, flight, progress, starting};
 use handshake::{Derived, Heard};
+use keytable::Table;
 use layout::Part;
 use records::{ContentType, joining, protection};
 use refusal::Refusal;
@@ -31,10 +32,9 @@ pub struct Put {
     pub len: usize,
 }
 
-// What a record comes to, whatever the room: a refusal, or the records for the client and the connection as it is then.
+// What a record comes to that is not refused, whatever the room: the records for the client, and the connection as it is then.
 #[derive(Drop)]
 pub struct Decided {
-    pub verdict: Result<(), Refusal>,
     pub records: [u8; 336],
     pub len: usize,
     pub next: RecordConnection,
@@ -45,27 +45,11 @@ pub struct Decided {
 
 // ---- decisions
 
-// A refusal; `settle` says what becomes of the connection.
-fn refused(c: RecordConnection, r: Refusal) -> Decided
-    ensures { (memory held bytes : List ℕ) → Decides result memory held bytes (Taking.refuse r) }
-{
-    Decided {
-        verdict: Err(r),
-        records: [0u8; 336],
-        len: 0,
-        next: c,
-        keep: None,
-        handed: None,
-        holds: None,
-    }
-}
-
 // Nothing for the client, and nothing for the lent memory.
 fn silent(next: RecordConnection, holds: Option<usize>) -> Decided
-    ensures { (memory held bytes : List ℕ) → Decides result memory held bytes (Taking.silently next held holds) }
+    ensures { (memory held bytes : List ℕ) → Decides (Ok result) memory held bytes (Taking.silently next held holds) }
 {
     Decided {
-        verdict: Ok(()),
         records: [0u8; 336],
         len: 0,
         next,
@@ -98,14 +82,14 @@ fn one_more(c: RecordConnection) -> RecordConnection
 }
 
 // A received alert of two bytes.
-fn hear(c: RecordConnection, content: &[u8]) -> Decided
+fn hear(c: RecordConnection, content: &[u8]) -> Result<Decided, Refusal>
     requires { length content.now ≡ 2 }
     ensures { (memory held bytes : List ℕ) → Decides result memory held bytes (Taking.alert_step c held (heard (get_or content.now 0 0) (get_or content.now 1 0))) }
 {
     match handshake::hear(content[0], content[1]) {
-        Heard::Illegal => refused(c, Refusal::IllegalParameter),
-        Heard::Ends => silent(starting::closed_with(starting::no_alert()), None),
-        Heard::Ignored => silent(one_more(c), None),
+        Heard::Illegal => Err(Refusal::IllegalParameter),
+        Heard::Ends => Ok(silent(starting::closed_with(starting::no_alert()), None)),
+        Heard::Ignored => Ok(silent(one_more(c), None)),
     }
 }
 
@@ -133,17 +117,14 @@ fn after_change(c: RecordConnection, next: Connection) -> RecordConnection
 }
 
 // A change of cipher.
-fn change(c: RecordConnection) -> Decided
+fn change(c: RecordConnection) -> Result<Decided, Refusal>
     ensures { (memory held bytes : List ℕ) → Decides result memory held bytes (Taking.changed_by c held (change_step c.handshake c.handshake.phase)) }
 {
     let handshake = c.handshake;
     let answer = server::change_of_cipher(handshake);
-    let said = answer.said;
     let next = answer.next;
-    match said {
-        Ok(_) => silent(after_change(c, next), None),
-        Err(r) => refused(c, r),
-    }
+    answer.said?;
+    Ok(silent(after_change(c, next), None))
 }
 
 // The MAC keys of both directions, from the key block.
@@ -215,7 +196,6 @@ fn progressed(c: RecordConnection, p: Progress, keep: Option<Put>, left: usize) 
         alert,
     };
     Decided {
-        verdict: Ok(()),
         records,
         len: sent.len,
         next,
@@ -228,57 +208,39 @@ fn progressed(c: RecordConnection, p: Progress, keep: Option<Put>, left: usize) 
 // Handshake bytes: n of the record, behind those that the memory holds.
 fn shake(
     c: RecordConnection,
-    table: &[u8],
-    starts: &[u32],
-    count: usize,
+    table: Table,
     memory: &[u8],
     kept: usize,
     received: &[u8],
     n: usize,
-) -> Decided
+) -> Result<Decided, Refusal>
     requires { Holds memory.now kept received.now n }
     ensures { Decides result memory.now (take kept memory.now) received.now
-        (content_step (view_of table.now starts.now count) c (take kept memory.now) (part 5 n received.now) ContentType.Handshake) }
+        (content_step (view table.entry) c (take kept memory.now) (part 5 n received.now) ContentType.Handshake) }
 {
     let handshake = c.handshake;
-    let p = progress::judge(
-        handshake,
-        table,
-        starts,
-        count,
-        &memory[..kept],
-        &received[5..5 + n],
-    );
-    let course = p.course;
+    let p = progress::judge(handshake, table, &memory[..kept], &received[5..5 + n]);
     let at = p.at;
-    match course {
-        Course::Going => refused(c, Refusal::UnexpectedMessage),
+    match p.course {
+        Course::Going => Err(Refusal::UnexpectedMessage),
         Course::Waits => {
             if at < kept {
-                return progressed(
-                    c,
-                    p,
-                    Some(Put {
-                        at: kept,
-                        from: 5,
-                        len: n,
-                    }),
-                    kept + n,
-                );
+                let keep = Put {
+                    at: kept,
+                    from: 5,
+                    len: n,
+                };
+                return Ok(progressed(c, p, Some(keep), kept + n));
             }
             let from = at - kept;
-            progressed(
-                c,
-                p,
-                Some(Put {
-                    at: 0,
-                    from: 5 + from,
-                    len: n - from,
-                }),
-                n - from,
-            )
+            let keep = Put {
+                at: 0,
+                from: 5 + from,
+                len: n - from,
+            };
+            Ok(progressed(c, p, Some(keep), n - from))
         }
-        Course::Refused(r) => refused(c, r),
+        Course::Refused(r) => Err(r),
     }
 }
 
@@ -286,10 +248,7 @@ fn shake(
 fn test_change(complete: bool, amid: bool, content: &[u8]) -> Result<(), Refusal>
     ensures { result ≡ content_test ContentType.ChangeCipherSpec complete amid content.now }
 {
-    if complete {
-        return Err(Refusal::UnexpectedMessage);
-    }
-    if amid {
+    if complete || amid {
         return Err(Refusal::UnexpectedMessage);
     }
     if lists::same(content, &[1]) {
@@ -336,30 +295,26 @@ fn test_content(
 // What a record with n bytes of content comes to that met the tests on the record and its MAC.
 fn decide_content(
     c: RecordConnection,
-    table: &[u8],
-    starts: &[u32],
-    count: usize,
+    table: Table,
     memory: &[u8],
     kept: usize,
     received: &[u8],
     kind: ContentType,
     n: usize,
-) -> Decided
+) -> Result<Decided, Refusal>
     requires { Holds memory.now kept received.now n }
     ensures { Decides result memory.now (take kept memory.now) received.now
-        (content_decided (view_of table.now starts.now count) c (take kept memory.now) (part 5 n received.now) kind) }
+        (content_decided (view table.entry) c (take kept memory.now) (part 5 n received.now) kind) }
 {
     let handshake = c.handshake;
     let phase = handshake.phase;
     let complete = closing::is_complete(phase);
-    match test_content(kind, complete, kept != 0, &received[5..5 + n]) {
-        Ok(()) => match kind {
-            ContentType::ApplicationData => silent(one_more(c), Some(n)),
-            ContentType::Alert => hear(c, &received[5..5 + n]),
-            ContentType::ChangeCipherSpec => change(c),
-            ContentType::Handshake => shake(c, table, starts, count, memory, kept, received, n),
-        },
-        Err(r) => refused(c, r),
+    test_content(kind, complete, kept != 0, &received[5..5 + n])?;
+    match kind {
+        ContentType::ApplicationData => Ok(silent(one_more(c), Some(n))),
+        ContentType::Alert => hear(c, &received[5..5 + n]),
+        ContentType::ChangeCipherSpec => change(c),
+        ContentType::Handshake => shake(c, table, memory, kept, received, n),
     }
 }
 
@@ -368,20 +323,15 @@ fn is_first(c: RecordConnection) -> bool
     ensures { result ≡ Taking.is_first c }
 {
     let reading = c.reading;
-    if reading.protected {
-        return reading.sequence == 0;
-    }
-    false
+    reading.protected && reading.sequence == 0
 }
 
 // What a record that is refused is refused with: a bad MAC is 51 in the first one.
 fn refused_as(first: bool, r: Refusal) -> Refusal
     ensures { result ≡ refused_first first r }
 {
-    if first {
-        if refusal::number(r) == 20 {
-            return Refusal::DecryptError;
-        }
+    if first && u8::from(r) == 20 {
+        return Refusal::DecryptError;
     }
     r
 }
@@ -389,65 +339,45 @@ fn refused_as(first: bool, r: Refusal) -> Refusal
 // What a record comes to on a connection that is not closed, under a number that is not the last.
 fn decide_opened(
     c: RecordConnection,
-    table: &[u8],
-    starts: &[u32],
-    count: usize,
+    table: Table,
     memory: &[u8],
     kept: usize,
     received: &[u8],
-) -> Decided
+) -> Result<Decided, Refusal>
     requires { (kept ≤ length memory.now) × (kept ≤ 65535) × (unfinished (take kept memory.now) ≡ true) }
     ensures { Decides result memory.now (take kept memory.now) received.now
-        (opened_step (view_of table.now starts.now count) c (take kept memory.now) received.now (opened c.reading received.now)) }
+        (opened_step (view table.entry) c (take kept memory.now) received.now (opened c.reading received.now)) }
 {
     let reading = c.reading;
     let handshake = c.handshake;
     let client = handshake.client;
     match protection::open(reading, received) {
         Ok(content) => {
-            if is_first(c) {
-                if !client.listed {
-                    return refused(c, Refusal::DecryptError);
-                }
+            if is_first(c) && !client.listed {
+                return Err(Refusal::DecryptError);
             }
-            decide_content(
-                c,
-                table,
-                starts,
-                count,
-                memory,
-                kept,
-                received,
-                content.kind,
-                content.len,
-            )
+            decide_content(c, table, memory, kept, received, content.kind, content.len)
         }
-        Err(r) => refused(c, refused_as(is_first(c), r)),
+        Err(r) => Err(refused_as(is_first(c), r)),
     }
 }
 
 // What a record comes to, whatever the room.
 fn decide(
     c: RecordConnection,
-    table: &[u8],
-    starts: &[u32],
-    count: usize,
+    table: Table,
     memory: &[u8],
     received: &[u8],
-) -> Decided
+) -> Result<Decided, Refusal>
     ensures { Decides result memory.now (held_in memory.now c.held) received.now
-        (take_step (view_of table.now starts.now count) c memory.now received.now) }
+        (take_step (view table.entry) c memory.now received.now) }
 {
     let handshake = c.handshake;
     let reading = c.reading;
     let phase = handshake.phase;
-    match closing::test_over(phase, reading.sequence) {
-        Ok(()) => {
-            let kept = joining::held(memory, c.held as usize);
-            decide_opened(c, table, starts, count, memory, kept, received)
-        }
-        Err(r) => refused(c, r),
-    }
+    closing::test_over(phase, reading.sequence)?;
+    let kept = joining::held(memory, c.held as usize);
+    decide_opened(c, table, memory, kept, received)
 }
 
 // ---- what the call gives back
@@ -507,25 +437,23 @@ fn answered(d: Decided, said: Result<usize, Refusal>) -> Taken
 // The answer that a decision comes to: R1 where the output or the memory is too short.
 fn settle(
     c: RecordConnection,
-    d: Decided,
+    d: Result<Decided, Refusal>,
     received: &[u8],
     memory: &mut [u8],
     out: &mut [u8],
 ) -> Taken
-    requires { (d.len ≤ 336) × Within d.keep memory.old received.now }
+    requires { Keeps d memory.old received.now }
     ensures { (held : List ℕ) → held ++ drop (length held) memory.old ≡ memory.old
-        → Does c d held received.now out.old memory.old result out.new memory.new }
+        → Takes (settled c out.old memory.old (decided d memory.old held received.now)) result out.new memory.new }
 {
-    let verdict = d.verdict;
-    let keep = d.keep;
-    let records = d.records;
-    let n = d.len;
-    match verdict {
-        Ok(()) => {
+    match d {
+        Ok(d) => {
+            let keep = d.keep;
             if !has_room(keep, memory.len()) {
                 return refuse(c, Refusal::ShortOutput);
             }
-            let said = refusal::put(&records[..n], out);
+            let records = d.records;
+            let said = refusal::put(&records[..d.len], out);
             match said {
                 Ok(_) => {
                     put_held(keep, received, memory);
@@ -542,18 +470,16 @@ fn settle(
 // of it at least. R4, R9, the record's tests, those on what it holds, R1. No answer is longer than 336 bytes.
 pub fn take(
     c: RecordConnection,
-    table: &[u8],
-    starts: &[u32],
-    count: usize,
+    table: Table,
     received: &[u8],
     memory: &mut [u8],
     out: &mut [u8],
 ) -> Taken
-    ensures takes { Takes (take_call (view_of table.now starts.now count) c received.now memory.old out.old)
+    ensures takes { Takes (take_call (view table.entry) c received.now memory.old out.old)
         result out.new memory.new }
     ensures said_bound { counted result.said ≤ 336 }
 {
-    let d = decide(c, table, starts, count, memory, received);
+    let d = decide(c, table, memory, received);
     settle(c, d, received, memory, out)
 }
 

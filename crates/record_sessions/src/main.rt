@@ -13,6 +13,7 @@
 
 ghost use Rattle.std.specs.Prelude.{◌≤◌};
 
+use keytable::Table;
 use record_server::{Answer, RecordConnection, Taken};
 use refusal::Refusal;
 use server::Rule;
@@ -48,7 +49,7 @@ fn print_said(output: &mut impl Write, said: Result<usize, Refusal>) -> io::Resu
             lines::number(output, n)?;
         }
         Err(r) => {
-            if refusal::for_peer(r) {
+            if r.for_peer() {
                 lines::text(output, b"alert ")?;
             }
             lines::refused(output, r)?;
@@ -114,14 +115,12 @@ fn print_taken(output: &mut impl Write, taken: Taken, received: &[u8]) -> io::Re
 fn take_one(
     output: &mut impl Write,
     c: RecordConnection,
-    table: &[u8],
-    starts: &[u32],
-    count: usize,
+    table: Table,
     received: &[u8],
     memory: &mut [u8],
     out: &mut [u8],
 ) -> io::Result<RecordConnection> {
-    let taken = record_server::take(c, table, starts, count, received, memory, out);
+    let taken = record_server::take(c, table, received, memory, out);
     lines::text(output, b"record ")?;
     print_said(output, taken.said)?;
     print_bytes(output, out)?;
@@ -130,14 +129,11 @@ fn take_one(
     Ok(taken.next)
 }
 
-// The table is the front of its buffer.
 fn take(
     input: &mut impl Read,
     output: &mut impl Write,
     c: RecordConnection,
-    table: &[u8],
-    starts: &[u32],
-    sizes: Sizes,
+    table: Table,
     memory: &mut [u8],
 ) -> io::Result<RecordConnection> {
     let mut bytes = [0u8; 16500];
@@ -148,9 +144,7 @@ fn take(
     take_one(
         output,
         c,
-        lines::part(table, 0, sizes.table),
-        starts,
-        sizes.count,
+        table,
         lines::part(&bytes, 0, size),
         memory,
         &mut lent[255 - room..],
@@ -158,7 +152,11 @@ fn take(
 }
 
 // The end of a line that has what was said and the whole output.
-fn answered(output: &mut impl Write, answer: Answer, out: &[u8]) -> io::Result<RecordConnection> {
+fn answered(
+    output: &mut impl Write,
+    answer: Answer<RecordConnection>,
+    out: &[u8],
+) -> io::Result<RecordConnection> {
     print_said(output, answer.said)?;
     print_bytes(output, out)?;
     end_line(output)?;
@@ -240,14 +238,12 @@ fn once(
     output: &mut impl Write,
     call: u8,
     c: RecordConnection,
-    table: &[u8],
-    starts: &[u32],
-    sizes: Sizes,
+    table: Table,
     memory: &mut [u8],
 ) -> io::Result<RecordConnection> {
     match call {
         1 => start(input, output),
-        3 => take(input, output, c, table, starts, sizes, memory),
+        3 => take(input, output, c, table, memory),
         4 => send(input, output, c),
         5 => close(input, output, c),
         6 => {
@@ -320,16 +316,13 @@ fn main(rt: HostRuntime) -> io::Result<()> {
             break;
         }
         sizes = next_table(&mut input, call, &mut table, &mut starts, sizes)?;
-        c = once(
-            &mut input,
-            &mut output,
-            call,
-            c,
-            &table,
-            &starts,
-            sizes,
-            &mut memory,
-        )?;
+        // The table is the front of its buffer.
+        let lent = Table {
+            bytes: lines::part(&table, 0, sizes.table),
+            starts: &starts,
+            count: sizes.count,
+        };
+        c = once(&mut input, &mut output, call, c, lent, &mut memory)?;
     }
     Ok(())
 }

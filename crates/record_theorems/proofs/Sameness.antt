@@ -17,8 +17,9 @@ use Rattle.keytable.specs.Table.{key_of}
 use Rattle.keytable.proofs.Laws.{removed-gone, removed-else}
 use Rattle.handshake.specs.Flight.{Flight}
 use Rattle.server.specs.declared.Rule.{Rule}
-use Rattle.server.specs.declared.Answer.{Answer}
+use Rattle.handshake.specs.declared.Answer.{Answer}
 use Rattle.server.specs.declared.Phase.{Phase}
+use Rattle.server.specs.declared.Connection.{Connection}
 use Rattle.server.specs.Connection.{Settings, rule_of, started}
 use Rattle.server.specs.KeyExchange.{View, view_of}
 use Rattle.records.specs.declared.ContentType.{ContentType}
@@ -333,7 +334,7 @@ pub sameness-of-lookups : SamenessOfLookups
 sameness-of-lookups s s' alike ok hide hide' Set v v' good good' agree memory calls never =
     answers_agree s (hides s.named hide) Set v v' good good' agree memory calls [] (begun s memory) (begun s memory) refl refl refl
     (same-plain [] (begins s v memory ok.acceptable) (begins s v' memory ok.acceptable) refl) never
-    ∙ ap (λ (a : Answer). answers v' (record { connection = around a.next no_alert; memory = memory }) calls) (alike-start s s' alike hide hide')
+    ∙ ap (λ (a : Answer Connection). answers v' (record { connection = around a.next no_alert; memory = memory }) calls) (alike-start s s' alike hide hide')
 
 -- ---- the second table is the first one without a line
 

@@ -44,60 +44,63 @@ pub enum Refusal {
     UnknownPskIdentity,
 }
 
-// The refusal's number in document 01's table: n for Rn, and the alert's own for an alert.
-pub fn number(r: Refusal) -> u8
-    ensures { result ≡ number_of r }
-{
-    match r {
-        Refusal::ShortOutput => 1,
-        Refusal::BadTable => 2,
-        Refusal::BadSetting => 3,
-        Refusal::ConnectionOver => 4,
-        Refusal::BadValue => 5,
-        Refusal::AlreadyListed => 6,
-        Refusal::NotListed => 7,
-        Refusal::TableFull => 8,
-        Refusal::SequenceSpent => 9,
-        Refusal::BadList => 10,
-        Refusal::UnexpectedMessage => 10,
-        Refusal::BadRecordMac => 20,
-        Refusal::RecordOverflow => 22,
-        Refusal::HandshakeFailure => 40,
-        Refusal::IllegalParameter => 47,
-        Refusal::DecodeError => 50,
-        Refusal::DecryptError => 51,
-        Refusal::ProtocolVersion => 70,
-        Refusal::UnsupportedExtension => 110,
-        Refusal::UnknownPskIdentity => 115,
+impl Refusal {
+    // Whether the number is a fatal alert for the peer. If not, it is an R number for the host.
+    // R10 and alert 10 share their number, so a caller that mixes both needs this too.
+    pub fn for_peer(self) -> bool
+        ensures { result ≡ to_peer self }
+    {
+        match self {
+            Refusal::ShortOutput
+            | Refusal::BadTable
+            | Refusal::BadSetting
+            | Refusal::ConnectionOver
+            | Refusal::BadValue
+            | Refusal::AlreadyListed
+            | Refusal::NotListed
+            | Refusal::TableFull
+            | Refusal::SequenceSpent
+            | Refusal::BadList => false,
+            Refusal::UnexpectedMessage
+            | Refusal::BadRecordMac
+            | Refusal::RecordOverflow
+            | Refusal::HandshakeFailure
+            | Refusal::IllegalParameter
+            | Refusal::DecodeError
+            | Refusal::DecryptError
+            | Refusal::ProtocolVersion
+            | Refusal::UnsupportedExtension
+            | Refusal::UnknownPskIdentity => true,
+        }
     }
 }
 
-// Whether the number is a fatal alert for the peer. If not, it is an R number for the host.
-// R10 and alert 10 share their number, so a caller that mixes both needs this too.
-pub fn for_peer(r: Refusal) -> bool
-    ensures { result ≡ to_peer r }
-{
-    match r {
-        Refusal::ShortOutput => false,
-        Refusal::BadTable => false,
-        Refusal::BadSetting => false,
-        Refusal::ConnectionOver => false,
-        Refusal::BadValue => false,
-        Refusal::AlreadyListed => false,
-        Refusal::NotListed => false,
-        Refusal::TableFull => false,
-        Refusal::SequenceSpent => false,
-        Refusal::BadList => false,
-        Refusal::UnexpectedMessage => true,
-        Refusal::BadRecordMac => true,
-        Refusal::RecordOverflow => true,
-        Refusal::HandshakeFailure => true,
-        Refusal::IllegalParameter => true,
-        Refusal::DecodeError => true,
-        Refusal::DecryptError => true,
-        Refusal::ProtocolVersion => true,
-        Refusal::UnsupportedExtension => true,
-        Refusal::UnknownPskIdentity => true,
+// The refusal's number in document 01's table: n for Rn, and the alert's own for an alert.
+impl From<Refusal> for u8 {
+    ghost from_gives = { λ r n. n ≡ number_of r };
+
+    fn from(r: Refusal) -> u8 {
+        match r {
+            Refusal::ShortOutput => 1,
+            Refusal::BadTable => 2,
+            Refusal::BadSetting => 3,
+            Refusal::ConnectionOver => 4,
+            Refusal::BadValue => 5,
+            Refusal::AlreadyListed => 6,
+            Refusal::NotListed => 7,
+            Refusal::TableFull => 8,
+            Refusal::SequenceSpent => 9,
+            Refusal::BadList | Refusal::UnexpectedMessage => 10,
+            Refusal::BadRecordMac => 20,
+            Refusal::RecordOverflow => 22,
+            Refusal::HandshakeFailure => 40,
+            Refusal::IllegalParameter => 47,
+            Refusal::DecodeError => 50,
+            Refusal::DecryptError => 51,
+            Refusal::ProtocolVersion => 70,
+            Refusal::UnsupportedExtension => 110,
+            Refusal::UnknownPskIdentity => 115,
+        }
     }
 }
 

@@ -4,33 +4,26 @@ use mathlib.Core.Path.{◌≡◌, refl, sym, ap, ◌∙◌}
 use Prim.Native.Nat.{ℕ, ◌+◌, ◌^◌, ◌<◌}
 use native.Mathlib.Omega.{arith}
 use native.Mathlib.Nat.{le_of_eq}
-use mathlib.Core.Bool.{Bool, true, false, ◌||◌}
-use mathlib.Core.List.{List, [], ◌∷◌, ◌++◌, map, append-nil, append_assoc}
+use mathlib.Core.Bool.{Bool, true, false}
+use mathlib.Core.List.{List, [], ◌∷◌, map}
 use lib.ListN.{length, get_or, drop, replicate}
 use lib.Seq.{take_all}
-use lib.Dec.{leb, eqb}
+use Rattle.std.specs.Prelude.{Some}
+use Rattle.std.specs.Int.{from_bool}
 use Rattle.endian.proofs.Numbers.{number-be-lt}
 use Rattle.endian.specs.Number.{be, number}
 use Rattle.sha256.specs.Saved as Hash
-use Rattle.lists.specs.Lists.{part}
+use Rattle.lists.specs.Lists.{part, flag_of}
 use Rattle.lists.proofs.Parts.{part-there, take-window}
 use Rattle.handshake.specs.Flight.{joined}
 use Rattle.server.specs.declared.Rule.{Rule}
 use Rattle.server.specs.declared.Phase.{Phase}
 use Rattle.server.specs.declared.Connection.{Connection}
 use Rattle.server.specs.Connection.{ended}
-use Rattle.saved.specs.Saved.{phase_byte, rule_byte, listed_byte, parts, saved, to_phase, to_rule, restored}
+use Rattle.server.specs.Bytes.{phase_byte, phase_of, rule_byte, rule_of}
+use Rattle.saved.specs.Saved.{parts, saved, restored}
 
 -- ---- parts, one behind the other
-
--- parts that are put behind a front, one by one
-abbrev pub put : List ℕ → List (List ℕ) → List ℕ
-put front [] = front
-put front (x ∷ xs) = put (front ++ x) xs
-
-pub put-joined : (front : List ℕ) (xs : List (List ℕ)) → put front xs ≡ front ++ joined xs
-put-joined front [] = sym (append-nil front)
-put-joined front (x ∷ xs) = put-joined (front ++ x) xs ∙ append_assoc front x (joined xs)
 
 -- the parts of these widths, the first at `at`
 abbrev cut : List ℕ → ℕ → List ℕ → List (List ℕ)
@@ -46,21 +39,21 @@ cut-joined (x ∷ xs) at bytes e =
 
 -- ---- one byte each
 
-phase-there : (p : Phase) → (leb (phase_byte p) 5 ≡ true) × (to_phase (phase_byte p) ≡ p)
-phase-there Phase.Hello = (refl, refl)
-phase-there Phase.KeyExchange = (refl, refl)
-phase-there Phase.Change = (refl, refl)
-phase-there Phase.Finished = (refl, refl)
-phase-there Phase.Complete = (refl, refl)
-phase-there Phase.Closed = (refl, refl)
+phase-there : (p : Phase) → phase_of (phase_byte p) ≡ Some p
+phase-there Phase.Hello = refl
+phase-there Phase.KeyExchange = refl
+phase-there Phase.Change = refl
+phase-there Phase.Finished = refl
+phase-there Phase.Complete = refl
+phase-there Phase.Closed = refl
 
-rule-there : (r : Rule) → ((eqb (rule_byte r) 1 || eqb (rule_byte r) 2) ≡ true) × (to_rule (rule_byte r) ≡ r)
-rule-there Rule.Tell = (refl, refl)
-rule-there Rule.Hide = (refl, refl)
+rule-there : (r : Rule) → rule_of (rule_byte r) ≡ Some r
+rule-there Rule.Tell = refl
+rule-there Rule.Hide = refl
 
-listed-there : (l : Bool) → (leb (listed_byte l) 1 ≡ true) × (eqb (listed_byte l) 1 ≡ l)
-listed-there false = (refl, refl)
-listed-there true = (refl, refl)
+pub flag-there : (b : Bool) → flag_of (from_bool b) ≡ Some b
+flag-there false = refl
+flag-there true = refl
 
 -- ---- all of it
 
@@ -102,20 +95,14 @@ pub restored-saved : (c : Connection) → Fits c → restored (saved c) ≡ c
 unfolding restored saved
 restored-saved c fits =
     let ours = c.setup.suites in
-    let phase = phase-there c.phase in
-    let rule = rule-there c.setup.rule in
-    let listed = listed-there c.client.listed in
     let all = ap (λ (ws : List ℕ). cut ws 0 (saved c)) (sym (as_wide c fits)) ∙ cut-joined (parts c) 0 (saved c) refl in
     let found : (i : ℕ) → get_or (cut widths 0 (saved c)) i [] ≡ get_or (parts c) i [] = λ i. ap (λ (xs : List (List ℕ)). get_or xs i []) all in
     let our : (i : ℕ) → number (be 2 (get_or ours i 0)) ≡ get_or ours i 0 = λ i. number-be-lt 2 (get_or ours i 0) (fits.suites i) in
     let three = three-of ours fits.three in
     rw (
-      phase.0,
-      listed.0,
-      rule.0,
-      phase.1,
-      rule.1,
-      listed.1,
+      phase-there c.phase,
+      rule-there c.setup.rule,
+      flag-there c.client.listed,
       number-be-lt 2 c.client.suite fits.suite,
       found 2,
       found 3,

@@ -1,24 +1,18 @@
 -- A client's connection as 413 bytes, and what 413 bytes stand for: for a host that keeps a connection between calls in memory of its own.
 -- proofs/Saving.antt has the law that what was saved is restored, for every value of the type.
-use Rattle.std.specs.Prelude.{ℕ, cond, List, [], ◌∷◌, get_or, leb}
+use Rattle.std.specs.Prelude.{ℕ, List, [], ◌∷◌, get_or}
+use Rattle.std.specs.Option.{option_map_or}
 use Rattle.endian.specs.Number.{be, number}
 use Rattle.sha256.specs.Saved as Hash
 use Rattle.lists.specs.Lists.{part}
 use Rattle.handshake.specs.Flight.{joined}
 use Rattle.client.specs.declared.Phase.{Phase}
 use Rattle.client.specs.declared.Setup.{Setup}
+use Rattle.client.specs.declared.Negotiated.{Negotiated}
 use Rattle.client.specs.declared.Connection.{Connection}
 use Rattle.client.specs.Connection.{ended}
-
--- a phase in one byte, closed being 0
-abbrev pub phase_byte : Phase → ℕ
-phase_byte Phase.Closed = 0
-phase_byte Phase.Hello = 1
-phase_byte Phase.KeyExchange = 2
-phase_byte Phase.Done = 3
-phase_byte Phase.Change = 4
-phase_byte Phase.Finished = 5
-phase_byte Phase.Complete = 6
+use Rattle.client.specs.Bytes.{phase_of}
+pub use Rattle.client.specs.Bytes.{phase_byte}
 
 -- phase, the identity's length and the key's length (1 byte each), and the suite that the server chose (2)
 abbrev pub head : Connection → List ℕ
@@ -41,14 +35,6 @@ parts c =
 unfoldable pub saved : Connection → List ℕ
 saved c = joined (parts c)
 
--- the phases in the order of their bytes
-abbrev pub phases : List Phase
-phases = Phase.Closed ∷ Phase.Hello ∷ Phase.KeyExchange ∷ Phase.Done ∷ Phase.Change ∷ Phase.Finished ∷ Phase.Complete ∷ []
-
--- the phase whose byte it is
-abbrev pub to_phase : ℕ → Phase
-to_phase byte = get_or phases byte Phase.Closed
-
 -- what start was given, each field read where `saved` puts it
 abbrev pub setup_in : List ℕ → Setup
 setup_in bytes =
@@ -60,16 +46,22 @@ setup_in bytes =
       random = part 197 32 bytes;
     }
 
--- The connection that the bytes stand for, each field read where `saved` puts it. Bytes that begin with no phase's byte can't have come from `saved`,
--- and stand for a closed one. Cleared memory begins with the byte of a closed connection, which answers every call with R4, whatever else it holds.
-unfoldable pub restored : List ℕ → Connection
-restored bytes =
-    cond (leb (get_or bytes 0 0) 6)
-    (record {
-      phase = to_phase (get_or bytes 0 0);
+-- what the server said, each field read where `saved` puts it
+abbrev pub server_in : List ℕ → Negotiated
+server_in bytes = record { random = part 229 32 bytes; suite = number (part 3 2 bytes) }
+
+-- a connection of this phase, each other field read where `saved` puts it
+abbrev pub connection_in : List ℕ → Phase → Connection
+connection_in bytes phase =
+    record {
+      phase = phase;
       setup = setup_in bytes;
-      server = record { random = part 229 32 bytes; suite = number (part 3 2 bytes) };
+      server = server_in bytes;
       secrets = record { master = part 261 48 bytes };
       transcript = Hash.restored (part 309 104 bytes);
-    })
-    (ended Phase.Closed)
+    }
+
+-- The connection that the bytes stand for. Bytes that begin with no phase's byte can't have come from `saved`, and stand for a closed one. Cleared
+-- memory begins with the byte of a closed connection, which answers every call with R4, whatever else it holds.
+unfoldable pub restored : List ℕ → Connection
+restored bytes = option_map_or (connection_in bytes) (phase_of (get_or bytes 0 0)) (ended Phase.Closed)

@@ -8,111 +8,58 @@
 // caller.
 #![tactic(auto)]
 
-ghost use Rattle.std.specs.Prelude.{◌≡◌, ◌≤◌};
-ghost use Rattle.endian.specs.Number.{number};
-ghost use Rattle.lists.specs.Lists.{part};
+ghost use Rattle.std.specs.Prelude.{◌≡◌};
 ghost use Rattle.saved_client.specs.Saved as Saved;
-ghost use Rattle.saved_client.specs.Saved.{phase_byte, saved, to_phase, restored};
+ghost use Rattle.saved_client.specs.Saved.{phase_byte, saved, restored};
 
 use client::{Connection, Negotiated, Phase, Secrets, Setup};
-use layout::put;
 
-fn phase_byte(phase: Phase) -> u8
-    ensures { result ≡ phase_byte phase }
-{
-    match phase {
-        Phase::Closed => 0,
-        Phase::Hello => 1,
-        Phase::KeyExchange => 2,
-        Phase::Done => 3,
-        Phase::Change => 4,
-        Phase::Finished => 5,
-        Phase::Complete => 6,
-    }
-}
-
-// What a connection awaits, or how it ended, as that byte.
+// What a connection awaits, or how it ended, as a byte.
 pub fn phase(c: Connection) -> u8
     ensures { result ≡ phase_byte c.phase }
 {
-    let phase = c.phase;
-    phase_byte(phase)
+    u8::from(c.phase)
 }
 
 // What stands before the identity.
-fn head(c: Connection) -> [u8; 5]
-    ensures { result ≡ Saved.head c }
+fn head(c: &Connection) -> [u8; 5]
+    ensures { result ≡ Saved.head c.now }
 {
-    let phase = c.phase;
-    let setup = c.setup;
-    let server = c.server;
-    let suite = endian::bytes::<2>(server.suite as u64);
+    let suite = c.server.suite.to_be_bytes();
     [
-        phase_byte(phase),
-        setup.identity_length,
-        setup.key_length,
+        u8::from(c.phase),
+        c.setup.identity_length,
+        c.setup.key_length,
         suite[0],
         suite[1],
     ]
 }
 
-// A connection as bytes: the last two parts, and each other one before those behind it.
+// A connection as bytes.
 pub fn save(c: Connection) -> [u8; 413]
     ensures value { result ≡ saved c }
     ensures result_value { restored result ≡ c }
 {
-    let setup = c.setup;
-    let server = c.server;
-    let secrets = c.secrets;
-    let hash = c.transcript;
-    let identity = setup.identity;
-    let key = setup.key;
-    let own_random = setup.random;
-    let server_random = server.random;
-    let master = secrets.master;
-    let transcript = sha256::saved::save(hash);
-    let front = head(c);
-    let mut from_master = [0u8; 152];
-    let mut from_server = [0u8; 184];
-    let mut from_own = [0u8; 216];
-    let mut from_key = [0u8; 280];
-    let mut from_identity = [0u8; 408];
-    let mut all = [0u8; 413];
-    let _ = put::two(&master, &transcript, &mut from_master);
-    let _ = put::two(&server_random, &from_master, &mut from_server);
-    let _ = put::two(&own_random, &from_server, &mut from_own);
-    let _ = put::two(&key, &from_own, &mut from_key);
-    let _ = put::two(&identity, &from_key, &mut from_identity);
-    let _ = put::two(&front, &from_identity, &mut all);
-    all
-}
-
-// The phase of a byte.
-fn to_phase(byte: u8) -> Phase
-    requires { byte ≤ 6 }
-    ensures { result ≡ to_phase byte }
-{
-    match byte {
-        0 => Phase::Closed,
-        1 => Phase::Hello,
-        2 => Phase::KeyExchange,
-        3 => Phase::Done,
-        4 => Phase::Change,
-        5 => Phase::Finished,
-        _ => Phase::Complete,
-    }
+    let head = head(&c);
+    let transcript = sha256::saved::save(c.transcript);
+    lists::joined::<413>(&[
+        &head,
+        &c.setup.identity,
+        &c.setup.key,
+        &c.setup.random,
+        &c.server.random,
+        &c.secrets.master,
+        &transcript,
+    ])
 }
 
 // What start was given.
-fn setup(bytes: [u8; 413]) -> Setup
-    ensures { result ≡ Saved.setup_in bytes }
+fn setup(bytes: &[u8; 413]) -> Setup
+    ensures { result ≡ Saved.setup_in bytes.now }
 {
-    let mut identity = [0u8; 128];
-    let mut key = [0u8; 64];
-    let mut random = [0u8; 32];
-    lists::copy(&bytes[5..133], &mut identity);
-    lists::copy(&bytes[133..197], &mut key);
-    lists::copy(&bytes[197..229], &mut random);
+    let identity = lists::array_at::<128>(bytes, 5);
+    let key = lists::array_at::<64>(bytes, 133);
+    let random = lists::array_at::<32>(bytes, 197);
     Setup {
         identity_length: bytes[1],
         identity,
@@ -122,33 +69,30 @@ fn setup(bytes: [u8; 413]) -> Setup
     }
 }
 
-// The suite that the server chose.
-fn suite(bytes: [u8; 413]) -> u16
-    ensures { result ≡ number (part 3 2 bytes) }
+// What the server said.
+fn server(bytes: &[u8; 413]) -> Negotiated
+    ensures { result ≡ Saved.server_in bytes.now }
 {
-    endian::number16(bytes[3], bytes[4]) as u16
+    let random = lists::array_at::<32>(bytes, 229);
+    let suite = lists::array_at::<2>(bytes, 3);
+    Negotiated {
+        random,
+        suite: u16::from_be_bytes(suite),
+    }
 }
 
 // The connection that the bytes stand for.
+#[tactic(auto, unfolding(crate::specs::Saved::restored))]
 pub fn restore(bytes: [u8; 413]) -> Connection
     ensures { result ≡ restored bytes }
 {
-    let first = bytes[0];
-    if 6 < first {
+    let Ok(phase) = Phase::try_from(bytes[0]) else {
         return client::ended(Phase::Closed);
-    }
-    let mut random = [0u8; 32];
-    let mut master = [0u8; 48];
-    let mut hash = [0u8; 104];
-    lists::copy(&bytes[229..261], &mut random);
-    lists::copy(&bytes[261..309], &mut master);
-    lists::copy(&bytes[309..413], &mut hash);
-    let phase = to_phase(first);
-    let setup = setup(bytes);
-    let server = Negotiated {
-        random,
-        suite: suite(bytes),
     };
+    let setup = setup(&bytes);
+    let server = server(&bytes);
+    let master = lists::array_at::<48>(&bytes, 261);
+    let hash = lists::array_at::<104>(&bytes, 309);
     let transcript = sha256::saved::restore(hash);
     Connection {
         phase,

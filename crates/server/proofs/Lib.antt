@@ -1,4 +1,3 @@
-pub mod Decisions
 pub mod Flights
 pub mod Hellos
 pub mod Values

@@ -9,9 +9,6 @@ use Rattle.std.specs.Prelude.{Result, Ok, Err, Option, None, Some}
 use Rattle.refusal.specs.declared.Refusal.{Refusal}
 use Rattle.refusal.specs.Lent.{gives, Answers}
 use Rattle.refusal.proofs.Laws.{refuses-gives, refused-short, wrote-gives}
-use Rattle.layout.specs.Header.{header}
-use Rattle.messages.specs.KeyExchange.{identity_in}
-use Rattle.layout.specs.Place.{standing, last_at, contents}
 use Rattle.keytable.specs.Table.{key_of, found, judged}
 use Rattle.keytable.proofs.Lookups.{key-size}
 
@@ -37,10 +34,6 @@ key-missing table identity out {r = r} l a e = go (key_of table identity) refl
     go (Some key) f =
         let few : length key ≤ length out = omega (arith, (key-size table identity key f).1) in
         absurd (omega (arith, few, refused-short (rw f at a) e))
-
--- the identity, of a message whose header is tested
-pub identity-there : (m : List ℕ) {s n : ℕ} → header 16 m ≡ Ok tt → last_at 2 m 4 ≡ standing s n → contents m (last_at 2 m 4) ≡ Some (identity_in m)
-identity-there m h e = rw (h, e)
 
 -- the refusal of a table and its list, as its crate answers it
 pub not-refused : (o : Option Refusal) → judged o ≡ Ok tt → o ≡ None

@@ -1,5 +1,7 @@
 -- A connection, and start (document 01, "The server's steps").
-use Rattle.std.specs.Prelude.{ℕ, ◌-◌, Bool, true, false, cond, ◌&&◌, List, ◌++◌, length, take, replicate, leb, eqb, Ok, Err, Option, None, Some}
+use Rattle.std.specs.Prelude.{ℕ, Bool, true, false, cond, ◌&&◌, List, length, take, replicate, leb, eqb, Ok, Err, Option, None, Some}
+use Rattle.lists.specs.Lists.{field}
+use Rattle.handshake.specs.declared.Answer.{Answer}
 use Rattle.sha256.specs.State.{fresh}
 use Rattle.utf8.specs.Utf8.{valid_utf8}
 use Rattle.server.specs.declared.Rule.{Rule}
@@ -8,7 +10,6 @@ use Rattle.server.specs.declared.Setup.{Setup}
 use Rattle.server.specs.declared.Negotiated.{Negotiated}
 use Rattle.server.specs.declared.Secrets.{Secrets}
 use Rattle.server.specs.declared.Connection.{Connection}
-use Rattle.server.specs.declared.Answer.{Answer}
 use Rattle.refusal.specs.declared.Refusal.TheVariants.{BadSetting}
 
 -- ---- start: what it is given
@@ -34,10 +35,6 @@ abbrev pub acceptable : Settings → Bool
 acceptable s =
     eqb (length s.random) 32 && leb (length s.hint) hint_limit && valid_utf8 s.hint && eqb (length s.stand_in) 32
 
--- the hint at the front of its field, with zeros behind it
-abbrev pub hint_field : List ℕ → List ℕ
-hint_field hint = hint ++ replicate (hint_limit - length hint) 0
-
 -- what start was given, as a connection keeps it
 abbrev pub setup_of : Settings → Setup
 setup_of s =
@@ -45,7 +42,7 @@ setup_of s =
       rule = rule_of s.named;
       suites = s.suites;
       hint_length = length s.hint;
-      hint = hint_field s.hint;
+      hint = field hint_limit s.hint;
       stand_in = s.stand_in;
       random = s.random;
     }
@@ -95,8 +92,8 @@ hint_of s = take s.hint_length s.hint
 -- ---- what start answers
 
 -- R3: no connection is made, and what comes back is one that is over
-abbrev pub bad_setting : Answer
+abbrev pub bad_setting : Answer Connection
 bad_setting = record { said = Err BadSetting; next = ended Phase.Closed }
 
-abbrev pub start_answer : Settings → Answer
+abbrev pub start_answer : Settings → Answer Connection
 start_answer s = cond (acceptable s) (record { said = Ok 0; next = started s }) bad_setting

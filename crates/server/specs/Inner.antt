@@ -1,26 +1,17 @@
 -- What the contracts of private functions cite: results as the code's own types have them, and parts of a step. Nothing that a public contract says stands here.
-use Rattle.std.specs.Prelude.{ℕ, ◌+◌, ◌≤◌, ◌≡◌, Bool, false, cond, ◌&&◌, List, [], ◌∷◌, ◌++◌, length, take, drop, eqb}
+use Rattle.std.specs.Prelude.{ℕ, ◌+◌, Bool, false, cond, ◌&&◌, List, [], ◌∷◌, ◌++◌, length, take, drop, eqb}
 use Rattle.sha256.specs.State.{absorb}
 use Rattle.keys.specs.Secrets.{finished_of}
 use Rattle.keys.specs.declared.Side.TheVariants.{Client, Server}
 use Rattle.layout.specs.Layout.{bytes}
 use Rattle.messages.specs.Fixed.{server_hello_done}
 use Rattle.handshake.specs.Finished.{is_value}
-use Rattle.handshake.specs.Flight.{joined, longest, counted}
+use Rattle.handshake.specs.Flight.{joined}
 use Rattle.server.specs.declared.Phase.{Phase}
 use Rattle.server.specs.declared.Connection.{Connection}
-use Rattle.server.specs.declared.Answer.{Answer}
-use Rattle.server.specs.Step.{Step, settled, answered}
+use Rattle.server.specs.Step.{Step}
 use Rattle.server.specs.Hello.{hint_message}
 use Rattle.server.specs.Finished.{completed}
-
--- what a call gives back for a step, and what it leaves in the lent output
-pub record Does (c : Connection) (out : List ℕ) (step : Step) (given : Answer) (left : List ℕ) : Type 0 where
-  pub answers : given ≡ answered (settled c out step)
-  pub leaves : left ≡ (settled c out step).out
-  pub brief : counted given.said ≤ longest
-
--- ---- parts of the steps
 
 -- a ServerKeyExchange of so many bytes, or none without a hint
 abbrev pub hint_message_length : ℕ → ℕ

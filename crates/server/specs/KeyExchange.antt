@@ -8,6 +8,7 @@ use Rattle.keys.specs.Secrets.{master_under}
 use Rattle.keys.specs.Counts.{master_under_blocks}
 use Rattle.keytable.specs.Starts.{list_refusal}
 use Rattle.keytable.specs.Table.{key_of}
+use Rattle.keytable.specs.declared.Table.{Table}
 use Rattle.handshake.specs.Flight.{silence}
 use Rattle.handshake.specs.Step.{refuse, accept}
 use Rattle.server.specs.declared.Rule.{Rule}
@@ -23,6 +24,10 @@ pub record View : Type 0 where
 
 abbrev pub view_of : List ℕ → List ℕ → ℕ → View
 view_of table starts count = record { refusal = list_refusal table starts count; lookup = key_of table }
+
+-- the same of what the code is lent
+abbrev pub view : Table → View
+view table = view_of table.bytes.now table.starts.now table.count
 
 -- After the key exchange m. A key of 1 to 64 bytes, which every key of a table is, has a master secret.
 abbrev pub after_keys : Connection → List ℕ → List ℕ → Bool → Connection

@@ -1,4 +1,5 @@
 pub mod Alert
+pub mod Bytes
 pub mod Change
 pub mod Connection
 pub mod Finished

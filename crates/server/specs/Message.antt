@@ -5,16 +5,14 @@ use Rattle.layout.specs.Types.{client_hello_type, client_key_exchange_type, fini
 use Rattle.hellos.specs.ClientHello.{client_body, client_fields}
 use Rattle.layout.specs.Place.{last_at, filled_by, contents}
 use Rattle.handshake.specs.Finished.{verify_data_length}
-use Rattle.handshake.specs.Handed.{derived}
-use Rattle.handshake.specs.declared.Derived.{Derived}
+use Rattle.handshake.specs.Handed.{derived, with_master}
+use Rattle.handshake.specs.declared.Reply.{Reply}
 use Rattle.handshake.specs.Header.{header_test}
-use Rattle.handshake.specs.Step.{refuse, accept, after_tests, unless_refused}
+use Rattle.handshake.specs.Step.{refuse, accept, after_tests, unless_refused, answered}
 use Rattle.server.specs.declared.Phase.{Phase}
 use Rattle.server.specs.declared.Connection.{Connection}
-use Rattle.server.specs.declared.Answer.{Answer}
-use Rattle.server.specs.declared.Reply.{Reply}
 use Rattle.server.specs.Connection.{is_over}
-use Rattle.server.specs.Step.{Step, Settled, settled, answered}
+use Rattle.server.specs.Step.{Step, Settled, settled}
 use Rattle.server.specs.Hello.{hello_fields}
 use Rattle.server.specs.KeyExchange.{View, identity_blocks, key_identity}
 use Rattle.server.specs.Finished.{finished_value}
@@ -66,10 +64,7 @@ blocks_in v c m Phase.Complete = 0
 blocks_in v c m Phase.Closed = 0
 
 -- what a message is answered with
-abbrev pub with_master : Answer → Option Derived → Reply
-with_master a o = record { said = a.said; handed = o; next = a.next }
-
-abbrev pub message_reply : View → Connection → List ℕ → List ℕ → Reply
+abbrev pub message_reply : View → Connection → List ℕ → List ℕ → Reply Connection
 message_reply v c m out =
     with_master (answered (message_call v c m out))
     (derived (handed_over c.phase (message_step v c m c.phase)) (blocks_in v c m c.phase))

@@ -4,26 +4,19 @@ ghost use Rattle.handshake.specs.Flight.{longest, counted};
 ghost use Rattle.handshake.specs.Handed.{derived};
 ghost use Rattle.handshake.specs.Header.{header_test, early_test};
 ghost use Rattle.server.specs.declared.Phase.{Phase};
-ghost use Rattle.server.specs.Connection.{is_over};
-ghost use Rattle.server.specs.Step.{answered};
-ghost use Rattle.server.specs.KeyExchange.{view_of};
+ghost use Rattle.handshake.specs.Step.{answered};
+ghost use Rattle.server.specs.KeyExchange.{view};
 ghost use Rattle.server.specs.Message as Message;
 ghost use Rattle.server.specs.Message.{body_step, message_step, message_call, message_reply, handed_over};
 ghost use Rattle.server.specs.Change.{after_change, change_call};
 ghost use Rattle.server.specs.Alert.{alert_call};
 ghost use Rattle.handshake.specs.Decision.{Decides, decided, blocks_in};
 
-use crate::{Answer, Connection, Phase, Reply, ended, finished, hello, key_exchange, step};
-use handshake::{Decision, Derived, Heard};
+use crate::{Answer, Connection, Phase, Reply, ended, finished, hello, key_exchange};
+use handshake::{Decision, Derived};
+use keytable::Table;
 use layout::types;
 use refusal::Refusal;
-
-// Whether a connection is complete or closed.
-fn is_over(phase: Phase) -> bool
-    ensures { result ≡ is_over phase }
-{
-    matches!(phase, Phase::Complete | Phase::Closed)
-}
 
 // ---- a message
 
@@ -40,42 +33,30 @@ fn awaited_in(phase: Phase) -> Option<u8>
 }
 
 // The step of a message whose header is tested already.
-fn body(
-    c: Connection,
-    table: &[u8],
-    starts: &[u32],
-    count: usize,
-    m: &[u8],
-) -> Result<Decision<Connection>, Refusal>
+fn body(c: Connection, table: Table, m: &[u8]) -> Result<Decision<Connection>, Refusal>
     requires { header_test (Message.awaited c.phase) m.now ≡ Ok tt }
-    ensures { Decides result (body_step (view_of table.now starts.now count) c m.now c.phase)
-        (Message.blocks_in (view_of table.now starts.now count) c m.now c.phase) }
+    ensures { Decides result (body_step (view table.entry) c m.now c.phase)
+        (Message.blocks_in (view table.entry) c m.now c.phase) }
 {
     match c.phase {
         Phase::Hello => hello::body(c, m),
-        Phase::KeyExchange => key_exchange::body(c, table, starts, count, m),
+        Phase::KeyExchange => key_exchange::body(c, table, m),
         Phase::Finished => finished::body(c, m),
         Phase::Change | Phase::Complete | Phase::Closed => Err(Refusal::UnexpectedMessage),
     }
 }
 
 // What a message comes to, whatever the room, for a caller that has its own way of writing the answer.
-pub fn decide(
-    c: Connection,
-    table: &[u8],
-    starts: &[u32],
-    count: usize,
-    m: &[u8],
-) -> Result<Decision<Connection>, Refusal>
-    ensures { Decides result (message_step (view_of table.now starts.now count) c m.now c.phase)
-        (Message.blocks_in (view_of table.now starts.now count) c m.now c.phase) }
+pub fn decide(c: Connection, table: Table, m: &[u8]) -> Result<Decision<Connection>, Refusal>
+    ensures { Decides result (message_step (view table.entry) c m.now c.phase)
+        (Message.blocks_in (view table.entry) c m.now c.phase) }
 {
     let phase = c.phase;
-    if is_over(phase) {
+    if phase.is_over() {
         return Err(Refusal::ConnectionOver);
     }
     handshake::test_header(awaited_in(phase), m)?;
-    body(c, table, starts, count, m)
+    body(c, table, m)
 }
 
 // The master secret that a decided message hands over: that of a ClientKeyExchange which was accepted.
@@ -96,21 +77,14 @@ fn handed(phase: Phase, d: Result<Decision<Connection>, Refusal>) -> Option<Deri
 }
 
 // A handshake message. No answer is longer than the longest flight.
-pub fn message(
-    c: Connection,
-    table: &[u8],
-    starts: &[u32],
-    count: usize,
-    m: &[u8],
-    out: &mut [u8],
-) -> Reply
-    ensures value { (result ≡ message_reply (view_of table.now starts.now count) c m.now out.old)
-        × (out.new ≡ (message_call (view_of table.now starts.now count) c m.now out.old).out) }
+pub fn message(c: Connection, table: Table, m: &[u8], out: &mut [u8]) -> Reply<Connection>
+    ensures value { (result ≡ message_reply (view table.entry) c m.now out.old)
+        × (out.new ≡ (message_call (view table.entry) c m.now out.old).out) }
     ensures said_bound { counted result.said ≤ longest }
 {
-    let d = decide(c, table, starts, count, m);
+    let d = decide(c, table, m);
     let handed = handed(c.phase, d);
-    let answer = step::settle(c, d, out);
+    let answer = handshake::settle(c, ended(Phase::Closed), d, out);
     Reply {
         said: answer.said,
         handed,
@@ -145,39 +119,31 @@ fn after_change(c: Connection) -> Connection
 }
 
 // A change of cipher.
-pub fn change_of_cipher(c: Connection) -> Answer
+pub fn change_of_cipher(c: Connection) -> Answer<Connection>
     ensures { result ≡ answered (change_call c) }
 {
-    match c.phase {
-        Phase::Hello | Phase::KeyExchange | Phase::Finished => {
-            step::refuse(c, Refusal::UnexpectedMessage)
+    let r = match c.phase {
+        Phase::Change => {
+            return Answer {
+                said: Ok(0),
+                next: after_change(c),
+            };
         }
-        Phase::Change => Answer {
-            said: Ok(0),
-            next: after_change(c),
-        },
-        Phase::Complete | Phase::Closed => step::refuse(c, Refusal::ConnectionOver),
-    }
+        Phase::Hello | Phase::KeyExchange | Phase::Finished => Refusal::UnexpectedMessage,
+        Phase::Complete | Phase::Closed => Refusal::ConnectionOver,
+    };
+    handshake::refuse(c, ended(Phase::Closed), r)
 }
 
 // ---- a received alert
 
 // A received alert.
-pub fn alert(c: Connection, level: u8, description: u8) -> Answer
+pub fn alert(c: Connection, level: u8, description: u8) -> Answer<Connection>
     ensures { result ≡ answered (alert_call c level description) }
 {
-    if is_over(c.phase) {
-        return step::refuse(c, Refusal::ConnectionOver);
+    let closed = ended(Phase::Closed);
+    if c.phase.is_over() {
+        return handshake::refuse(c, closed, Refusal::ConnectionOver);
     }
-    match handshake::hear(level, description) {
-        Heard::Illegal => step::refuse(c, Refusal::IllegalParameter),
-        Heard::Ends => Answer {
-            said: Ok(0),
-            next: ended(Phase::Closed),
-        },
-        Heard::Ignored => Answer {
-            said: Ok(0),
-            next: c,
-        },
-    }
+    handshake::alert(c, closed, level, description)
 }

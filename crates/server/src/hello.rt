@@ -1,5 +1,5 @@
 // Step 1: a ClientHello, and the flight that answers it.
-ghost use Rattle.std.specs.Prelude.{◌≡◌, List, ℕ, ◌+◌, ◌≤◌, length, take};
+ghost use Rattle.std.specs.Prelude.{◌≡◌, ◌+◌, ◌≤◌, length};
 ghost use Rattle.hellos.specs.ClientHello.{client_body, client_fields};
 ghost use Rattle.handshake.specs.Flight.{flight_bytes, joined};
 ghost use Rattle.handshake.specs.Outgoing.{Sends};
@@ -10,7 +10,7 @@ ghost use Rattle.server.specs.Hello.{hint_message, flight, flight_for, hello_fie
 ghost use Rattle.server.specs.Inner as Inner;
 ghost use Rattle.handshake.specs.Decision.{Decides};
 
-use crate::{Connection, Negotiated, Phase, Setup, bytes32};
+use crate::{Connection, Negotiated, Phase, Setup};
 use handshake::{Decision, Outgoing};
 use refusal::Refusal;
 
@@ -40,17 +40,6 @@ fn offers_null(methods: &[u8]) -> bool
     ensures { result ≡ Hello.offers_null methods.now }
 {
     methods.contains(&0)
-}
-
-// How many bytes of the field are the hint.
-fn in_field(hint_length: u8) -> usize
-    ensures { (result ≤ 128) × ((field : List ℕ) → length field ≡ 128 → take result field ≡ take hint_length field) }
-{
-    let n = hint_length as usize;
-    if 128 < n {
-        return 128;
-    }
-    n
 }
 
 // The length of the message that carries the hint, 0 where there is none.
@@ -84,7 +73,7 @@ fn put_flight(random: &[u8], hint: &[u8], suite: u16, out: &mut [u8])
     ensures { out.new ≡ Inner.front (flight_bytes (flight random.now hint.now suite)) out.old }
 {
     let none = &random[0..0];
-    let _ = hellos::server_hello::write(VERSION, random, none, suite as usize, 0, false, none, out);
+    let _ = hellos::server_hello::write(VERSION, random, none, suite as usize, 0, None, out);
     put_rest(hint, &mut out[42..]);
 }
 
@@ -93,11 +82,11 @@ fn answer(setup: Setup, suite: u16) -> Outgoing
     ensures { Sends result (flight setup.random (hint_of setup) suite) }
 {
     let random = setup.random;
-    let hint = setup.hint;
-    let n = in_field(setup.hint_length);
+    let field = setup.hint;
+    let hint = lists::front(&field, usize::from(setup.hint_length));
     let mut bytes = [0u8; 180];
-    put_flight(&random, &hint[..n], suite, &mut bytes);
-    let lengths = [42, hint_message_length(n), 4];
+    put_flight(&random, hint, suite, &mut bytes);
+    let lengths = [42, hint_message_length(hint.len()), 4];
     Outgoing {
         bytes,
         lengths,
@@ -111,7 +100,7 @@ fn after_hello(c: Connection, m: &[u8], suite: u16, flight: &[u8]) -> Connection
     ensures { result ≡ Inner.after_hello_with c m.now suite flight.now }
 {
     let setup = c.setup;
-    let random = bytes32(&m[6..38]);
+    let random = lists::field::<32>(&m[6..38]);
     let client = Negotiated {
         random,
         suite,

@@ -10,13 +10,14 @@ ghost use Rattle.keytable.specs.Starts.{is_list};
 ghost use Rattle.keytable.specs.Table.{key_of};
 ghost use Rattle.server.specs.declared.Phase.{Phase};
 ghost use Rattle.server.specs.KeyExchange as Exchange;
-ghost use Rattle.server.specs.KeyExchange.{key_found, key_identity, view_of, key_used, blocks_under, identity_blocks};
+ghost use Rattle.server.specs.KeyExchange.{key_found, key_identity, view, key_used, blocks_under, identity_blocks};
 ghost use Rattle.server.specs.Message.{body_step, blocks_in};
 ghost use Rattle.handshake.specs.Decision.{Decides};
 ghost use Rattle.server.specs.Inner.{after_keys_with};
 
 use crate::{Connection, Negotiated, Phase, Rule, Secrets};
 use handshake::{Decision, Derived};
+use keytable::Table;
 use refusal::Refusal;
 
 // The master secret under a key. It is made before the connection is put together, so that the two do not stand on
@@ -34,7 +35,7 @@ fn master_under(c: Connection, key: &[u8]) -> Derived
     let told = keys::master_under(key, &random, &own, &mut master);
     Derived {
         master,
-        blocks: told.blocks,
+        blocks: told.map_or(0, |told| told.blocks),
     }
 }
 
@@ -91,55 +92,41 @@ fn unlisted(c: Connection, m: &[u8]) -> Result<Decision<Connection>, Refusal>
 // The key of the identity, if the table has it.
 fn look_up(
     c: Connection,
-    table: &[u8],
-    starts: &[u32],
-    count: usize,
+    table: Table,
     m: &[u8],
     identity: &[u8],
 ) -> Result<Decision<Connection>, Refusal>
-    requires { is_list table.now starts.now count ≡ true }
-    ensures { Decides result (key_found c m.now (key_of table.now identity.now))
-        (blocks_under c (key_used c (key_of table.now identity.now))) }
+    requires { is_list table.bytes.now table.starts.now table.count ≡ true }
+    ensures { Decides result (key_found c m.now (key_of table.entry.bytes.now identity.now))
+        (blocks_under c (key_used c (key_of table.entry.bytes.now identity.now))) }
 {
     let mut key = [0u8; 64];
-    match keytable::lookup(table, starts, count, identity, &mut key) {
+    match table.lookup(identity, &mut key) {
         Ok(n) => accept(c, m, master_under(c, &key[..n]), true),
         Err(_) => unlisted(c, m),
     }
 }
 
 // The identity that the message names, of a table and a list that do not refuse.
-fn identified(
-    c: Connection,
-    table: &[u8],
-    starts: &[u32],
-    count: usize,
-    m: &[u8],
-) -> Result<Decision<Connection>, Refusal>
+fn identified(c: Connection, table: Table, m: &[u8]) -> Result<Decision<Connection>, Refusal>
     requires m_value { header 16 m.now ≡ Ok tt }
-    requires count_value { is_list table.now starts.now count ≡ true }
-    ensures { Decides result (key_identity (key_of table.now) c m.now (contents m.now (last_at 2 m.now 4)))
-        (identity_blocks (key_of table.now) c (contents m.now (last_at 2 m.now 4))) }
+    requires count_value { is_list table.bytes.now table.starts.now table.count ≡ true }
+    ensures { Decides result (key_identity (key_of table.entry.bytes.now) c m.now (contents m.now (last_at 2 m.now 4)))
+        (identity_blocks (key_of table.entry.bytes.now) c (contents m.now (last_at 2 m.now 4))) }
 {
     if messages::key_exchange::read_identity_body(m).is_none() {
         return Err(Refusal::DecodeError);
     }
     let identity = messages::key_exchange::identity(m);
-    look_up(c, table, starts, count, m, identity)
+    look_up(c, table, m, identity)
 }
 
 // A key exchange whose header is tested already.
-pub(crate) fn body(
-    c: Connection,
-    table: &[u8],
-    starts: &[u32],
-    count: usize,
-    m: &[u8],
-) -> Result<Decision<Connection>, Refusal>
+pub(crate) fn body(c: Connection, table: Table, m: &[u8]) -> Result<Decision<Connection>, Refusal>
     requires { header 16 m.now ≡ Ok tt }
-    ensures { Decides result (body_step (view_of table.now starts.now count) c m.now Phase.KeyExchange)
-        (blocks_in (view_of table.now starts.now count) c m.now Phase.KeyExchange) }
+    ensures { Decides result (body_step (view table.entry) c m.now Phase.KeyExchange)
+        (blocks_in (view table.entry) c m.now Phase.KeyExchange) }
 {
-    keytable::judge(table, starts, count)?;
-    identified(c, table, starts, count, m)
+    table.judge()?;
+    identified(c, table, m)
 }

@@ -2,23 +2,22 @@
 //
 // specs/Connection.antt has the connection and start, specs/Message.antt the order of a message's tests, and
 // the files named after the steps (Hello, KeyExchange, Change, Finished, Alert) what each comes to. A step
-// decides and writes nothing; specs/Step.antt says what a call makes of its decision. What a client does alike is
-// in the crate `handshake`.
+// decides and writes nothing; `handshake::settle` makes a call's answer of it. What a client does alike is in that
+// crate too.
 #![tactic(auto)]
 
+mod bytes;
 mod calls;
 mod finished;
 mod hello;
 mod key_exchange;
 mod starting;
-mod step;
 
-ghost use Rattle.std.specs.Prelude.{◌≡◌, length};
+ghost use Rattle.std.specs.Prelude.{◌≡◌};
 ghost use Rattle.server.specs.Connection as Conn;
 
 pub use calls::{alert, change_of_cipher, decide, judge_header, message};
-use handshake::Derived;
-use refusal::Refusal;
+pub use handshake::{Answer, Reply};
 use sha256::Sha256;
 pub use starting::{start, start_with};
 
@@ -38,6 +37,15 @@ pub enum Phase {
     Finished,
     Complete,
     Closed,
+}
+
+impl Phase {
+    // Whether a connection is complete or closed.
+    pub(crate) fn is_over(self) -> bool
+        ensures { result ≡ Conn.is_over self }
+    {
+        matches!(self, Phase::Complete | Phase::Closed)
+    }
 }
 
 // What start was given. No call changes it.
@@ -80,22 +88,6 @@ pub struct Connection {
     pub transcript: Sha256,
 }
 
-// What a call that writes nothing gives back: no bytes or a refusal, and the connection.
-#[derive(Drop)]
-pub struct Answer {
-    pub said: Result<usize, Refusal>,
-    pub next: Connection,
-}
-
-// What a message is answered with: how many bytes were written or a refusal, the master secret where
-// one is handed over with how many blocks were hashed for it, and the connection.
-#[derive(Drop)]
-pub struct Reply {
-    pub said: Result<usize, Refusal>,
-    pub handed: Option<Derived>,
-    pub next: Connection,
-}
-
 // Before the client has said anything.
 fn nothing_said() -> Negotiated
     ensures { result ≡ Conn.nothing_said }
@@ -135,14 +127,4 @@ pub fn ended(phase: Phase) -> Connection
         secrets: Secrets { master: [0u8; 48] },
         transcript,
     }
-}
-
-// The 32 bytes as an array.
-fn bytes32(bytes: &[u8]) -> [u8; 32]
-    requires { length bytes.now ≡ 32 }
-    ensures { result ≡ bytes.now }
-{
-    let mut kept = [0u8; 32];
-    lists::copy(bytes, &mut kept);
-    kept
 }

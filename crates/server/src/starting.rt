@@ -1,50 +1,34 @@
 // Start: a connection from what the host gives it, or R3.
 ghost use Rattle.std.specs.Prelude.{◌≡◌, ◌≤◌, length};
 ghost use Rattle.handshake.specs.Protocol as Protocol;
-ghost use Rattle.server.specs.Connection as Conn;
 ghost use Rattle.server.specs.Connection.{setup_of, begun, bad_setting, start_answer};
 
-use crate::{Answer, Connection, Phase, Rule, Secrets, Setup, bytes32, ended, nothing_said};
+use crate::{Answer, Connection, Phase, Rule, Secrets, Setup, ended, nothing_said};
 use refusal::Refusal;
 use sha256::Sha256;
 
 // Our suites, in the order in which we choose.
 const SUITES: [u16; 3] = [0x00ae, 0x008c, 0x00b0];
 
-// The hint with zeros behind it.
-fn hint_field(hint: &[u8]) -> [u8; 128]
-    requires { length hint.now ≤ 128 }
-    ensures { result ≡ Conn.hint_field hint.now }
-{
-    let mut field = [0u8; 128];
-    lists::copy(hint, &mut field);
-    field
-}
-
 // What an accepted start was given.
 fn setup(
-    random: &[u8],
+    random: [u8; 32],
     hint: &[u8],
-    stand_in: &[u8],
+    stand_in: [u8; 32],
     named: Option<Rule>,
     suites: [u16; 3],
 ) -> Setup
-    requires random_len { length random.now ≡ 32 }
-    requires hint_len_bound { length hint.now ≤ 128 }
-    requires stand_in_len { length stand_in.now ≡ 32 }
-    ensures { result ≡ setup_of (record { random = random.now; hint = hint.now; stand_in = stand_in.now; named = named; suites = suites }) }
+    requires { length hint.now ≤ 128 }
+    ensures { result ≡ setup_of (record { random = random; hint = hint.now; stand_in = stand_in; named = named; suites = suites }) }
 {
-    let rule = named.unwrap_or(Rule::Hide);
-    let field = hint_field(hint);
-    let key = bytes32(stand_in);
-    let own = bytes32(random);
+    let field = lists::field::<128>(hint);
     Setup {
-        rule,
+        rule: named.unwrap_or(Rule::Hide),
         suites,
         hint_length: hint.len() as u8,
         hint: field,
-        stand_in: key,
-        random: own,
+        stand_in,
+        random,
     }
 }
 
@@ -63,7 +47,7 @@ fn started(setup: Setup) -> Connection
     }
 }
 
-fn bad_setting() -> Answer
+fn bad_setting() -> Answer<Connection>
     ensures { result ≡ bad_setting }
 {
     let next = ended(Phase::Closed);
@@ -80,27 +64,27 @@ pub fn start_with(
     stand_in: &[u8],
     named: Option<Rule>,
     suites: [u16; 3],
-) -> Answer
+) -> Answer<Connection>
     ensures { result ≡ start_answer (record { random = random.now; hint = hint.now; stand_in = stand_in.now; named = named; suites = suites }) }
 {
-    if random.len() != 32 {
+    let Ok(random) = <[u8; 32]>::try_from(random) else {
         return bad_setting();
-    }
+    };
     if 128 < hint.len() {
         return bad_setting();
     }
     if !utf8::valid_utf8(hint) {
         return bad_setting();
     }
-    if stand_in.len() != 32 {
+    let Ok(stand_in) = <[u8; 32]>::try_from(stand_in) else {
         return bad_setting();
-    }
+    };
     let next = started(setup(random, hint, stand_in, named, suites));
     Answer { said: Ok(0), next }
 }
 
 // The same with document 01's three suites.
-pub fn start(random: &[u8], hint: &[u8], stand_in: &[u8], named: Option<Rule>) -> Answer
+pub fn start(random: &[u8], hint: &[u8], stand_in: &[u8], named: Option<Rule>) -> Answer<Connection>
     ensures { result ≡ start_answer (record { random = random.now; hint = hint.now; stand_in = stand_in.now; named = named; suites = Protocol.suites }) }
 {
     start_with(random, hint, stand_in, named, SUITES)

@@ -1,21 +1,14 @@
 -- A hash that was saved is restored.
 -- Assumes nothing.
 use mathlib.Core.Path.{◌≡◌, refl}
-use Prim.Native.Nat.{ℕ, ◌+◌, ◌*◌, ◌^◌, ◌<◌}
-use native.Mathlib.Omega.{arith}
-use mathlib.Core.List.{List}
+use Prim.Native.Nat.{◌^◌, ◌<◌}
 use lib.ListN.{length}
-use Rattle.lists.specs.Lists.{part}
-use Rattle.lists.proofs.Parts.{part-there, take-window}
-use Rattle.endian.specs.Number.{be, number}
+use Rattle.lists.proofs.Parts.{part-there}
+use Rattle.endian.specs.Number.{be}
 use Rattle.endian.proofs.Numbers.{number-be-lt}
 use Rattle.sha256.specs.declared.Sha256.{Sha256}
 use Rattle.sha256.specs.Hash.{concatenated}
-use Rattle.sha256.specs.Saved.{saved, word_at, restored}
-
--- the count, from its two words
-pub count-there : (bs : List ℕ) → length bs ≡ 104 → number (part 96 8 bs) ≡ word_at 96 bs * 4294967296 + word_at 100 bs
-count-there bs size = rw (take-window 8 96 bs (omega arith), take-window 4 96 bs (omega arith), take-window 4 100 bs (omega arith)) (omega arith)
+use Rattle.sha256.specs.Saved.{saved, restored}
 
 -- What the types say of a hash's fields, as far as the law asks for it: the block's bytes are kept as they stand, whatever they are.
 pub record Fits (s : Sha256) : Type 0 where

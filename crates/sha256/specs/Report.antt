@@ -4,6 +4,7 @@ use Rattle.std.specs.Prelude.{ℕ, ◌+◌, ◌/◌, ◌%◌, List, ◌++◌, le
 use Rattle.refusal.specs.declared.Refusal.{Refusal}
 use Rattle.sha256_block.specs.Blocks.{parse}
 use Rattle.sha256.specs.declared.Sha256.{Sha256}
+use Rattle.sha256.specs.declared.Reported.{Reported}
 use Rattle.sha256.specs.Message.{pad, padding}
 
 -- FIPS 180-4, 5.2.1: N, the number of blocks of the padded message; 6.2.2 takes each through the compression function once
@@ -14,7 +15,7 @@ blocks_of m = length (parse (pad m))
 unfoldable pub compressed : Sha256 → ℕ
 compressed s = s.count / 64 + length (parse (take (s.count % 64) s.block ++ padding s.count))
 
--- the number beside an answer: 0 beside a refusal
-abbrev pub reported : Result ℕ Refusal → ℕ → ℕ
-reported (Ok n) blocks = blocks
-reported (Err r) blocks = 0
+-- what was said, without the number
+abbrev pub said : Result Reported Refusal → Result ℕ Refusal
+said (Ok r) = Ok r.len
+said (Err r) = Err r

@@ -7,14 +7,14 @@
 
 pub mod saved;
 
-ghost use Rattle.std.specs.Prelude.{◌≡◌, ◌∷◌, ◌++◌, ◌+◌, ◌-◌, ◌*◌, ◌%◌, ◌^◌, ◌≤◌, ◌<◌, length, take, drop, replicate};
+ghost use Rattle.std.specs.Prelude.{◌≡◌, ◌∷◌, ◌++◌, ◌+◌, ◌-◌, ◌*◌, ◌%◌, ◌^◌, ◌≤◌, ◌<◌, length, take, drop, replicate, IfOk};
 ghost use Rattle.endian.specs.Number.{be};
 ghost use Rattle.refusal.specs.Lent.{Answers};
 ghost use Rattle.sha256_block.specs.Blocks.{parse, hash_blocks};
 ghost use Rattle.sha256.specs.Message.{padding};
 ghost use Rattle.sha256.specs.Hash.{limit, sha256, concatenated};
 ghost use Rattle.sha256.specs.State.{fresh, over, absorb, finished};
-ghost use Rattle.sha256.specs.Report.{compressed, reported};
+ghost use Rattle.sha256.specs.Report.{compressed, said};
 
 use refusal::Refusal;
 use sha256_block::{Words, all_blocks};
@@ -27,10 +27,10 @@ pub struct Sha256 {
     count: u64,
 }
 
-// What was said, and how many blocks went through the compression function for it: 0 where it was refused.
+// How many bytes were written, and how many blocks went through the compression function for them.
 #[derive(Drop)]
 pub struct Reported {
-    pub said: Result<usize, Refusal>,
+    pub len: usize,
     pub blocks: u64,
 }
 
@@ -58,6 +58,7 @@ impl Sha256 {
     };
 
     // A hash that has absorbed nothing.
+    #[tactic(auto, unfolding(crate::specs::State::fresh))]
     pub fn new() -> Sha256
         ensures { result ≡ fresh }
     {
@@ -70,6 +71,7 @@ impl Sha256 {
     }
 
     // A hash that was offered more than it takes.
+    #[tactic(auto, unfolding(crate::specs::State::over))]
     fn past_limit() -> Sha256
         ensures { result ≡ over }
     {
@@ -223,38 +225,29 @@ impl Sha256 {
     // The digest of what was absorbed at the front of the lent output, with the number of blocks that
     // it took: R5 where that was more than the limit, then R1. A caller in another crate does not see
     // how long a block is, so that the number's bound is promised here.
-    pub fn finish_counted(self, out: &mut [u8]) -> Reported
-        ensures answers { Answers (finished self) out.old result.said out.new }
-        ensures blocks_value { (result.blocks ≡ reported result.said (compressed self)) × (result.blocks ≤ 2 ^ 55 + 1) }
+    pub fn finish_counted(self, out: &mut [u8]) -> Result<Reported, Refusal>
+        ensures answers { Answers (finished self) out.old (said result) out.new }
+        ensures blocks_value { IfOk result (λ r. (r.blocks ≡ compressed self) × (r.blocks ≤ 2 ^ 55 + 1)) }
     {
         if LIMIT < self.count {
-            return Reported {
-                said: Err(Refusal::BadValue),
-                blocks: 0,
-            };
+            return Err(Refusal::BadValue);
         }
         let last = self.padded();
         let words = last.words;
         let bytes = concatenation(words);
-        report(refusal::put(&bytes, out), last.blocks)
+        let len = refusal::put(&bytes, out)?;
+        Ok(Reported {
+            len,
+            blocks: last.blocks,
+        })
     }
 
     // The same without the number.
     pub fn finish(self, out: &mut [u8]) -> Result<usize, Refusal>
         ensures { Answers (finished self) out.old result out.new }
     {
-        let done = self.finish_counted(out);
-        done.said
-    }
-}
-
-// What was said with the number of blocks, 0 beside a refusal.
-pub fn report(said: Result<usize, Refusal>, blocks: u64) -> Reported
-    ensures { (result.said ≡ said) × (result.blocks ≡ reported said blocks) }
-{
-    match said {
-        Ok(_) => Reported { said, blocks },
-        Err(_) => Reported { said, blocks: 0 },
+        let done = self.finish_counted(out)?;
+        Ok(done.len)
     }
 }
 
@@ -300,6 +293,7 @@ fn with_word(digest: [u8; 32], at: usize, word: u32) -> [u8; 32]
 }
 
 // The eight words one after the other.
+#[tactic(auto, unfolding(crate::specs::Hash::concatenated))]
 fn concatenation(h: Words) -> [u8; 32]
     ensures { result ≡ concatenated h }
 {

@@ -28,6 +28,7 @@ pub struct Words {
     pub h: u32,
 }
 
+#[tactic(auto, unfolding(crate::specs::Block::added))]
 fn sum(v: Words, h: Words) -> Words
     ensures { result ≡ added v h }
 {
@@ -44,6 +45,7 @@ fn sum(v: Words, h: Words) -> Words
 }
 
 // The hash value after one more block.
+#[tactic(auto, unfolding(crate::specs::Block::compress))]
 fn next_value(h: Words, block: &[u8]) -> Words
     requires { length block.now ≡ 64 }
     ensures { result ≡ compress h block.now }

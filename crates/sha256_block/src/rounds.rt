@@ -8,6 +8,7 @@ use super::constants::{Four, constants};
 use super::functions::{ch, large_sigma0, large_sigma1, maj, plus};
 use super::schedule::renew;
 
+#[tactic(auto, unfolding(crate::specs::Block::round))]
 fn one_round(v: Words, k: u32, w: u32) -> Words
     ensures { result ≡ round k w v }
 {

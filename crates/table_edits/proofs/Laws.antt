@@ -131,12 +131,12 @@ module _ (e : Edit) (t t' : List ℕ) (bytes : OfBytes e) (h : edited e t ≡ gi
 pub listed_found_lem : (t i : List ℕ) → well_formed t ≡ true → (listed i (lines t) ≡ false) ↔ (key_of t i ≡ None)
 unfolding key_of
 listed_found_lem t i formed =
-    let good = (well-formed-tests t formed).3 in
-    (λ h. ap key_of_text (unlisted-none i (lines t) good h), λ gone. go (listed i (lines t)) refl good gone)
+    let valid = (well-formed-tests t formed).3 in
+    (λ h. ap key_of_text (unlisted-none i (lines t) valid h), λ gone. go (listed i (lines t)) refl valid gone)
   where
     go : (b : Bool) → listed i (lines t) ≡ b → each valid_line (lines t) ≡ true → key_of_text (first_text i (lines t)) ≡ None → b ≡ false
-    go true h good gone = absurd (listed-some i (lines t) good h gone)
-    go false h good gone = refl
+    go true h valid gone = absurd (listed-some i (lines t) valid h gone)
+    go false h valid gone = refl
 
 -- ---- retiring takes out one line
 

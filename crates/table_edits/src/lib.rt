@@ -17,7 +17,7 @@ ghost use Rattle.keytable.specs.Table.{lines, ended};
 ghost use Rattle.table_edits.specs.Edits.{add, replace, retire, lines_after, edited_in, EditsBoth, lower_hex, roomed, sized};
 ghost use Rattle.table_edits.specs.Inner.{bounded, spliced, sought_in, place_in, size_judged, OwnList, Unbroken};
 
-use keytable::Hit;
+use keytable::{Hit, Table};
 use refusal::Refusal;
 
 // Which of the lines is the identity's, and where its key stands, from its start to the line's end: after the test of
@@ -42,11 +42,16 @@ fn locate(
 ) -> Result<Option<Hit>, Refusal>
     ensures { result ≡ place_in memory.now length starts.now count identity.now secret }
 {
-    let Some(table) = memory.get(..length) else {
+    let Some(bytes) = memory.get(..length) else {
         return Err(Refusal::BadTable);
     };
-    keytable::judge(table, starts, count)?;
-    seek(table, &starts[..count], identity, secret)
+    let table = Table {
+        bytes,
+        starts,
+        count,
+    };
+    table.judge()?;
+    seek(bytes, &starts[..count], identity, secret)
 }
 
 // Whether a table of so many bytes is short enough (R8), and the memory has room for it (R1).

@@ -11,6 +11,7 @@
 
 ghost use Rattle.std.specs.Prelude.{◌≤◌, IfOk};
 
+use keytable::Table;
 use refusal::Refusal;
 use std::io;
 use std::io::{Read, Write};
@@ -110,15 +111,9 @@ fn print_made(
 }
 
 // A line: a name, and whether the list is the table's.
-fn print_judged(
-    output: &mut impl Write,
-    name: &[u8],
-    table: &[u8],
-    starts: &[u32],
-    count: usize,
-) -> io::Result<()> {
+fn print_judged(output: &mut impl Write, name: &[u8], table: Table) -> io::Result<()> {
     lines::text(output, name)?;
-    match keytable::judge(table, starts, count) {
+    match table.judge() {
         Ok(()) => {
             lines::text(output, b": its list")?;
         }
@@ -135,14 +130,12 @@ fn print_judged(
 fn print_key(
     output: &mut impl Write,
     identity: &[u8],
-    table: &[u8],
-    starts: &[u32],
-    count: usize,
+    table: Table,
     room: &mut [u8],
 ) -> io::Result<()> {
     lines::hex(output, identity)?;
     lines::text(output, b" ")?;
-    match keytable::lookup(table, starts, count, identity, room) {
+    match table.lookup(identity, room) {
         Ok(n) => {
             lines::hex(output, lines::part(room, 0, n))?;
         }
@@ -241,17 +234,25 @@ fn call(input: &mut impl Read, output: &mut impl Write) -> io::Result<bool> {
     let b_size = lines::field(input, &mut b)?;
     let list_size = list_room(input)?;
     let first = lines::part(&a, 0, a_size);
-    let second = &mut b[..b_size];
-    let starts = &mut list[300 - list_size..];
-    read_list(input, starts)?;
+    let bytes = &b[..b_size];
+    let at = 300 - list_size;
+    read_list(input, &mut list[at..])?;
     let count = lines::number24(input)?;
+    let table = Table {
+        bytes,
+        starts: &list[at..],
+        count,
+    };
     match kind {
         1 => print_text(output, first)?,
-        2 => print_table(output, first, second)?,
-        3 => print_key(output, first, second, starts, count, &mut key[255 - room..])?,
-        4..=6 => print_edit(input, output, kind, first, second, starts, count)?,
-        7 => print_made(output, first, second, starts)?,
-        8 => print_judged(output, first, second, starts, count)?,
+        2 => print_table(output, first, bytes)?,
+        3 => print_key(output, first, table, &mut key[255 - room..])?,
+        4..=6 => {
+            let memory = &mut b[..b_size];
+            print_edit(input, output, kind, first, memory, &mut list[at..], count)?
+        }
+        7 => print_made(output, first, bytes, &mut list[at..])?,
+        8 => print_judged(output, first, table)?,
         _ => {}
     }
     Ok(kind != 0)

@@ -13,7 +13,7 @@ use Rattle.refusal.specs.declared.Refusal.{Refusal}
 use Rattle.handshake.specs.Series.{Call}
 use Rattle.server.specs.declared.Phase.{Phase}
 use Rattle.server.specs.declared.Connection.{Connection}
-use Rattle.server.specs.declared.Answer.{Answer}
+use Rattle.handshake.specs.declared.Answer.{Answer}
 use Rattle.server.specs.Connection.{Settings, acceptable, started, bad_setting, start_answer}
 use Rattle.server.specs.KeyExchange.{View, view_of}
 use Rattle.saved.specs.Saved.{restored, phase_byte}
@@ -73,7 +73,7 @@ module _ (random hint stand_in : List ℕ) (rule : ℕ) where
   begun (before, starts) =
       let said = codes-apart (Ok 0) (start_call random hint stand_in rule).said starts.told in
       let all = accepted said in
-      (all.0, starts.reads (sym said) ∙ ap (λ (a : Answer). a.next) all.1 ∙ rw all.0)
+      (all.0, starts.reads (sym said) ∙ ap (λ (a : Answer Connection). a.next) all.1 ∙ rw all.0)
 
 -- ---- both halves
 

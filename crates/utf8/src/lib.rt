@@ -8,17 +8,11 @@ ghost use Rattle.utf8.specs.Utf8.{size, row, tail, allowed, character, valid_utf
 fn size(b: u8) -> usize
     ensures { result ≡ size b }
 {
-    let ones = u8::leading_zeros(!b);
-    if ones == 0 {
-        return 1;
+    match b.leading_ones() {
+        0 => 1,
+        ones @ 2..=4 => ones as usize,
+        _ => 0,
     }
-    if ones < 2 {
-        return 0;
-    }
-    if ones > 4 {
-        return 0;
-    }
-    ones as usize
 }
 
 // A byte 10xxxxxx.
@@ -33,19 +27,7 @@ fn tail(b: u8) -> bool
 fn allowed(least: u32, v: u32) -> bool
     ensures { result ≡ allowed least v }
 {
-    if v < least {
-        return false;
-    }
-    if v > 0x10FFFF {
-        return false;
-    }
-    if v < 0xD800 {
-        return true;
-    }
-    if v > 0xDFFF {
-        return true;
-    }
-    false
+    (least..=0x10FFFF).contains(&v) && !(0xD800..=0xDFFF).contains(&v)
 }
 
 // The first byte's part of a character of n bytes: its bits of the character number, and the least number

@@ -6,7 +6,7 @@ use Rattle.record_server.specs.declared.RecordConnection.{RecordConnection}
 use Rattle.record_server.specs.Taking.{Settled, take_call, taken}
 use Rattle.saved_records.specs.Saved.{restored}
 use Rattle.c_interface.specs.Kept.{master_after, blocks_after}
-use Rattle.c_interface.proofs.Keeping.{was-handed, was-kept}
+use Rattle.c_interface.proofs.Keeping.{kept-as, was-handed, was-kept}
 use Rattle.c_interface.proofs.RecordSizes.{data-fits}
 use Rattle.c_interface.proofs.RecordKeeping.{taken-parts, told-accepted, told-refused, took-keeps}
 use Rattle.c_interface.proofs.record_connection.tn_take_record.Goals.{in-Some, in_default, then-is_ok, else-is_ok}
@@ -25,7 +25,7 @@ returns-clause-keeps_record c =
     let a = c.args in
     let v = view_of a.table.now a.starts.now a.count in
     let given = rw c.connection_of.ensures at c.take-taken.ensures.takes.gives in
-    took-keeps v a.connection.now a.received.now a.memory.now a.out.now given c.keep.type_inv c.keep.ensures.value c.keep.ensures.kept_record
+    took-keeps v a.connection.now a.received.now a.memory.now a.out.now given c.keep.type_inv c.keep.ensures.value (kept-as c.save.ensures.value c.save.ensures.result_value c.keep.ensures.kept)
 
 pub returns-clause-takes_record : goal.returns-clause-takes_record
 returns-clause-takes_record c =

@@ -1,11 +1,12 @@
 -- `keytable::list::same_list`: lists of one length are equal where each pair is.
-use Rattle.std.proofs.Common.{rules, ◌≡◌, ◌<◌, ◌∙◌, refl, sym, ap, ℕ, Bool, ◌&&◌, nat_eq, arith, length, List, [], ◌∷◌, take, ◌-◌}
-use Rattle.std.specs.List.{list_all, zip, slice_range}
+use Rattle.std.proofs.Common.{rules, ◌≡◌, ◌<◌, ◌∙◌, refl, sym, ap, ℕ, Bool, ◌&&◌, nat_eq, arith, length, List, [], ◌∷◌}
+use Rattle.std.specs.List.{list_all, zip}
 use borrow.Author.Tests.{tests, le-leb, lt-leb, ne_eqb}
 use Rattle.std.proofs.lemmas.Iterator.{YieldsList-from_slice, YieldsList-from_zip}
 use Rattle.std.proofs.lemmas.Iterator.Search.{all_from_yields_List}
 use Rattle.lists.specs.Lists.{same}
 use Rattle.lists.proofs.Equal.{same_not}
+use Rattle.keytable.proofs.Spots.{front-is}
 use Rattle.keytable.proofs.list.same_list.Goals as goal
 
 abbrev equal : ℕ × ℕ → Bool
@@ -16,10 +17,6 @@ pairs-are [] [] e = refl
 pairs-are [] (y ∷ b) e = absurd (omega arith)
 pairs-are (x ∷ a) [] e = absurd (omega arith)
 pairs-are (x ∷ a) (y ∷ b) e = ap (λ t. nat_eq x y && t) (pairs-are a b (omega arith))
-
--- the first n of s, as the code lends them
-front-is : {front : List ℕ} (s : List ℕ) (n : ℕ) → front ≡ slice_range s 0 n → front ≡ take n s
-front-is s n e = let size : n - 0 ≡ n = omega arith in rw size at e
 
 pub returns-in_default : goal.returns-in_default
 returns-in_default c =

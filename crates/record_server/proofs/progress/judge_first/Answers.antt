@@ -8,7 +8,7 @@ use lib.ListN.{length, take, drop, length-append, length-drop}
 use Rattle.std.specs.Prelude.{Result, Option}
 use Rattle.refusal.specs.declared.Refusal.{Refusal}
 use Rattle.handshake.specs.Header.{early_test}
-use Rattle.server.specs.KeyExchange.{view_of}
+use Rattle.server.specs.KeyExchange.{view}
 use Rattle.server.specs.Message.{awaited}
 use Rattle.records.specs.Joining.{message_end}
 use Rattle.record_server.specs.Connection.{is_complete}
@@ -30,7 +30,7 @@ early kind left header h j e = sym (header-test kind left) ∙ ap (early_test ki
 
 pub returns-then-is_complete : goal.returns-then-is_complete
 returns-then-is_complete c =
-    let v = view_of c.args.table.now c.args.starts.now c.args.count in
+    let v = view c.args.table in
     let bytes = c.args.held.now ++ c.args.content.now in
     let complete = sym c.is_complete.ensures ∙ c.if-is_complete.true in
     let size = left-size c.args.held.now c.args.content.now c.args.p.at in
@@ -40,7 +40,7 @@ returns-then-is_complete c =
 
 pub returns-then-left-lt4 : goal.returns-then-left-lt4
 returns-then-left-lt4 c =
-    let v = view_of c.args.table.now c.args.starts.now c.args.count in
+    let v = view c.args.table in
     let bytes = c.args.held.now ++ c.args.content.now in
     let left = drop c.args.p.at bytes in
     let size = left-size c.args.held.now c.args.content.now c.args.p.at in
@@ -55,7 +55,7 @@ returns-then-left-lt4 c =
 
 pub returns-in-Ok : goal.returns-in-Ok
 returns-in-Ok c =
-    let v = view_of c.args.table.now c.args.starts.now c.args.count in
+    let v = view c.args.table in
     let bytes = c.args.held.now ++ c.args.content.now in
     let left = drop c.args.p.at bytes in
     let size = left-size c.args.held.now c.args.content.now c.args.p.at in
@@ -70,7 +70,7 @@ returns-in-Ok c =
 
 pub returns-in-Err : goal.returns-in-Err
 returns-in-Err c =
-    let v = view_of c.args.table.now c.args.starts.now c.args.count in
+    let v = view c.args.table in
     let bytes = c.args.held.now ++ c.args.content.now in
     let left = drop c.args.p.at bytes in
     let size = left-size c.args.held.now c.args.content.now c.args.p.at in

@@ -5,7 +5,7 @@ use Rattle.keys.specs.declared.Side.TheVariants.{Server}
 use Rattle.keys.specs.Secrets.{finished_of}
 use Rattle.keys.proofs.Lengths.{finished-of-sized}
 use Rattle.server.specs.Finished.{completed}
-use Rattle.server.proofs.Decisions.{same_step}
+use Rattle.handshake.proofs.Decisions.{same_step}
 use Rattle.server.proofs.finished.complete.Goals as goal
 
 pub returns-in-Ok : goal.returns-in-Ok
