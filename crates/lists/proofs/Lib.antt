@@ -1,4 +1,5 @@
 pub mod Copies
+pub mod Joining
 pub mod Distinct
 pub mod Equal
 pub mod Every

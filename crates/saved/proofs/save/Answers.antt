@@ -1,12 +1,13 @@
 -- `saved::save`: the parts, one behind the other, and what they stand for.
-use Rattle.std.proofs.Common.{◌≡◌, ◌∙◌, ap, append-nil, rules}
+use Rattle.std.proofs.Common.{◌≡◌, ◌∙◌, ap, append-nil, rules, arith}
+use Rattle.std.proofs.lemmas.Grind.{common_steps}
 use Rattle.saved.specs.Saved.{saved, restored}
 use Rattle.saved.proofs.Saving.{Fits, restored-saved}
 use Rattle.saved.proofs.save.Goals as goal
 
 whole : (c : goal.After-joined) → c.joined.result ≡ saved c.args.c
 unfolding saved
-whole c = c.joined.ensures ∙ rw (c.head-head.ensures, c.pairs-pairs.ensures, c.save-transcript.ensures.value, append-nil)
+whole c = c.joined.ensures.fills (grind (arith, common_steps)) ∙ rw (c.head-head.ensures, c.pairs-pairs.ensures, c.save-transcript.ensures.value, append-nil)
 
 pub returns-clause-value : goal.returns-clause-value
 returns-clause-value c = whole c

@@ -1,5 +1,6 @@
 -- `saved_records::save`: the parts, one behind the other, and what they stand for.
-use Rattle.std.proofs.Common.{◌≡◌, ◌∙◌, ap, append-nil, rules}
+use Rattle.std.proofs.Common.{◌≡◌, ◌∙◌, ap, append-nil, rules, arith}
+use Rattle.std.proofs.lemmas.Grind.{common_steps}
 use Rattle.endian.specs.Number.{be}
 use Rattle.saved_records.specs.Saved.{saved, restored}
 use Rattle.saved_records.proofs.Saving.{Fits, restored-saved}
@@ -9,7 +10,7 @@ whole : (c : goal.After-joined) → c.joined.result ≡ saved c.args.c
 unfolding saved
 whole c =
     let held : c.to_be_bytes-held.result ≡ be 2 c.args.c.held = search rules in
-    c.joined.ensures ∙ rw (c.save-inner.ensures.value, c.state_bytes-reading.ensures, c.state_bytes-writing.ensures, held, append-nil)
+    c.joined.ensures.fills (grind (arith, common_steps)) ∙ rw (c.save-inner.ensures.value, c.state_bytes-reading.ensures, c.state_bytes-writing.ensures, held, append-nil)
 
 pub returns-clause-value : goal.returns-clause-value
 returns-clause-value c = whole c

@@ -1,5 +1,6 @@
 -- `sha256::saved::save`: the three parts, and what they stand for.
-use Rattle.std.proofs.Common.{◌≡◌, ◌∙◌, ap, rules}
+use Rattle.std.proofs.Common.{◌≡◌, ◌∙◌, ap, rules, arith}
+use Rattle.std.proofs.lemmas.Grind.{common_steps}
 use Rattle.sha256.specs.Hash.{concatenated}
 use Rattle.sha256.specs.Saved.{saved, restored}
 use Rattle.sha256.proofs.Saving.{Fits, restored-saved}
@@ -7,7 +8,7 @@ use Rattle.sha256.proofs.saved.save.Goals as goal
 
 whole : (c : goal.After-joined) → c.joined.result ≡ saved c.args.state
 unfolding saved concatenated
-whole c = c.joined.ensures ∙ rw (c.concatenation-words.ensures, c.bytes-count.ensures)
+whole c = c.joined.ensures.fills (grind (arith, common_steps)) ∙ rw (c.concatenation-words.ensures, c.bytes-count.ensures)
 
 pub returns-clause-value : goal.returns-clause-value
 returns-clause-value c = whole c
