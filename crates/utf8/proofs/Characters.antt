@@ -20,7 +20,7 @@ use Rattle.utf8.specs.Utf8.{size_of, size, row, tail, number, allowed, character
 -- ---- the bytes of one character
 
 -- a character that is cut off is none
-cut_off : (s : List ℕ) (n : ℕ) → n ≡ size (get_or s 0 0) → 0 < length s → length s < n → character (take n s) ≡ false
+pub cut_off : (s : List ℕ) (n : ℕ) → n ≡ size (get_or s 0 0) → 0 < length s → length s < n → character (take n s) ≡ false
 cut_off s n e some h = rw (take_all n s (omega arith)) (short s some (rw e at h))
   where
     short : (s : List ℕ) → 0 < length s → length s < size (get_or s 0 0) → character s ≡ false
@@ -69,7 +69,7 @@ most-more (suc (suc (suc (suc i)))) v b h k l = absurd (omega arith)
 -- ---- a text
 
 -- a character ends within the text
-whole : (s : List ℕ) (n : ℕ) → 0 < length s → n ≡ size (get_or s 0 0) → character (take n s) ≡ true → n ≤ length s
+pub whole : (s : List ℕ) (n : ℕ) → 0 < length s → n ≡ size (get_or s 0 0) → character (take n s) ≡ true → n ≤ length s
 whole s n some e good = elim (dec_le n (length s)) [
   | yes h ↦ h
   | no h ↦ absurd (true≢false (sym good ∙ cut_off s n e some (omega arith)))

@@ -8,7 +8,7 @@ ghost use Rattle.utf8.specs.Utf8.{size, row, tail, allowed, character, valid_utf
 fn size(b: u8) -> usize
     ensures { result ≡ size b }
 {
-    match b.leading_ones() {
+    match (!b).leading_zeros() {
         0 => 1,
         ones @ 2..=4 => ones as usize,
         _ => 0,
