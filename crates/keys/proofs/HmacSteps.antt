@@ -42,7 +42,13 @@ long-key key block h e = rw (e, drop-replicate 64 (length (digest key)) 0, lt-le
 
 -- the number of a finished hash, 0 where it is refused
 abbrev pub Counts : Sha256 → Result Reported Refusal → ℕ → Type 0
-Counts s given n = IfOk given (λ r. (r.blocks ≡ compressed s) × (r.blocks ≤ 2 ^ 55 + 1)) × MatchResult given (λ r. n ≡ r.blocks) (λ _. n ≡ 0)
+Counts s given n = IfOk given (λ r. r.blocks ≡ compressed s) × MatchResult given (λ r. n ≡ r.blocks) (λ _. n ≡ 0)
+
+-- from what `finish_counted` promises, whose bound on the number is not asked for
+pub counts-of : (s : Sha256) (given : Result Reported Refusal) (n : ℕ) → IfOk given (λ r. (r.blocks ≡ compressed s) × (r.blocks ≤ 2 ^ 55 + 1))
+    → MatchResult given (λ r. n ≡ r.blocks) (λ _. n ≡ 0) → Counts s given n
+counts-of s (Ok r) n promised told = (promised.0, told)
+counts-of s (Err r) n promised told = (promised, told)
 
 module _ (s : Sha256) (m : List ℕ) {out out' : List ℕ} (given : Result Reported Refusal) (e : s ≡ absorb fresh m) (h : length m ≤ limit)
     (answered : Answers (finished s) out (said given) out') where
@@ -57,7 +63,7 @@ module _ (s : Sha256) (m : List ℕ) {out out' : List ℕ} (given : Result Repor
       of-given given told counts ∙ compressed-absorbed s m e h
     where
       of-given : (g : Result Reported Refusal) {k : ℕ} → said g ≡ Ok k → Counts s g n → n ≡ compressed s
-      of-given (Ok r) f c = c.1 ∙ c.0.0
+      of-given (Ok r) f c = c.1 ∙ c.0
       of-given (Err r) f c = cc
 
 -- a key that fits a block does without its digest

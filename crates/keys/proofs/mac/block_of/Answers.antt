@@ -3,7 +3,7 @@ use Rattle.std.proofs.Common.{rules, ◌≡◌, ◌∙◌, arith}
 use Rattle.refusal.proofs.Laws.{answer-in-front}
 use Rattle.sha256.specs.State.{absorb, fresh}
 use Rattle.sha256.proofs.Finish.{length-digest, finished-within}
-use Rattle.keys.proofs.HmacSteps.{short-key, long-key, counted_of, short-blocks, long-blocks}
+use Rattle.keys.proofs.HmacSteps.{short-key, long-key, counts-of, counted_of, short-blocks, long-blocks}
 use Rattle.keys.proofs.mac.block_of.Goals as goal
 
 pub returns-then-key-le64-clause-bytes_value : goal.returns-then-key-le64-clause-bytes_value
@@ -19,5 +19,5 @@ returns-clause-bytes_value c =
     let absorbed : s ≡ absorb fresh key = c.update.ensures ∙ rw c.new.ensures in
     let hashed = rw (finished-within s key absorbed c.requires) at c.finish_counted-done.ensures.answers in (
       long-key key c.finish_counted-done.new.out long (answer-in-front hashed (rw (length-digest key) (omega arith))),
-      counted_of s key c.finish_counted-done.result absorbed c.requires c.finish_counted-done.ensures.answers (omega arith) (c.finish_counted-done.ensures.blocks_value, search rules) ∙ long-blocks key long,
+      counted_of s key c.finish_counted-done.result absorbed c.requires c.finish_counted-done.ensures.answers (omega arith) (counts-of s c.finish_counted-done.result _ c.finish_counted-done.ensures.blocks_value (search rules)) ∙ long-blocks key long,
     )
