@@ -15,12 +15,14 @@ pub fn text(output: &mut impl Write, bytes: &[u8]) -> io::Result<usize>
     Ok(bytes.len())
 }
 
-// Two digits for each byte; answers how many bytes there are.
+// Two digits for each byte; answers how many bytes there are. Both digits go out in one write: a `write!` of `{b:02x}` makes
+// two of a byte below 16, and an output without a buffer hands each to the system.
 pub fn hex(output: &mut impl Write, bytes: &[u8]) -> io::Result<usize>
     ensures { IfOk result (λ n. n ≡ length bytes.now) }
 {
-    for b in bytes {
-        write!(output, "{b:02x}")?;
+    let digits = b"0123456789abcdef";
+    for &b in bytes {
+        output.write_all(&[digits[usize::from(b / 16)], digits[usize::from(b % 16)]])?;
     }
     Ok(bytes.len())
 }
