@@ -26,7 +26,7 @@ use Rattle.hellos.specs.ClientHello.{client_block, client_methods, client_suites
 use Rattle.hellos.specs.ClientHello.{client_fields, read_client_hello}
 use Rattle.layout.proofs.Layouts.{valid-within, valid-parts}
 use Rattle.layout.proofs.Headers.{header-message, header_read}
-use Rattle.layout.proofs.Places.{part-there, ruled-there, vector-at, part-written}
+use Rattle.layout.proofs.Places.{part-there, ruled-there, ruled-inside, vector-at, part-written}
 use Rattle.hellos.proofs.Hellos.{front-written, front_read, front-rules, length-body, block_written, block_read}
 
 -- ---- where the parts stand
@@ -81,6 +81,29 @@ module _ (m : List ℕ) (Holds : Option Client → Type 0) (refused : Holds None
       go : (v : Result Unit Refusal) → header client_hello_type m ≡ v → Holds (client_header m v)
       go (Ok tt) a = by_parts (read a)
       go (Err r) a = refused
+
+-- the random, which ends at 38, the k bytes of suites from s on and the j bytes of methods from t on lie inside the message
+abbrev pub Inside : List ℕ → ℕ → ℕ → ℕ → ℕ → Type 0
+Inside m s k t j = (38 ≤ length m) × (s + k ≤ length m) × (t + j ≤ length m)
+
+pub parts-inside : (m : List ℕ) (v n s k t j : ℕ) (b : Option Part) → client_body m ≡ client_at v n s k t j b → Inside m s k t j
+parts-inside m v n s k t j b = by_parts m (λ p. p ≡ client_at v n s k t j b → Inside m s k t j) unread inside
+  where
+    unread : None ≡ client_at v n s k t j b → Inside m s k t j
+    unread e = absurd (none-some _ e)
+
+    inside : (x n₀ s₀ k₀ t₀ j₀ : ℕ) (b₀ : Option Part) → Parts m x n₀ s₀ k₀ t₀ j₀ b₀
+        → client_at (number (take 2 (drop 4 m))) n₀ s₀ k₀ t₀ j₀ b₀ ≡ client_at v n s k t j b → Inside m s k t j
+    inside x n₀ s₀ k₀ t₀ j₀ b₀ p e =
+        let first = ruled-inside (λ i. leb i 32) 1 m 38 x n₀ p.session in
+        let second = ruled-inside suites_length 2 m (x + n₀) s₀ k₀ p.suites in
+        let third = ruled-inside methods_length 1 m (s₀ + k₀) t₀ j₀ p.methods in
+        let same = same_Some _ _ e in
+        let suites-at : s₀ ≡ s = ap (λ (c : Client). c.suites.start) same in
+        let suites-size : k₀ ≡ k = ap (λ (c : Client). c.suites.len) same in
+        let methods-at : t₀ ≡ t = ap (λ (c : Client). c.methods.start) same in
+        let methods-size : j₀ ≡ j = ap (λ (c : Client). c.methods.len) same in
+        (omega (arith, first), omega (arith, second, suites-at, suites-size), omega (arith, third, methods-at, methods-size))
 
 -- ---- valid fields
 

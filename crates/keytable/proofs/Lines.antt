@@ -3,10 +3,11 @@
 use mathlib.Core.Path.{◌≡◌, refl, sym, ap, ap₂, ◌∙◌}
 use Prim.Native.Nat.{ℕ, suc, ◌+◌, ◌-◌, ◌≤◌, ◌<◌}
 use native.Mathlib.Omega.{arith}
+use native.Mathlib.Numerals.{add-one}
 use mathlib.Core.Bool.{Bool, true, false}
 use mathlib.Core.List.{List, [], ◌∷◌}
 use lib.ListN.{length, take, drop, get_or, length-drop, drop_of_length-le}
-use lib.Seq.{drop-drop}
+use lib.Seq.{drop-drop, drop-cons}
 use lib.Dec.{eqb}
 use Rattle.lists.specs.Lists.{part}
 use Rattle.keytable.specs.Table.{line_end, before, lines, upto, ended}
@@ -26,6 +27,18 @@ length-upto x s = (upto-parts x s).0
 
 pub take-upto : (x : ℕ) (s : List ℕ) → take (length (upto x s)) s ≡ upto x s
 take-upto x s = (upto-parts x s).1
+
+-- ---- where the search for a byte stands
+
+pub upto-step : (x : ℕ) (s : List ℕ) (i : ℕ) → i < length s → eqb (get_or s i 0) x ≡ false
+    → length (upto x (drop i s)) ≡ length (upto x (drop (i + 1) s)) + 1
+upto-step x s i h other = rw (add-one i, drop-cons s i 0 h, other) (omega arith)
+
+pub upto-found : (x : ℕ) (s : List ℕ) (i : ℕ) → i < length s → eqb (get_or s i 0) x ≡ true → length (upto x (drop i s)) ≡ 0
+upto-found x s i h same = rw (drop-cons s i 0 h, same)
+
+pub upto-none : (x : ℕ) (s : List ℕ) (i : ℕ) → length s ≤ i → length (upto x (drop i s)) ≡ 0
+upto-none x s i h = rw (drop_of_length-le s h)
 
 -- ---- lines
 

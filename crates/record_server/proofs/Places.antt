@@ -5,10 +5,10 @@ use Prim.Native.Nat.{ℕ, ◌+◌, ◌-◌, ◌≤◌}
 use native.Mathlib.Omega.{arith}
 use mathlib.Core.Bool.{Bool, true, false, cond}
 use mathlib.Core.List.{List, [], ◌∷◌, ◌++◌}
-use lib.ListN.{length, get_or, take, drop, length-append}
-use lib.Seq.{take-take, take-append-add, drop-append-add, take_at}
-use lib.Dec.{leb, eqb}
-use borrow.Author.Tests.{leb-true}
+use lib.ListN.{length, get_or, take, drop, length-append, length-drop}
+use lib.Seq.{take-take, take-append-le, drop-append-le, take-append-add, drop-append-add, take_at}
+use lib.Dec.{ltb, leb, eqb}
+use borrow.Author.Tests.{ltb-true, ltb-false, leb-true}
 use Rattle.std.specs.Prelude.{Result, Ok, Err, Option, None, Some}
 use Rattle.refusal.specs.declared.Refusal.{Refusal}
 use Rattle.lists.specs.Lists.{part}
@@ -17,7 +17,7 @@ use Rattle.layout.specs.Types.{message_limit}
 use borrow.Rule.Slice.PartMut.{put_mid}
 use Rattle.layout.proofs.Puts.{front, copy-in-front, put-behind}
 use Rattle.handshake.specs.Header.{early_test}
-use Rattle.records.specs.Joining.{message_end}
+use Rattle.records.specs.Joining.{message_end, unfinished}
 
 -- the four bytes of the header say it
 pub header-end : (l : List ℕ) → message_end (take 4 l) ≡ message_end l
@@ -39,6 +39,19 @@ within-limit (Some kind) l e = go (eqb (get_or l 0 0) kind) (leb (message_end l)
     go true true h e = leb-true _ _ h
     go true false h e = let z : ◌≡◌ {A = ℕ} 0 1 = cc in absurd (omega arith)
     go false small h e = let z : ◌≡◌ {A = ℕ} 0 1 = cc in absurd (omega arith)
+
+-- what is held ends before the message does
+pub held-before-end : (held content : List ℕ) (at size : ℕ) → unfinished held ≡ true → size ≡ message_end (drop at (held ++ content)) → at ≡ 0
+    → length held ≤ size
+held-before-end held content at size e told first = rw (told, first) (go (ltb (length held) 4) refl)
+  where
+    go : (t : Bool) → ltb (length held) 4 ≡ t → length held ≤ message_end (held ++ content)
+    go true h = omega (arith, ltb-true (length held) 4 h)
+    go false h =
+        let some : 4 ≤ length held = omega (arith, ltb-false (length held) 4 h) in
+        let rest : 3 ≤ length (drop 1 held) = simp length-drop (omega arith) in
+        rw (drop-append-le 1 held content (omega arith), take-append-le 3 (drop 1 held) content rest)
+        (omega (arith, ltb-true (length held) (message_end held) (rw h at e)))
 
 -- ---- a message's place in what is held and the content behind it
 

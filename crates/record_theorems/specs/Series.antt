@@ -65,7 +65,7 @@ answers v k (x ∷ xs) = seen (call v k x) ∷ answers v (call v k x).kept xs
 
 -- ---- what came
 
--- Err to the host with a number other than R4. Such a call counts as not come.
+-- Refused to the host with a number other than R4. Such a call counts as not come.
 abbrev pub refused_to_host : Result ℕ Refusal → Bool
 refused_to_host (Ok n) = false
 refused_to_host (Err r) = not (to_peer r) && not (eqb (number_of r) 4)
